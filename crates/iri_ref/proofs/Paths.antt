@@ -1,0 +1,75 @@
+-- Paths before and after their last slash.
+use Rattle.std.proofs.Common.{◌≡◌, ℕ, zero, suc, ◌+◌, ◌-◌, ◌<◌, ◌≤◌, Bool, true, false, not, ◌||◌, cond, List, [], ◌∷◌, ◌++◌, length, get_or, take, refl, sym, ap, subst, ◌∙◌, arith, length-append}
+use Rattle.std.specs.Prelude.{IsTrue, IsUtf8}
+use Rattle.std.specs.List.{list_all, list_any, before_last, suffix_len}
+use Rattle.std.proofs.lemmas.List.{get_or_at, get_or-append_right, take_at, take-append-le}
+use Rattle.std.proofs.lemmas.List.Sums.{suffix_len_is}
+use Rattle.iri_ref.specs.Characters.{slash, is_slash, Lacks}
+use Rattle.iri_ref.specs.Resolution.{up_to_last_slash}
+use Rattle.iri_ref.proofs.Texts.{and_left, and_right}
+
+not_true : (b : Bool) → IsTrue (not b) → b ≡ false
+not_true true h = absurd cc
+not_true false h = refl
+
+-- each read of a text that lacks the mark
+pub reads_lack : (test : ℕ → Bool) (xs : List ℕ) → Lacks test xs → (k : ℕ) → k < length xs → test (get_or xs k 0) ≡ false
+reads_lack test [] h k lt = absurd (omega arith)
+reads_lack test (x ∷ xs) h zero lt = not_true (test x) (and_left _ (list_all (λ c. not (test c)) xs) h)
+reads_lack test (x ∷ xs) h (suc k) lt = reads_lack test xs (and_right (not (test x)) _ h) k (omega arith)
+
+pub front_at : (path : List ℕ) (end : ℕ) → end < length path → get_or path end 0 ≡ slash → ((k : ℕ) → end < k → k < length path → is_slash (get_or path k 0) ≡ false) → take end path ≡ before_last is_slash path
+front_at path end lt here behind =
+    let len : suffix_len (λ c. not (is_slash c)) path ≡ length path - (end + 1) =
+    suffix_len_is (λ c. not (is_slash c)) path (end + 1) 0 (omega arith) (λ k le k_lt. ap not (behind k (omega arith) k_lt))
+    (λ pos. subst (λ (k : ℕ). not (is_slash (get_or path k 0)) ≡ false) (let e : end ≡ end + 1 - 1 = omega arith in e) (ap (λ (c : ℕ). not (is_slash c)) here)) in
+    let same : end ≡ length path - suffix_len (λ c. not (is_slash c)) path - 1 = omega arith in
+    ap (λ (n : ℕ). take n path) same
+
+pub no_front : (path : List ℕ) → ((k : ℕ) → k < length path → is_slash (get_or path k 0) ≡ false) → before_last is_slash path ≡ []
+no_front path lacks =
+    let len : suffix_len (λ c. not (is_slash c)) path ≡ length path - 0 =
+    suffix_len_is (λ c. not (is_slash c)) path 0 0 (omega arith) (λ k le k_lt. ap not (lacks k k_lt)) (λ pos. absurd (omega arith)) in
+    let same : length path - suffix_len (λ c. not (is_slash c)) path - 1 ≡ 0 = omega arith in
+    ap (λ (n : ℕ). take n path) same
+
+pub before_last_cut : (front rest : List ℕ) → Lacks is_slash rest → before_last is_slash (front ++ slash ∷ rest) ≡ front
+before_last_cut front rest h =
+    let whole = front ++ slash ∷ rest in
+    let len : length whole ≡ length front + suc (length rest) = length-append front (slash ∷ rest) in
+    sym (front_at whole (length front) (omega arith) (get_or_at front slash rest 0 (length front) refl)
+    (λ k after below.
+    let step : get_or whole k 0 ≡ get_or (slash ∷ rest) (k - length front) 0 = get_or-append_right front (slash ∷ rest) (length front) k 0 refl (omega arith) in
+    let next : k - length front ≡ suc (k - length front - 1) = omega arith in
+    ap is_slash (step ∙ ap (λ (i : ℕ). get_or (slash ∷ rest) i 0) next) ∙ reads_lack is_slash rest h (k - length front - 1) (omega arith)))
+    ∙ take_at front (slash ∷ rest) (length front) refl
+
+pub before_last_lacking : (path : List ℕ) → Lacks is_slash path → before_last is_slash path ≡ []
+before_last_lacking path h = no_front path (reads_lack is_slash path h)
+
+or_right : (a b : Bool) → b ≡ true → (a || b) ≡ true
+or_right true b h = refl
+or_right false b h = h
+
+none_of : (test : ℕ → Bool) (xs : List ℕ) → Lacks test xs → list_any test xs ≡ false
+none_of test [] h = refl
+none_of test (x ∷ xs) h = rw (not_true (test x) (and_left _ (list_all (λ c. not (test c)) xs) h)) (none_of test xs (and_right (not (test x)) _ h))
+
+-- a text that holds a slash further on
+has_slash : (front rest : List ℕ) → list_any is_slash (front ++ slash ∷ rest) ≡ true
+has_slash [] rest = refl
+has_slash (c ∷ front) rest = or_right (is_slash c) _ (has_slash front rest)
+
+pub up_to_lacking : (path : List ℕ) → Lacks is_slash path → up_to_last_slash path ≡ []
+up_to_lacking [] h = refl
+up_to_lacking (c ∷ cs) h = ap (λ (b : Bool). cond b (c ∷ up_to_last_slash cs) []) (none_of is_slash (c ∷ cs) h)
+
+pub up_to_cut : (front rest : List ℕ) → Lacks is_slash rest → up_to_last_slash (front ++ slash ∷ rest) ≡ front ++ slash ∷ []
+up_to_cut [] rest h = ap (λ (t : List ℕ). slash ∷ t) (up_to_lacking rest h)
+up_to_cut (c ∷ front) rest h =
+    ap (λ (b : Bool). cond b (c ∷ up_to_last_slash (front ++ slash ∷ rest)) []) (has_slash (c ∷ front) rest)
+    ∙ ap (λ (t : List ℕ). c ∷ t) (up_to_cut front rest h)
+
+-- what is written behind a place leaves what stands before it
+pub text_before : (bytes more : List ℕ) (start : ℕ) → start ≤ length bytes → IsUtf8 (take start bytes) → IsUtf8 (take start (bytes ++ more))
+text_before bytes more start le h = subst IsUtf8 (sym (take-append-le start bytes more le)) h

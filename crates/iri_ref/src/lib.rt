@@ -1,0 +1,14 @@
+//! Internationalized references: absolute IRIs, and references resolved against them by RFC 3986, section 5.2.
+#![tactic(auto)]
+
+mod characters;
+mod components;
+mod iri;
+pub mod laws;
+mod target;
+mod writer;
+
+pub use iri::{Iri, IriFault, resolve};
+
+#[cfg(test)]
+mod tests;

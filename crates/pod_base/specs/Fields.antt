@@ -1,0 +1,7 @@
+use Rattle.std.specs.Prelude.{Bool, List, ℕ}
+use Rattle.std.specs.Str.{str_eq_ignore_ascii_case}
+use Rattle.pod_base.specs.declared.field.Field.{Field}
+
+-- whether that is the field's name, whatever the case of the letters of ASCII
+abbrev pub is_named : List ℕ → Field → Bool
+is_named name field = str_eq_ignore_ascii_case field.name name

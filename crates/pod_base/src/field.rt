@@ -1,0 +1,107 @@
+ghost use Rattle.std.specs.Prelude.{◌≡◌, ◌++◌, ◌∷◌, [], IfOk, OnOk, OnErr, find, count_by};
+ghost use Rattle.std.specs.Option.{option_copied, option_map};
+ghost use Rattle.pod_base.specs.Fields.{is_named};
+
+use crate::bytes::Bytes;
+use crate::list::List;
+use crate::memory::{Mem, NoMemory};
+use crate::text::Text;
+use std::alloc::Global;
+use std::marker::Model;
+
+/// One field of a message.
+#[derive(Debug, Drop)]
+pub struct Field {
+    pub name: Text,
+    pub value: Bytes,
+}
+
+impl Field {
+    /// Whether that is the field's name, in any case.
+    pub fn is_named(&self, name: &str) -> bool
+        ensures { result ≡ is_named name.now self.now }
+    {
+        self.name.as_str().eq_ignore_ascii_case(name)
+    }
+
+    /// An equal field.
+    pub fn copy(&self, alloc: Global) -> Mem<Field>
+        ensures { IfOk result (λ copy. copy ≡ self.now) }
+    {
+        let name = self.name.copy(alloc)?;
+        let value = self.value.copy(alloc)?;
+        Ok(Field { name, value })
+    }
+}
+
+/// The fields of a message, in order. Contracts see their list. Names are compared in any case.
+#[derive(Debug, Drop)]
+pub struct Fields {
+    pub list: List<Field>,
+}
+
+impl Model for Fields {
+    ghost use Rattle.std.specs.Prelude.{List};
+    ghost use Rattle.pod_base.specs.declared.field.Field.{Field};
+
+    ghost Value = { List Field };
+
+    ghost view = { λ f. f.list.items };
+}
+
+impl Fields {
+    /// No fields.
+    pub fn new(alloc: Global) -> Fields
+        ensures { result ≡ [] }
+    {
+        Fields {
+            list: List::new(alloc),
+        }
+    }
+
+    /// Appends a field. For want of memory nothing changes.
+    pub fn add(&mut self, alloc: Global, field: Field) -> Mem<()>
+        ensures added { OnOk result (self.new ≡ self.old ++ field ∷ []) }
+        ensures unchanged { OnErr result (self.new ≡ self.old) }
+    {
+        match self.list.push(alloc, field) {
+            Ok(()) => Ok(()),
+            Err(_field) => Err(NoMemory),
+        }
+    }
+
+    /// The value of the first field of that name.
+    pub fn first(&self, name: &str) -> Option<&Bytes>
+        ensures { option_copied result ≡ option_map (λ f. f.value) (find (is_named name.now) self.now) }
+    {
+        let field = self
+            .list
+            .as_slice()
+            .iter()
+            .find(|field| field.is_named(name))?;
+        Some(&field.value)
+    }
+
+    /// How many fields have that name.
+    pub fn count(&self, name: &str) -> usize
+        ensures { result ≡ count_by (is_named name.now) self.now }
+    {
+        self.list
+            .as_slice()
+            .iter()
+            .filter(|field| field.is_named(name))
+            .count()
+    }
+
+    /// Equal fields.
+    pub fn copy(&self, alloc: Global) -> Mem<Fields>
+        ensures { IfOk result (λ copy. copy ≡ self.now) }
+    {
+        let mut copy = Fields::new(alloc);
+        for field in self.list.as_slice() {
+            let field = field.copy(alloc)?;
+            copy.add(alloc, field)?;
+        }
+        Ok(copy)
+    }
+}

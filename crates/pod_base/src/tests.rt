@@ -1,0 +1,89 @@
+use super::*;
+use std::alloc::Global;
+use std::test::Fail;
+
+fn host(alloc: Global) -> Mem<Field> {
+    let name = Text::of(alloc, "Host")?;
+    let value = Bytes::of(alloc, b"pod.example")?;
+    Ok(Field { name, value })
+}
+
+fn put(alloc: Global) -> Mem<Request> {
+    let target = Bytes::of(alloc, b"/hello")?;
+    let mut fields = Fields::new(alloc);
+    let field = host(alloc)?;
+    fields.add(alloc, field)?;
+    let body = Bytes::of(alloc, b"hello")?;
+    Ok(Request {
+        method: Method::Put,
+        target,
+        minor: 1,
+        fields,
+        body,
+    })
+}
+
+#[test]
+fn a_list_takes_and_gives_items(rt: HostRuntime) -> Result<(), Fail> {
+    let alloc = rt.alloc();
+    let mut list = List::new(alloc);
+    list.reserve(alloc, 1)?;
+    for item in 0..100u8 {
+        assert!(rt; list.push(alloc, item).is_ok());
+    }
+    assert_eq!(rt; list.pop(), Some(99));
+    assert_eq!(rt; list.len(), 99);
+    if let Some(first) = list.as_mut_slice().first_mut() {
+        *first = 7;
+    }
+    let items = list.into_vec();
+    assert_eq!(rt; items.first(), Some(&7));
+    assert_eq!(rt; List::from_vec(items).is_empty(), false);
+    Ok(())
+}
+
+#[test]
+fn text_and_bytes_are_copied(rt: HostRuntime) -> Result<(), Fail> {
+    let alloc = rt.alloc();
+    let text = Text::of(alloc, "grüße")?.copy(alloc)?;
+    assert_eq!(rt; text.as_str(), "grüße");
+    let mut bytes = Bytes::of(alloc, b"he")?.copy(alloc)?;
+    bytes.append(alloc, b"llo")?;
+    assert_eq!(rt; bytes.as_slice(), b"hello".as_slice());
+    let Agent::Known(iri) = Agent::Known(text).copy(alloc)? else {
+        return Err(Fail::from("an agent became public"));
+    };
+    assert_eq!(rt; iri.as_str(), "grüße");
+    Ok(())
+}
+
+#[test]
+fn a_request_is_copied_and_its_fields_are_found(rt: HostRuntime) -> Result<(), Fail> {
+    let alloc = rt.alloc();
+    let request = put(alloc)?.copy(alloc)?;
+    assert_eq!(rt; request.method, Method::Put);
+    assert_eq!(rt; request.target.as_slice(), b"/hello".as_slice());
+    assert_eq!(rt; request.body.as_slice(), b"hello".as_slice());
+    for (name, count) in [("host", 1), ("HOST", 1), ("hos", 0), ("", 0)] {
+        assert_eq!(rt; request.fields.count(name), count, "at {name}");
+        assert_eq!(rt;
+            request.fields.first(name).is_some(),
+            count == 1,
+            "at {name}"
+        );
+    }
+    Ok(())
+}
+
+#[test]
+fn a_moment_ends_with_the_year_9999(rt: HostRuntime) {
+    for (seconds, moment) in [
+        (0, 0),
+        (784_111_777, 784_111_777),
+        (253_402_300_799, 253_402_300_799),
+        (253_402_300_800, 253_402_300_799),
+        (u64::MAX, 253_402_300_799),
+    ] {
+        assert_eq!(rt; moment_of(seconds), Moment(moment));
+    }
+}

@@ -1,0 +1,71 @@
+ghost use Rattle.std.specs.Prelude.{◌≡◌, ◌<◌, ◌≤◌, ◌↔◌, Some, length, IsErr, IfOk};
+ghost use Rattle.pod_io.specs.Counts.{Counts};
+ghost use Rattle.pod_io.specs.Told.{IfTold, IsRead, Consumes};
+ghost use Rattle.pod_io.specs.Memory.{NextFails};
+
+use crate::calls::Calls;
+use crate::source::{Failed, Source};
+use std::marker::Model;
+
+/// A source in memory, which tells what is still to be read.
+#[derive(Debug, Drop)]
+pub struct MemSource {
+    bytes: Vec<u8>,
+    at: usize,
+    piece: usize,
+    calls: Calls,
+}
+
+impl Model for MemSource {
+    ghost use Rattle.std.specs.Prelude.{drop, length, ◌≤◌, ◌<◌};
+    ghost use Rattle.pod_io.specs.Memory.{Reading};
+
+    ghost Value = { Reading };
+
+    ghost view = { λ s. record { rest = drop s.at s.bytes.items; piece = s.piece; calls = s.calls } };
+
+    ghost invariant = { λ s. (s.at ≤ length s.bytes.items) × (0 < s.piece) };
+}
+
+impl MemSource {
+    /// A source of these bytes, of which a read gives at most `piece` at a time. The reads of these
+    /// numbers, from 1, fail, and no others do.
+    pub fn new(bytes: Vec<u8>, piece: usize, failing: Vec<u64>) -> MemSource
+        requires { 0 < piece }
+        ensures rest { result.rest ≡ bytes.items }
+        ensures made { result.calls.made ≡ 0 }
+        ensures failing { result.calls.failing ≡ failing.items }
+        ensures faults { result.calls.faults ≡ 0 }
+    {
+        MemSource {
+            bytes,
+            at: 0,
+            piece,
+            calls: Calls::new(failing),
+        }
+    }
+}
+
+impl Source for MemSource {
+    ghost rest = { λ s. Some s.rest };
+
+    ghost faults = { λ s. s.calls.faults };
+
+    fn read(&mut self, into: &mut [u8]) -> Result<usize, Failed>
+        requires { 0 < length into.old }
+        ensures len { IfOk result (λ count. count ≤ length into.old) }
+        ensures bytes { IfOk result (λ count. IfTold (Some self.old.rest) (λ rest. IsRead rest count into.old into.new)) }
+        ensures rest { Consumes result (Some self.old.rest) (Some self.new.rest) }
+        ensures faults { Counts result self.old.calls.faults self.new.calls.faults }
+        ensures fails { IsErr result ↔ NextFails self.old.calls }
+    {
+        if self.calls.next_fails() {
+            return Err(Failed);
+        }
+        let rest = &self.bytes[self.at..];
+        let count = rest.len().min(into.len()).min(self.piece);
+        into[..count].copy_from_slice(&rest[..count]);
+        self.at += count;
+        Ok(count)
+    }
+}

@@ -1,0 +1,10 @@
+pub mod Pieces
+pub mod Measure
+pub mod Escaping
+pub mod Names
+pub mod ReadAgain
+pub mod Ends
+pub mod Places
+pub mod Around
+pub mod Above
+pub mod Subjects

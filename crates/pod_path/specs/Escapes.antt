@@ -1,0 +1,45 @@
+-- Escapes of a path: % and two hexadecimal digits.
+use Rattle.std.specs.Prelude.{◌≡◌, ℕ, ◌+◌, ◌-◌, ◌*◌, Bool, ◌&&◌, ◌||◌, ◌==◌, nat_le, if◌then◌else◌, List, [], ◌∷◌, ◌++◌, Option, Some, None}
+use Rattle.pod_path.specs.declared.fault.PathFault.{PathFault}
+use Rattle.pod_path.specs.declared.fault.PathFault.TheVariants.{BadEscape, NotNormal, Reserved, TooLong, TooDeep, NoMemory}
+use Rattle.pod_path.specs.Characters.{percent, is_between, is_unreserved}
+
+abbrev pub is_hex : ℕ → Bool
+is_hex c = is_between 48 c 57 || (is_between 65 c 70 || is_between 97 c 102)
+
+abbrev pub hex_value : ℕ → ℕ
+hex_value c = if nat_le 97 c then c - 87 else (if nat_le 65 c then c - 55 else c - 48)
+
+-- the digit, in upper case
+abbrev pub upper : ℕ → ℕ
+upper c = if nat_le 97 c then c - 32 else c
+
+-- The character where it needs no escape, else the escape with upper-case digits.
+abbrev pub normal_escape : ℕ → ℕ → List ℕ
+normal_escape high low =
+    let byte = 16 * hex_value high + hex_value low in
+    if is_unreserved byte then byte ∷ [] else percent ∷ upper high ∷ upper low ∷ []
+
+-- What stands before a text, where there is one.
+abbrev pub before : List ℕ → Option (List ℕ) → Option (List ℕ)
+before front None = None
+before front (Some text) = Some (front ++ text)
+
+-- The text with each escape in its normal form; none where a % stands without two digits.
+abbrev pub unescaped : List ℕ → Option (List ℕ)
+unescaped [] = Some []
+unescaped (c ∷ []) = if c == percent then None else Some (c ∷ [])
+unescaped (c ∷ d ∷ []) = if c == percent then None else before (c ∷ []) (unescaped (d ∷ []))
+unescaped (c ∷ high ∷ low ∷ rest) =
+    if c == percent
+    then (if is_hex high && is_hex low then before (normal_escape high low) (unescaped rest) else None)
+    else before (c ∷ []) (unescaped (high ∷ low ∷ rest))
+
+-- The fault says that an escape is bad, or that memory ran out.
+abbrev pub FailsEscape : PathFault → Option (List ℕ) → Type 0
+FailsEscape BadEscape read = read ≡ None
+FailsEscape NoMemory read = Unit {0}
+FailsEscape NotNormal read = ⊥
+FailsEscape Reserved read = ⊥
+FailsEscape TooLong read = ⊥
+FailsEscape TooDeep read = ⊥

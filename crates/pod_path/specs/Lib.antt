@@ -1,0 +1,4 @@
+pub mod Characters
+pub mod Escapes
+pub mod Norm
+pub mod Places

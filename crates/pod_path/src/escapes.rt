@@ -1,0 +1,105 @@
+//! Escapes in their normal form.
+
+ghost use Rattle.std.specs.Prelude.{◌≡◌, ◌++◌, ◌∷◌, [], ◌+◌, ◌*◌, ◌<◌, IsTrue, IfSome, IfNone, OnOk, IfOk, IfErr, is_some, Some, None, length};
+ghost use Rattle.std.specs.List.{before_first, position};
+ghost use Rattle.pod_path.specs.Characters.{percent, is_unreserved, is_question_mark};
+ghost use Rattle.pod_path.specs.Escapes.{is_hex, hex_value, upper, normal_escape, before, unescaped, FailsEscape};
+
+use crate::fault::PathFault;
+use std::alloc::{AllocError, Global};
+
+/// The value of a hexadecimal digit.
+fn hex_value(b: u8) -> Option<u8>
+    ensures is { is_some result ≡ is_hex b }
+    ensures value { IfSome result (λ value. value ≡ hex_value b) }
+    ensures small { IfSome result (λ value. value < 16) }
+{
+    match b {
+        b'0'..=b'9' => Some(b - b'0'),
+        b'A'..=b'F' => Some(b - b'A' + 10),
+        b'a'..=b'f' => Some(b - b'a' + 10),
+        _ => None,
+    }
+}
+
+/// A hexadecimal digit in upper case.
+fn upper(b: u8) -> u8
+    ensures { IsTrue (is_hex b) → result ≡ upper b }
+{
+    b.to_ascii_uppercase()
+}
+
+/// Whether a character needs no escape anywhere.
+fn is_unreserved(b: u8) -> bool
+    ensures { result ≡ is_unreserved b }
+{
+    matches!(b, b'a'..=b'z' | b'A'..=b'Z' | b'0'..=b'9' | b'-' | b'.' | b'_' | b'~')
+}
+
+/// Writes an escape of this byte in its normal form.
+fn push_escape(text: &mut Vec<u8>, byte: u8, high: u8, low: u8) -> Result<(), AllocError>
+    requires high_digit { IsTrue (is_hex high) }
+    requires low_digit { IsTrue (is_hex low) }
+    requires value { byte ≡ 16 * hex_value high + hex_value low }
+    ensures { OnOk result (text.new.items ≡ text.old.items ++ normal_escape high low) }
+{
+    if is_unreserved(byte) {
+        text.push(byte)?;
+    } else {
+        text.push(b'%')?;
+        text.push(upper(high))?;
+        text.push(upper(low))?;
+    }
+    Ok(())
+}
+
+/// Writes the escape whose digits begin a text, and gives what follows them.
+fn push_first_escape<'a>(bytes: &mut Vec<u8>, digits: &'a [u8]) -> Result<&'a [u8], PathFault>
+    ensures text { IfOk result (λ rest. before bytes.old.items (unescaped (percent ∷ digits.entry.now)) ≡ before bytes.new.items (unescaped rest.now)) }
+    ensures shorter { IfOk result (λ rest. length rest.now < length digits.entry.now) }
+    ensures fault { IfErr result (λ fault. FailsEscape fault (unescaped (percent ∷ digits.entry.now))) }
+{
+    let [high, low, rest @ ..] = digits else {
+        return Err(PathFault::BadEscape);
+    };
+    let (Some(high_value), Some(low_value)) = (hex_value(*high), hex_value(*low)) else {
+        return Err(PathFault::BadEscape);
+    };
+    push_escape(bytes, 16 * high_value + low_value, *high, *low)?;
+    Ok(rest)
+}
+
+/// Where the query of a target begins.
+fn query_start(target: &[u8]) -> Option<usize>
+    ensures { result ≡ position is_question_mark target.now }
+{
+    target.iter().position(|b| *b == b'?')
+}
+
+/// The target before its query.
+pub(crate) fn before_query(target: &[u8]) -> &[u8]
+    ensures { result.now ≡ before_first is_question_mark target.now }
+{
+    match query_start(target) {
+        Some(at) => &target[..at],
+        None => target,
+    }
+}
+
+/// A text with its escapes in their normal form.
+pub(crate) fn unescaped(alloc: Global, text: &[u8]) -> Result<Vec<u8>, PathFault>
+    ensures text { IfOk result (λ bytes. unescaped text.now ≡ Some bytes.items) }
+    ensures fault { IfErr result (λ fault. FailsEscape fault (unescaped text.now)) }
+{
+    let mut bytes = Vec::with_capacity(alloc, text.len())?;
+    let mut rest = text;
+    while let [first, after @ ..] = rest {
+        if *first != b'%' {
+            bytes.push(*first)?;
+            rest = after;
+        } else {
+            rest = push_first_escape(&mut bytes, after)?;
+        }
+    }
+    Ok(bytes)
+}

@@ -1,0 +1,40 @@
+//! Why a text is no path.
+
+ghost use Rattle.std.specs.Prelude.{◌≡◌};
+ghost use Rattle.pod_path.specs.declared.fault.PathFault.TheVariants.{NoMemory};
+
+use std::alloc::{AllocError, AllocFailed};
+
+/// Why a text is no path: the first step of reading that fails.
+#[derive(Clone, Copy, Debug, PartialEq, Eq)]
+pub enum PathFault {
+    /// A `%` without two hexadecimal digits.
+    BadEscape,
+    /// A first character that isn't `/`, a character that no path has, an empty segment before the last slash, or
+    /// a segment `.` or `..`.
+    NotNormal,
+    /// A name of an auxiliary before the last slash, or the name of an auxiliary of what can have none.
+    Reserved,
+    /// More than 1,024 bytes.
+    TooLong,
+    /// More than 32 segments.
+    TooDeep,
+    /// Memory ran out.
+    NoMemory,
+}
+
+impl From<AllocError> for PathFault {
+    ghost from_gives = { λ _ fault. fault ≡ NoMemory };
+
+    fn from(_: AllocError) -> PathFault {
+        PathFault::NoMemory
+    }
+}
+
+impl<T: Drop> From<AllocFailed<T>> for PathFault {
+    ghost from_gives = { λ _ fault. fault ≡ NoMemory };
+
+    fn from(_: AllocFailed<T>) -> PathFault {
+        PathFault::NoMemory
+    }
+}

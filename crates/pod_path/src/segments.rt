@@ -1,0 +1,118 @@
+//! What the segments of a path are worth.
+
+ghost use Rattle.std.specs.Prelude.{◌≡◌, ◌||◌, nat_eq, IfOk, IfErr, Ok, Err, length};
+ghost use Rattle.std.specs.List.{ends_with, list_all};
+ghost use Rattle.iri_ref.specs.Segments.{segments, is_dots};
+ghost use Rattle.pod_path.specs.Characters.{is_unreserved, is_path_character};
+ghost use Rattle.pod_path.specs.Norm.{is_empty, is_auxiliary_name, has_reserved_end, is_of_dots, is_reserved_name, are_normal, are_reserved, measure_of};
+
+use crate::fault::PathFault;
+
+fn is_dots(segment: &str) -> bool
+    ensures { result ≡ is_dots segment.now }
+{
+    segment == "." || segment == ".."
+}
+
+/// Whether a text ends with this one.
+pub(crate) fn ends_with(text: &str, end: &str) -> bool
+    ensures { result ≡ ends_with nat_eq text.now end.now }
+{
+    text.ends_with(end)
+}
+
+/// Whether a segment is the name of an ACL or of a description.
+pub(crate) fn is_auxiliary_name(segment: &str) -> bool
+    ensures { result ≡ is_auxiliary_name segment.now }
+{
+    ends_with(segment, ".acl") || ends_with(segment, ".meta")
+}
+
+fn has_reserved_end(segment: &str) -> bool
+    ensures { result ≡ has_reserved_end segment.now }
+{
+    ends_with(segment, ".acl.acl")
+        || ends_with(segment, ".meta.acl")
+        || ends_with(segment, ".acl.meta")
+        || ends_with(segment, ".meta.meta")
+}
+
+fn is_of_dots(segment: &str) -> bool
+    ensures { result ≡ is_of_dots segment.now }
+{
+    segment == "..acl" || segment == "...acl" || segment == "..meta" || segment == "...meta"
+}
+
+/// Whether a segment is the name of an auxiliary of what can have none.
+fn is_reserved_name(segment: &str) -> bool
+    ensures { result ≡ is_reserved_name segment.now }
+{
+    has_reserved_end(segment) || is_of_dots(segment)
+}
+
+fn is_path_character(b: u8) -> bool
+    ensures { result ≡ is_path_character b }
+{
+    matches!(
+        b,
+        b'a'..=b'z'
+            | b'A'..=b'Z'
+            | b'0'..=b'9'
+            | b'-'
+            | b'.'
+            | b'_'
+            | b'~'
+            | b'!'
+            | b'$'
+            | b'&'..=b','
+            | b';'
+            | b'='
+            | b':'
+            | b'@'
+            | b'/'
+            | b'%'
+    )
+}
+
+fn is_empty_or_dots(segment: &str) -> bool
+    ensures { result ≡ (is_empty segment.now || is_dots segment.now) }
+{
+    segment.is_empty() || is_dots(segment)
+}
+
+fn is_either(a: bool, b: bool) -> bool
+    ensures { result ≡ (a || b) }
+{
+    a || b
+}
+
+/// How many segments stand in a text behind a path's first slash, or why they stand in no path.
+pub(crate) fn measure(path: &str) -> Result<usize, PathFault>
+    ensures { result ≡ measure_of (segments path.now) }
+{
+    let mut rest = path;
+    let mut count = 1;
+    let mut reserved = false;
+    while let Some((segment, after)) = rest.split_once('/') {
+        if is_empty_or_dots(segment) {
+            return Err(PathFault::NotNormal);
+        }
+        reserved = is_either(reserved, is_auxiliary_name(segment));
+        count += 1;
+        rest = after;
+    }
+    if is_dots(rest) {
+        return Err(PathFault::NotNormal);
+    }
+    if is_either(reserved, is_reserved_name(rest)) {
+        return Err(PathFault::Reserved);
+    }
+    Ok(count)
+}
+
+/// Whether each byte may stand in a path.
+pub(crate) fn are_path_characters(bytes: &[u8]) -> bool
+    ensures { result ≡ list_all is_path_character bytes.now }
+{
+    bytes.iter().all(|&b| is_path_character(b))
+}

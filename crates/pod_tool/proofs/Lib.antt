@@ -1,0 +1,12 @@
+pub mod DigitsLemmas
+pub mod EndingsLemmas
+pub mod EndsLemmas
+pub mod JudgedLemmas
+pub mod PipesLemmas
+pub mod ProgressLemmas
+pub mod ReadingLemmas
+pub mod ReadsLemmas
+pub mod RepliesLemmas
+pub mod RunLemmas
+pub mod SessionLemmas
+pub mod WritesLemmas

@@ -1,0 +1,13 @@
+pub mod Built
+pub mod Collected
+pub mod Ends
+pub mod Fresh
+pub mod Messages
+pub mod Nexts
+pub mod Output
+pub mod Served
+pub mod Session
+pub mod Statuses
+pub mod Turns
+pub mod Verdicts
+pub mod Words

@@ -1,0 +1,42 @@
+//! The count of openings that were refused.
+ghost use Rattle.std.specs.Prelude.{◌≡◌};
+ghost use Rattle.published_view.specs.Looking.{Rose};
+
+use std::marker::Model;
+
+/// The count of openings that `left_right` refused. It stands still at its last value.
+#[derive(Drop)]
+pub struct Places {
+    refused: u64,
+}
+
+impl Model for Places {
+    ghost use Rattle.std.specs.Prelude.{ℕ};
+
+    ghost Value = { ℕ };
+
+    ghost view = { λ p. p.refused };
+}
+
+impl Places {
+    /// A count at 0.
+    pub fn new() -> Places
+        ensures { result ≡ 0 }
+    {
+        Places { refused: 0 }
+    }
+
+    /// How many openings were refused.
+    pub fn refused(&self) -> u64
+        ensures { result ≡ self.now }
+    {
+        self.refused
+    }
+
+    /// Counts a refusal.
+    pub(crate) fn refuse(&mut self)
+        ensures { Rose self.old self.new }
+    {
+        self.refused = self.refused.saturating_add(1);
+    }
+}

@@ -1,0 +1,14 @@
+pub mod Bindings
+pub mod Exact
+pub mod Fronts
+pub mod Graphs
+pub mod Grouping
+pub mod Legible
+pub mod Members
+pub mod Merging
+pub mod Patching
+pub mod Solving
+pub mod Sorted
+pub mod Spans
+pub mod Telling
+pub mod Texts

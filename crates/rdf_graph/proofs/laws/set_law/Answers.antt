@@ -1,0 +1,6 @@
+use Rattle.rdf_graph.proofs.Graphs.{one_graph}
+use Rattle.rdf_graph.proofs.Legible.{text_tells}
+use Rattle.rdf_graph.proofs.laws.set_law.Goals as goal
+
+pub returns : goal.returns
+returns c = record { sets = one_graph; texts = text_tells }

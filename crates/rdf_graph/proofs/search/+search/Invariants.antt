@@ -1,0 +1,18 @@
+use Rattle.std.proofs.Common.{◌≡◌, Bool, List, take, length, set, true, ◌≤◌}
+use Rattle.std.specs.Prelude.{map}
+use Rattle.rdf_graph.specs.Search.{Tells, pairs_of}
+use Rattle.rdf_graph.proofs.Telling.{Upto, untaken}
+use Rattle.rdf_graph.proofs.search.+search.Given as goal
+
+-- the conditions that are left
+abbrev pub decreases-search : goal.decreases-search
+decreases-search l = untaken l.taken.now
+
+-- what there is with the triples so far
+abbrev pub invariant-loop-triple : goal.invariant-loop-triple
+invariant-loop-triple l =
+    record {
+      tells : Tells l.triples (map (λ c. c.now) l.conditions) (Upto (pairs_of l.initial.bound.items) l.condition (take l.triple-index l.triple-items)) l.found;
+      taken : l.taken ≡ l.initial.taken;
+      bound : l.bound.items ≡ l.initial.bound.items;
+    }

@@ -1,0 +1,38 @@
+use Rattle.std.proofs.Common.{◌≡◌, ◌∙◌, ◌≤◌, List, ap, sym, subst, length, map, arith}
+use Rattle.rdf_graph.specs.Search.{Everything, Tells}
+use Rattle.rdf_graph.specs.Solutions.{AreSolutions}
+use Rattle.rdf_graph.specs.declared.pattern.Found.TheVariants.{Nothing, One}
+use Rattle.rdf_graph.proofs.Solving.{below, with_label, tells_before, tells_more, tells_after, none_in_group, one_of_none, solutions_from}
+use Rattle.rdf_graph.proofs.solve.solutions.Goals as goal
+
+pub loop-label-init : goal.loop-label-init
+loop-label-init c =
+    tells_before c.args.graph.now c.as_slice-conditions.result.now c.in_ok-labels.labels.items c.in_ok-labels.ensures.groups (One (record { pairs = c.new.result }))
+    (one_of_none c.args.graph.now c.new.result.items c.new.ensures.items)
+
+pub returns-then-is_nothing : goal.returns-then-is_nothing
+returns-then-is_nothing c =
+    let part : Tells c.args.graph.now (with_label c.as_slice-conditions.result.now c.in_ok-labels.labels.items c.loop-label.label) Everything c.in_ok-more.more =
+    subst (λ ps. Tells c.args.graph.now ps Everything c.in_ok-more.more)
+    (ap (map (λ r. r.now)) c.as_slice-in-loop-label-2.ensures.value ∙ c.in_ok-group.ensures ∙ ap (λ labels. with_label c.as_slice-conditions.result.now labels c.loop-label.label) c.as_slice.ensures.value)
+    (subst (λ g. Tells g (map (λ r. r.now) c.as_slice-in-loop-label-2.result.now) Everything c.in_ok-more.more) c.as_slice-in-loop-label.ensures.triples c.in_ok-more.ensures) in
+    subst (λ conditions. AreSolutions c.args.graph.now conditions Nothing) c.as_slice-conditions.ensures
+    (none_in_group c.args.graph.now c.as_slice-conditions.result.now c.in_ok-labels.labels.items c.in_ok-labels.ensures.groups c.loop-label.label
+    (subst (Tells c.args.graph.now (with_label c.as_slice-conditions.result.now c.in_ok-labels.labels.items c.loop-label.label) Everything) (c.is_nothing.ensures.0 c.if-is_nothing.true) part))
+
+pub loop-label-preserved : goal.loop-label-preserved
+loop-label-preserved c =
+    let part : Tells c.args.graph.now (with_label c.as_slice-conditions.result.now c.in_ok-labels.labels.items c.loop-label.label) Everything c.in_ok-more.more =
+    subst (λ ps. Tells c.args.graph.now ps Everything c.in_ok-more.more)
+    (ap (map (λ r. r.now)) c.as_slice-in-loop-label-2.ensures.value ∙ c.in_ok-group.ensures ∙ ap (λ labels. with_label c.as_slice-conditions.result.now labels c.loop-label.label) c.as_slice.ensures.value)
+    (subst (λ g. Tells g (map (λ r. r.now) c.as_slice-in-loop-label-2.result.now) Everything c.in_ok-more.more) c.as_slice-in-loop-label.ensures.triples c.in_ok-more.ensures) in
+    tells_more c.args.graph.now c.as_slice-conditions.result.now c.in_ok-labels.labels.items c.in_ok-labels.ensures.groups c.loop-label.label c.loop-label.found c.in_ok-more.more c.in_ok-found.found
+    c.in_ok-found.ensures c.loop-label.invariant part
+
+pub returns : goal.returns
+returns c =
+    let end : c.loop-label.label ≡ length c.as_slice-conditions.result.now = omega arith in
+    subst (λ conditions. AreSolutions c.args.graph.now conditions c.loop-label.found) c.as_slice-conditions.ensures
+    (solutions_from c.args.graph.now c.as_slice-conditions.result.now c.loop-label.found
+    (tells_after c.args.graph.now c.as_slice-conditions.result.now c.in_ok-labels.labels.items c.in_ok-labels.ensures.groups c.in_ok-labels.ensures.long c.in_ok-labels.ensures.small c.loop-label.found
+    (subst (λ n. Tells c.args.graph.now (below c.as_slice-conditions.result.now c.in_ok-labels.labels.items n) Everything c.loop-label.found) end c.loop-label.invariant)))

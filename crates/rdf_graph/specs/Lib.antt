@@ -1,0 +1,16 @@
+pub mod Change
+pub mod Graph
+pub mod Groups
+pub mod Laws
+pub mod Line
+pub mod Patch
+pub mod Pattern
+pub mod Place
+pub mod Search
+pub mod Solutions
+pub mod Span
+pub mod Term
+pub mod TermLaws
+pub mod Triple
+pub mod TripleLaws
+pub mod Written

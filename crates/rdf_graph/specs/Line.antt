@@ -1,0 +1,18 @@
+-- The bytes of a line that are still to come.
+use Rattle.std.specs.Prelude.{ℕ, List, [], ◌++◌, codes}
+use Rattle.rdf_graph.specs.Term.{text}
+use Rattle.rdf_graph.specs.Written.{written_rest}
+use Rattle.rdf_graph.specs.declared.line.Line.{Line}
+use Rattle.rdf_graph.specs.declared.line.Then.{Then}
+use Rattle.rdf_graph.specs.declared.line.Then.TheVariants.{Predicate, Object, Stop, Space, Nothing}
+
+-- what stands behind the term that is being written
+abbrev pub then_rest : Then → List ℕ
+then_rest (Predicate t) = codes " " ++ (text t.now.p ++ (codes " " ++ (text t.now.o ++ codes " .\n")))
+then_rest (Object t) = codes " " ++ (text t.now.o ++ codes " .\n")
+then_rest Stop = codes " .\n"
+then_rest Space = codes " "
+then_rest Nothing = []
+
+abbrev pub line_rest : Line → List ℕ
+line_rest l = written_rest l.now ++ then_rest l.then

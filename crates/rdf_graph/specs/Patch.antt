@@ -1,0 +1,83 @@
+-- What a patch means (Solid Protocol, N3 Patch).
+use Rattle.std.specs.Prelude.{ℕ, List, ◌≡◌, ◌↔◌, ◌⊎◌, Contains, IsSome}
+use Rattle.rdf_graph.specs.Pattern.{Binding, HasVariable, value_of, Instantiates, IsSolution, IsVariableOf, SameBinding}
+use Rattle.rdf_graph.specs.Solutions.{AreTwoSolutions}
+use Rattle.rdf_graph.specs.Triple.{IsRdf}
+use Rattle.rdf_graph.specs.declared.change.Change.{Change}
+use Rattle.rdf_graph.specs.declared.patch.Patch.{Patch}
+use Rattle.rdf_graph.specs.declared.patch.PatchFault.{PatchFault}
+use Rattle.rdf_graph.specs.declared.patch.PatchFault.TheVariants.{NoMatch, ManyMatches, MissingDeletion, NotTriple, NoMemory}
+use Rattle.rdf_graph.specs.declared.pattern.Pattern.{Pattern}
+use Rattle.rdf_graph.specs.declared.pattern.Slot.{Slot}
+use Rattle.rdf_graph.specs.declared.pattern.Slot.TheVariants.{Var}
+use Rattle.rdf_graph.specs.declared.term.Term.{Term}
+use Rattle.rdf_graph.specs.declared.triple.Triple.{Triple}
+
+-- each variable of deletions and insertions is one of the conditions
+abbrev pub IsBound : Patch → Type 0
+IsBound patch =
+    (name : List ℕ) → IsVariableOf patch.deletions.items name ⊎ IsVariableOf patch.insertions.items name → IsVariableOf patch.conditions.items name
+
+-- the one solution of the conditions
+pub record IsTheSolution (g : List Triple) (conditions : List Pattern) (m : Binding) : Type 0 where
+  pub solution : IsSolution g conditions m
+  pub only : (n : Binding) → IsSolution g conditions n → SameBinding n m
+
+-- the mapping makes one of the patterns this triple
+abbrev pub IsInstance : Binding → List Pattern → Triple → Type 0
+IsInstance m patterns t = (pattern : Pattern) × Contains patterns pattern × Instantiates m pattern t
+
+-- the triples are what the mapping makes of the patterns
+abbrev pub AreInstances : Binding → List Pattern → List Triple → Type 0
+AreInstances m patterns triples = (x : Triple) → Contains triples x ↔ IsInstance m patterns x
+
+-- what the patch changes in g
+pub record IsChangeOf (g : List Triple) (patch : Patch) (change : Change) : Type 0 where
+  pub mapping : Binding
+  pub only : IsTheSolution g patch.conditions.items mapping
+  pub removed : AreInstances mapping patch.deletions.items change.removed
+  pub added : AreInstances mapping patch.insertions.items change.added
+  pub in_graph : (x : Triple) → IsInstance mapping patch.deletions.items x → Contains g x
+  pub rdf : (x : Triple) → IsInstance mapping patch.insertions.items x → IsRdf x
+
+-- a deletion that isn't in g
+pub record LacksDeletion (g : List Triple) (patch : Patch) : Type 0 where
+  pub mapping : Binding
+  pub only : IsTheSolution g patch.conditions.items mapping
+  pub missing : Triple
+  pub is_deletion : IsInstance mapping patch.deletions.items missing
+  pub absent : Contains g missing → ⊥
+
+-- all deletions are in g, and an insertion is no triple of RDF
+pub record HasNoTriple (g : List Triple) (patch : Patch) : Type 0 where
+  pub mapping : Binding
+  pub only : IsTheSolution g patch.conditions.items mapping
+  pub in_graph : (x : Triple) → IsInstance mapping patch.deletions.items x → Contains g x
+  pub wrong : Triple
+  pub is_insertion : IsInstance mapping patch.insertions.items wrong
+  pub no_triple : IsRdf wrong → ⊥
+
+-- why the patch can't be carried out in g
+abbrev pub IsFaultOf : List Triple → Patch → PatchFault → Type 0
+IsFaultOf g patch NoMatch = (m : Binding) → IsSolution g patch.conditions.items m → ⊥
+IsFaultOf g patch ManyMatches = AreTwoSolutions g patch.conditions.items
+IsFaultOf g patch MissingDeletion = LacksDeletion g patch
+IsFaultOf g patch NotTriple = HasNoTriple g patch
+IsFaultOf g patch NoMemory = Unit {0}
+
+-- the pairs have a term for the variable in the slot, for those of the pattern, for those of the patterns
+abbrev pub IsKnownIn : List (List ℕ × Term) → Slot → Type 0
+IsKnownIn pairs slot = (name : List ℕ) → slot ≡ Var name → IsSome (value_of pairs name)
+
+abbrev pub IsKnown : List (List ℕ × Term) → Pattern → Type 0
+IsKnown pairs pattern = (name : List ℕ) → HasVariable pattern name → IsSome (value_of pairs name)
+
+abbrev pub AreKnown : List (List ℕ × Term) → List Pattern → Type 0
+AreKnown pairs patterns = (name : List ℕ) → IsVariableOf patterns name → IsSome (value_of pairs name)
+
+-- each variable of the slot, and of the patterns, is one of the conditions
+abbrev pub IsBoundIn : Slot → List Pattern → Type 0
+IsBoundIn slot conditions = (name : List ℕ) → slot ≡ Var name → IsVariableOf conditions name
+
+abbrev pub AllBound : List Pattern → List Pattern → Type 0
+AllBound patterns conditions = (name : List ℕ) → IsVariableOf patterns name → IsVariableOf conditions name

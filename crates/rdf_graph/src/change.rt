@@ -1,0 +1,98 @@
+//! Changes of graphs.
+ghost use Rattle.std.specs.Prelude.{◌≡◌, ◌↔◌, ◌⊎◌, ◌<◌, IfOk, IsTrue, Some, length, slice_get};
+ghost use Rattle.std.specs.Bool.{OnTrue, OnFalse};
+ghost use Rattle.rdf_graph.specs.Change.{IsChanged};
+ghost use Rattle.rdf_graph.specs.Place.{ComesFirst};
+ghost use Rattle.rdf_graph.specs.Graph.{IsOrdered};
+
+use crate::graph::Graph;
+use crate::triple::Triple;
+use pod_base::Mem;
+use std::alloc::Global;
+
+/// What a patch takes out of a graph, and what it puts in.
+#[derive(Debug, Drop)]
+pub struct Change {
+    pub removed: Graph,
+    pub added: Graph,
+}
+
+impl Change {
+    /// An equal change.
+    pub fn copy(&self, alloc: Global) -> Mem<Change>
+        ensures { IfOk result (λ copy. copy ≡ self.now) }
+    {
+        let removed = self.removed.copy(alloc)?;
+        let added = self.added.copy(alloc)?;
+        Ok(Change { removed, added })
+    }
+}
+
+/// The graph that a change makes of this one: what is removed goes first, and what is added comes then.
+pub fn changed(alloc: Global, graph: &Graph, change: &Change) -> Mem<Graph>
+    ensures { IfOk result (IsChanged graph.now change.now.removed change.now.added) }
+{
+    let (removed, added) = (change.removed.as_slice(), change.added.as_slice());
+    let triples = merge(alloc, graph.as_slice(), removed, added)?;
+    Ok(Graph::in_order(triples))
+}
+
+/// The old triples without the removed ones, and the added ones, in one pass over the three.
+fn merge(alloc: Global, old: &[Triple], removed: &[Triple], added: &[Triple]) -> Mem<Vec<Triple>>
+    requires old { IsOrdered old.now }
+    requires removed { IsOrdered removed.now }
+    requires added { IsOrdered added.now }
+    ensures members { IfOk result (λ new. IsChanged old.now removed.now added.now new.items) }
+    ensures ordered { IfOk result (λ new. IsOrdered new.items) }
+{
+    let mut new = Vec::with_capacity(alloc, old.len())?;
+    let (mut i, mut j, mut k) = (0, 0, 0);
+    while i < old.len() || k < added.len() {
+        if comes_first(added, k, old, i) {
+            let copy = added[k].copy(alloc)?;
+            new.push(copy)?;
+            k += 1;
+        } else if comes_first(removed, j, old, i) {
+            j += 1;
+        } else {
+            if !is_at_either(removed, j, added, k, &old[i]) {
+                let copy = old[i].copy(alloc)?;
+                new.push(copy)?;
+            }
+            i += 1;
+        }
+    }
+    Ok(new)
+}
+
+/// Whether the first list has a triple at its place, and it stands before what the second has from
+/// its place on.
+fn comes_first(first: &[Triple], k: usize, second: &[Triple], i: usize) -> bool
+    requires { IsOrdered second.now }
+    ensures first { IsTrue result ↔ ComesFirst first.now k second.now i }
+    ensures within { OnTrue result (k < length first.now) }
+    ensures spent { OnFalse result (k < length first.now → i < length second.now) }
+{
+    match (first.get(k), second.get(i)) {
+        (None, _) => false,
+        (Some(_), None) => true,
+        (Some(y), Some(x)) => y.cmp(x).is_lt(),
+    }
+}
+
+/// Whether one of the lists has the triple at its place.
+fn is_at_either(removed: &[Triple], j: usize, added: &[Triple], k: usize, triple: &Triple) -> bool
+    ensures { IsTrue result ↔ ((slice_get removed.now j ≡ Some triple.now) ⊎ (slice_get added.now k ≡ Some triple.now)) }
+{
+    is_at(removed, j, triple) || is_at(added, k, triple)
+}
+
+/// Whether the triple at that place, if there is one, is this.
+fn is_at(triples: &[Triple], place: usize, triple: &Triple) -> bool
+    ensures { IsTrue result ↔ (slice_get triples.now place ≡ Some triple.now) }
+{
+    match triples.get(place) {
+        None => false,
+        Some(found) => found == triple,
+    }
+}

@@ -1,0 +1,157 @@
+//! Graphs: sets of triples, kept in the order of their lines.
+ghost use Rattle.std.specs.Prelude.{◌≡◌, ◌==◌, ◌<◌, ◌↔◌, [], length, All, Contains, IsTrue, IfOk, OnOk, OnErr, MatchBool, MatchResult, Some, slice_get};
+ghost use Rattle.rdf_graph.specs.Triple.{IsRdf};
+ghost use Rattle.rdf_graph.specs.Graph.{IsGraph, IsOrdered, SameSet, SetWith, SetWithout};
+ghost use Rattle.rdf_graph.specs.Place.{IsGap};
+
+use crate::triple::Triple;
+use pod_base::{List, Mem};
+use std::alloc::Global;
+use std::marker::Model;
+
+/// A graph of RDF 1.1: a set of triples.
+///
+/// Contracts see its triples in strict byte order of their lines. The list and the set say the same:
+/// two graphs with the same triples are equal.
+#[derive(Debug, Drop)]
+pub struct Graph {
+    triples: Vec<Triple>,
+}
+
+impl Model for Graph {
+    ghost use Rattle.std.specs.Prelude.{List};
+    ghost use Rattle.rdf_graph.specs.declared.triple.Triple.{Triple};
+    ghost use Rattle.rdf_graph.specs.Graph.{IsGraph};
+
+    ghost Value = { List Triple };
+
+    ghost view = { λ g. g.triples.items };
+
+    ghost invariant = { λ g. IsGraph g.triples.items };
+}
+
+impl Graph {
+    /// The empty graph, which grows by `alloc`.
+    pub fn new(alloc: Global) -> Graph
+        ensures { result ≡ [] }
+    {
+        Graph {
+            triples: Vec::new(alloc),
+        }
+    }
+
+    /// The graph of these triples, which may stand in any order and more than once.
+    pub fn of(triples: List<Triple>) -> Graph
+        requires { All IsRdf triples.items }
+        ensures members { SameSet result triples.items }
+    {
+        let mut triples = triples.into_vec();
+        triples.sort_unstable();
+        triples.dedup();
+        Graph { triples }
+    }
+
+    /// The graph of triples that stand in its order.
+    pub(crate) fn in_order(triples: Vec<Triple>) -> Graph
+        requires { IsGraph triples.items }
+        ensures { result ≡ triples.items }
+    {
+        Graph { triples }
+    }
+
+    /// How many triples it has.
+    pub fn len(&self) -> usize
+        ensures { result ≡ length self.now }
+    {
+        self.triples.len()
+    }
+
+    /// Whether it has none.
+    pub fn is_empty(&self) -> bool
+        ensures { result ≡ (length self.now == 0) }
+    {
+        self.triples.is_empty()
+    }
+
+    /// The triple at that place of the order.
+    pub fn at(&self, i: usize) -> &Triple
+        requires { i < length self.now }
+        ensures { slice_get self.now i ≡ Some result.now }
+    {
+        &self.triples[i]
+    }
+
+    /// Its triples, in strict byte order of their lines.
+    pub fn as_slice(&self) -> &[Triple]
+        ensures triples { result.now ≡ self.now }
+        ensures graph { IsGraph result.now }
+    {
+        self.triples.as_slice()
+    }
+
+    /// An equal graph.
+    pub fn copy(&self, alloc: Global) -> Mem<Graph>
+        ensures { IfOk result (λ copy. copy ≡ self.now) }
+    {
+        let triples = copy_triples(alloc, self.triples.as_slice())?;
+        Ok(Graph { triples })
+    }
+
+    /// Whether it has the triple.
+    pub fn contains(&self, triple: &Triple) -> bool
+        ensures found { IsTrue result ↔ Contains self.now triple.now }
+        ensures rdf { IsTrue result → IsRdf triple.now }
+    {
+        place(self.triples.as_slice(), triple).is_ok()
+    }
+
+    /// Puts a triple in, and tells whether it is new.
+    pub fn insert(&mut self, _alloc: Global, triple: Triple) -> Mem<bool>
+        requires { IsRdf triple }
+        ensures told { IfOk result (λ new. MatchBool new (Contains self.old triple → ⊥) (Contains self.old triple)) }
+        ensures members { OnOk result (SetWith self.old triple self.new) }
+        ensures err { OnErr result (self.new ≡ self.old) }
+    {
+        match place(self.triples.as_slice(), &triple) {
+            Ok(_) => Ok(false),
+            Err(at) => {
+                self.triples.insert(at, triple)?;
+                Ok(true)
+            }
+        }
+    }
+
+    /// Takes a triple out, and tells whether it was there.
+    pub fn remove(&mut self, triple: &Triple) -> bool
+        ensures told { IsTrue result ↔ Contains self.old triple.now }
+        ensures members { SetWithout self.old triple.now self.new }
+    {
+        match place(self.triples.as_slice(), triple) {
+            Ok(at) => {
+                let _ = self.triples.remove(at);
+                true
+            }
+            Err(_) => false,
+        }
+    }
+}
+
+/// Copies of the triples.
+fn copy_triples(alloc: Global, triples: &[Triple]) -> Mem<Vec<Triple>>
+    ensures { IfOk result (λ copies. copies.items ≡ triples.now) }
+{
+    let mut copies = Vec::with_capacity(alloc, triples.len())?;
+    for triple in triples {
+        let copy = triple.copy(alloc)?;
+        copies.push(copy)?;
+    }
+    Ok(copies)
+}
+
+/// Where the triple stands, or else where it would.
+fn place(triples: &[Triple], triple: &Triple) -> Result<usize, usize>
+    requires { IsOrdered triples.now }
+    ensures found { MatchResult result (λ i. slice_get triples.now i ≡ Some triple.now) (λ i. IsGap triples.now i triple.now) }
+{
+    triples.binary_search(triple)
+}

@@ -1,0 +1,30 @@
+//! Terms and triples of RDF, graphs as sets of triples with one text, and what a patch means.
+#![tactic(auto)]
+
+mod bind;
+mod bound;
+mod change;
+mod graph;
+mod groups;
+mod laws;
+mod line;
+mod matching;
+mod order;
+mod patch;
+mod pattern;
+mod search;
+mod solve;
+mod term;
+#[cfg(test)]
+mod tests;
+mod triple;
+
+pub use change::{Change, changed};
+pub use graph::Graph;
+pub use laws::{change_law, order_law, set_law};
+pub use line::Line;
+pub use patch::{Patch, PatchFault, instantiate};
+pub use pattern::{Found, Mapping, Pattern, Slot};
+pub use solve::solutions;
+pub use term::{Term, Written};
+pub use triple::Triple;

@@ -1,0 +1,127 @@
+//! The search for mappings under which conditions are triples of a graph.
+ghost use Rattle.std.specs.Prelude.{◌≡◌, ◌<◌, All, IfOk, IfSome, IfNone, OnOk, IsTrue, ◌↔◌, Some, false, true, length, map, slice_get};
+ghost use Rattle.rdf_graph.specs.Graph.{IsOrdered};
+ghost use Rattle.rdf_graph.specs.Pattern.{Extends};
+ghost use Rattle.rdf_graph.specs.Search.{IsPartial, Tells, either, pairs_of};
+ghost use Rattle.rdf_graph.specs.Span.{IsSpan};
+ghost use Rattle.rdf_graph.specs.Pattern.{slot_term, value_of};
+ghost use Rattle.rdf_graph.specs.declared.pattern.Found.TheVariants.{Many};
+
+use crate::bound::{Bound, extend, mapping_of, slot_term};
+use crate::matching::{has_terms, span};
+use crate::pattern::{Found, Pattern};
+use crate::triple::Triple;
+use pod_base::Mem;
+use std::alloc::Global;
+
+impl Found {
+    /// Two findings among mappings that differ.
+    fn either(self, other: Found) -> Found
+        ensures { result ≡ either self other }
+    {
+        match (self, other) {
+            (Found::Nothing, found) | (found, Found::Nothing) => found,
+            _ => Found::Many,
+        }
+    }
+
+    /// Whether more than one was found.
+    fn is_many(&self) -> bool
+        ensures { IsTrue result ↔ (self.now ≡ Many) }
+    {
+        matches!(self, Found::Many)
+    }
+}
+
+/// What there is among the mappings that have the pairs: each condition that isn't taken is tried in
+/// turn, the one with the fewest matches first, and the second mapping ends the search.
+///
+/// After an `Err` nothing is known of what was lent.
+pub(crate) fn search<'a>(
+    alloc: Global,
+    triples: &'a [Triple],
+    conditions: &[&'a Pattern],
+    taken: &mut [bool],
+    bound: &mut Vec<Bound<'a>>,
+) -> Mem<Found>
+    requires ordered { IsOrdered triples.now }
+    requires flags { length taken.old ≡ length conditions.now }
+    requires partial { IsPartial triples.now (map (λ c. c.now) conditions.now) taken.old (pairs_of bound.old.items) }
+    ensures taken { OnOk result (taken.new ≡ taken.old) }
+    ensures bound { OnOk result (bound.new.items ≡ bound.old.items) }
+    ensures tells { IfOk result (Tells triples.now (map (λ c. c.now) conditions.now) (Extends (pairs_of bound.old.items))) }
+{
+    let Some(next) = next_condition(triples, conditions, taken, bound.as_slice()) else {
+        return Ok(Found::One(mapping_of(alloc, bound.as_slice())?));
+    };
+    taken[next] = true;
+    let before = bound.len();
+    let condition = conditions[next];
+    let mut found = Found::Nothing;
+    for triple in candidates(triples, bound.as_slice(), condition) {
+        if extend(bound, condition, triple)? {
+            let more = search(alloc, triples, conditions, taken, bound)?;
+            found = found.either(more);
+        }
+        bound.truncate(before);
+        if found.is_many() {
+            taken[next] = false;
+            return Ok(found);
+        }
+    }
+    taken[next] = false;
+    Ok(found)
+}
+
+/// The triples among which those stand that the condition can be.
+fn candidates<'a>(
+    triples: &'a [Triple],
+    bound: &[Bound<'a>],
+    condition: &'a Pattern,
+) -> &'a [Triple]
+    requires { IsOrdered triples.now }
+    ensures { IsSpan (slot_term (value_of (pairs_of bound.now)) condition.now.s) triples.now result.now }
+{
+    span(triples, slot_term(bound, &condition.s))
+}
+
+/// The condition with the fewest matches among those that aren't taken, if there are any.
+fn next_condition<'a>(
+    triples: &'a [Triple],
+    conditions: &[&'a Pattern],
+    taken: &[bool],
+    bound: &[Bound<'a>],
+) -> Option<usize>
+    requires ordered { IsOrdered triples.now }
+    requires flags { length taken.now ≡ length conditions.now }
+    ensures some { IfSome result (λ i. slice_get taken.now i ≡ Some false) }
+    ensures within { IfSome result (λ i. i < length taken.now) }
+    ensures none { IfNone result (All (λ is_taken. is_taken ≡ true) taken.now) }
+{
+    let mut best = None;
+    let mut fewest = usize::MAX;
+    for (i, condition) in conditions.iter().enumerate() {
+        if !taken[i] {
+            let matches = matches_of(triples, bound, condition);
+            if best.is_none() || matches < fewest {
+                best = Some(i);
+                fewest = matches;
+            }
+        }
+    }
+    best
+}
+
+/// How many triples have the terms that are known of the condition.
+fn matches_of<'a>(triples: &'a [Triple], bound: &[Bound<'a>], condition: &'a Pattern) -> usize
+    requires { IsOrdered triples.now }
+{
+    let s = slot_term(bound, &condition.s);
+    let p = slot_term(bound, &condition.p);
+    let o = slot_term(bound, &condition.o);
+    let candidates = span(triples, s);
+    candidates
+        .iter()
+        .filter(|triple| has_terms(triple, s, p, o))
+        .count()
+}

@@ -1,0 +1,75 @@
+//! What mappings make all conditions triples of a graph.
+ghost use Rattle.std.specs.Prelude.{◌≡◌, IfOk, IsTrue, ◌↔◌, map};
+ghost use Rattle.rdf_graph.specs.Graph.{IsOrdered};
+ghost use Rattle.rdf_graph.specs.Search.{Everything, IsBoth, Tells};
+ghost use Rattle.rdf_graph.specs.Solutions.{AreSolutions};
+ghost use Rattle.rdf_graph.specs.declared.pattern.Found.TheVariants.{Nothing};
+
+use crate::graph::Graph;
+use crate::groups::{group_of, groups};
+use crate::pattern::{Found, Mapping, Pattern};
+use crate::search::search;
+use crate::triple::Triple;
+use pod_base::{List, Mem};
+use std::alloc::Global;
+
+/// The mappings from exactly the variables of the conditions to terms under which each condition is a
+/// triple of the graph: none, the one, or more. Without conditions it is the one empty mapping (Solid
+/// Protocol, N3 Patch).
+///
+/// Conditions that no variables connect are solved apart, and the second mapping ends each search.
+pub fn solutions(alloc: Global, graph: &Graph, conditions: &List<Pattern>) -> Mem<Found>
+    ensures { IfOk result (AreSolutions graph.now conditions.now.items) }
+{
+    let conditions = conditions.as_slice();
+    let labels = groups(alloc, conditions)?;
+    let mut found = Found::One(Mapping {
+        pairs: List::new(alloc),
+    });
+    for label in 0..conditions.len() {
+        let group = group_of(alloc, conditions, labels.as_slice(), label)?;
+        let more = solve(alloc, graph.as_slice(), group.as_slice())?;
+        if more.is_nothing() {
+            return Ok(Found::Nothing);
+        }
+        found = found.both(more)?;
+    }
+    Ok(found)
+}
+
+/// What there is for these conditions.
+fn solve<'a>(alloc: Global, triples: &'a [Triple], conditions: &[&'a Pattern]) -> Mem<Found>
+    requires { IsOrdered triples.now }
+    ensures { IfOk result (Tells triples.now (map (λ c. c.now) conditions.now) Everything) }
+{
+    let mut taken = vec![in alloc; false; conditions.len()]?;
+    let mut bound = Vec::new(alloc);
+    search(alloc, triples, conditions, taken.as_mut_slice(), &mut bound)
+}
+
+impl Found {
+    /// What there is for all conditions, from what there is for two parts that have no variable in
+    /// common.
+    fn both(self, other: Found) -> Mem<Found>
+        ensures { IfOk result (IsBoth self other) }
+    {
+        match (self, other) {
+            (Found::Nothing, _) | (_, Found::Nothing) => Ok(Found::Nothing),
+            (Found::One(mapping), Found::One(other)) => {
+                let mut pairs = mapping.pairs.into_vec();
+                pairs.append(&mut other.pairs.into_vec())?;
+                Ok(Found::One(Mapping {
+                    pairs: List::from_vec(pairs),
+                }))
+            }
+            _ => Ok(Found::Many),
+        }
+    }
+
+    /// Whether there is none.
+    fn is_nothing(&self) -> bool
+        ensures { IsTrue result ↔ (self.now ≡ Nothing) }
+    {
+        matches!(self, Found::Nothing)
+    }
+}

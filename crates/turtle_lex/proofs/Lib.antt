@@ -1,0 +1,16 @@
+pub mod CharLemmas
+pub mod DelimitedLemmas
+pub mod EscapeLemmas
+pub mod First
+pub mod GapLemmas
+pub mod GroupLemmas
+pub mod LawLemmas
+pub mod ListingLemmas
+pub mod NameLemmas
+pub mod NextLemmas
+pub mod NumberLemmas
+pub mod Reading
+pub mod RunLemmas
+pub mod TokenLemmas
+pub mod Utf8Lemmas
+pub mod WordLemmas

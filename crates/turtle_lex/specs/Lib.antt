@@ -1,0 +1,12 @@
+pub mod Classes
+pub mod Numbers
+pub mod Pattern
+pub mod Runs
+pub mod Terminals
+pub mod Delimited
+pub mod Names
+pub mod Groups
+pub mod Tokens
+pub mod Ends
+pub mod Lexing
+pub mod Laws

@@ -1,0 +1,31 @@
+//! One character at the front of a text.
+
+ghost use Rattle.std.specs.Prelude.{◌≡◌, ◌<◌, ◌++◌, List, ℕ, length, IfSome, IfNone};
+ghost use Rattle.std.specs.Char.{IsScalar, encode_utf8};
+ghost use Rattle.turtle_lex.specs.Pattern.{BeginsNoChar};
+
+use bstr::decode_utf8;
+
+/// The character that the text begins with, and what follows it. None comes exactly where the text is empty or begins
+/// with bytes that are no UTF-8.
+pub(crate) fn first_char(text: &[u8]) -> Option<(char, &[u8])>
+    ensures found { IfSome result (λ p. IsScalar p.0 × (text.now ≡ encode_utf8 p.0 ++ p.1.now)) }
+    ensures none { IfNone result (BeginsNoChar text.now) }
+{
+    if let [b @ 0..=0x7F, rest @ ..] = text {
+        return Some((*b as char, rest));
+    }
+    wide_char(text)
+}
+
+/// The same, without the short way for ASCII.
+fn wide_char(text: &[u8]) -> Option<(char, &[u8])>
+    ensures found { IfSome result (λ p. IsScalar p.0 × (text.now ≡ encode_utf8 p.0 ++ p.1.now)) }
+    ensures none { IfNone result (BeginsNoChar text.now) }
+{
+    let (found, size) = decode_utf8(text);
+    match found {
+        Some(c) => Some((c, text.split_at(size).1)),
+        None => None,
+    }
+}

@@ -1,0 +1,98 @@
+//! Words and escapes at the front of a text.
+
+ghost use Rattle.std.specs.Prelude.{◌≡◌, ◌<◌, ◌≤◌, ◌+◌, ◌*◌, true, false, length, IfSome, IfNone, codes};
+ghost use Rattle.std.specs.Option.{option_copied};
+ghost use Rattle.std.specs.List.{list_all};
+ghost use Rattle.std.specs.Char.{is_ascii_hexdigit, digit_value};
+ghost use Rattle.turtle_lex.specs.Pattern.{◌∣◌, word, number, ReadsOnly, hex_value};
+ghost use Rattle.turtle_lex.specs.Terminals.{uchar, echar};
+
+use crate::classes::{Class, after_one};
+
+/// What follows a word at the front.
+pub(crate) fn after<'a>(text: &'a [u8], front: &[u8]) -> Option<&'a [u8]>
+    ensures reads { ReadsOnly (word front.now) text.now (option_copied result) }
+    ensures shorter { IfSome result (λ rest. length rest.now + length front.now ≡ length text.now) }
+{
+    text.strip_prefix(front)
+}
+
+/// The value of a hexadecimal digit.
+fn hex_digit(b: u8) -> Option<u32>
+    ensures digit { IfSome result (λ d. (is_ascii_hexdigit b ≡ true) × (d ≡ digit_value b)) }
+    ensures small { IfSome result (λ d. d < 16) }
+    ensures none { IfNone result (is_ascii_hexdigit b ≡ false) }
+{
+    match b {
+        b'0'..=b'9' => Some((b - b'0') as u32),
+        b'A'..=b'F' => Some((b - b'A' + 10) as u32),
+        b'a'..=b'f' => Some((b - b'a' + 10) as u32),
+        _ => None,
+    }
+}
+
+/// The number that hexadecimal digits stand for.
+fn hex_number(digits: &[u8]) -> Option<u32>
+    requires { length digits.now ≤ 8 }
+    ensures value { IfSome result (λ n. (list_all is_ascii_hexdigit digits.now ≡ true) × (n ≡ hex_value 0 digits.now)) }
+    ensures none { IfNone result (list_all is_ascii_hexdigit digits.now ≡ false) }
+{
+    let mut number = 0;
+    for digit in digits {
+        number = number * 16 + hex_digit(*digit)?;
+    }
+    Some(number)
+}
+
+/// What follows so many hexadecimal digits, which stand for a character.
+fn after_number(text: &[u8], count: usize) -> Option<&[u8]>
+    requires { count ≤ 8 }
+    ensures reads { ReadsOnly (number count) text.now (option_copied result) }
+    ensures shorter { IfSome result (λ rest. length rest.now + count ≡ length text.now) }
+{
+    if text.len() < count {
+        return None;
+    }
+    let (digits, rest) = text.split_at(count);
+    let number = hex_number(digits)?;
+    match char::from_u32(number) {
+        Some(_) => Some(rest),
+        None => None,
+    }
+}
+
+/// What follows a UCHAR.
+pub(crate) fn after_uchar(text: &[u8]) -> Option<&[u8]>
+    ensures reads { ReadsOnly uchar text.now (option_copied result) }
+    ensures shorter { IfSome result (λ rest. length rest.now < length text.now) }
+{
+    match after(text, b"\\u") {
+        Some(digits) => after_number(digits, 4),
+        None => match after(text, b"\\U") {
+            Some(digits) => after_number(digits, 8),
+            None => None,
+        },
+    }
+}
+
+/// What follows an ECHAR.
+fn after_echar(text: &[u8]) -> Option<&[u8]>
+    ensures reads { ReadsOnly echar text.now (option_copied result) }
+    ensures shorter { IfSome result (λ rest. length rest.now < length text.now) }
+{
+    match after(text, b"\\") {
+        Some(rest) => after_one(rest, Class::Escaped),
+        None => None,
+    }
+}
+
+/// What follows an escape of a String.
+pub(crate) fn after_escape(text: &[u8]) -> Option<&[u8]>
+    ensures reads { ReadsOnly (echar ∣ uchar) text.now (option_copied result) }
+    ensures shorter { IfSome result (λ rest. length rest.now < length text.now) }
+{
+    match after_echar(text) {
+        Some(rest) => Some(rest),
+        None => after_uchar(text),
+    }
+}
