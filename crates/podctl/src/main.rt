@@ -1,6 +1,9 @@
 //! `podctl` over the standard streams.
 #![tactic(auto)]
 
+ghost use Rattle.std.specs.Prelude.{◌≡◌};
+ghost use Rattle.std.specs.Process.{exit_status};
+
 use pod_io::{SetClock, StdSink, StdSource};
 use pod_tool::{Status, run_podctl};
 use std::alloc::Global;
@@ -20,6 +23,13 @@ fn words(rt: &HostRuntime, alloc: Global) -> io::Result<Vec<String>> {
     Ok(words)
 }
 
+/// The status of a run, as the process ends with it.
+fn exit_code(status: Status) -> ExitCode
+    ensures { exit_status result ≡ status.0 }
+{
+    ExitCode::from(status.0)
+}
+
 fn main(rt: HostRuntime) -> ExitCode {
     let words = match words(&rt, rt.alloc()) {
         Ok(words) => words,
@@ -30,7 +40,7 @@ fn main(rt: HostRuntime) -> ExitCode {
     let mut output = StdSink::new(rt.stdout());
     let mut errors = StdSink::new(rt.stderr());
     let mut clock = SetClock { seconds: STILL };
-    let Status(status) = run_podctl(
+    let status = run_podctl(
         rt.alloc(),
         &words,
         &mut input,
@@ -38,5 +48,5 @@ fn main(rt: HostRuntime) -> ExitCode {
         &mut errors,
         &mut clock,
     );
-    ExitCode::from(status)
+    exit_code(status)
 }
