@@ -1,6 +1,14 @@
 //! The head of a request (RFC 9112, sections 2 to 6): where it ends, what it says, and how its body is framed.
 #![tactic(auto)]
 
+mod ends;
 mod form;
+mod framed;
+mod head;
+mod search;
 
+pub use ends::{HEAD_LIMIT, HeadEnd, blank_length, head_end};
 pub use form::BodyForm;
+pub use framed::FramingFault;
+pub use head::{HeadFault, RequestHead};
+pub use search::HeadSearch;

@@ -1,0 +1,6 @@
+pub mod Ends
+pub mod Search
+pub mod Heads
+pub mod Fields
+pub mod Framing
+pub mod Wishes
