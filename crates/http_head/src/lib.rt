@@ -5,6 +5,7 @@ mod ends;
 mod form;
 mod framed;
 mod head;
+mod read;
 mod search;
 
 pub use ends::{HEAD_LIMIT, HeadEnd, blank_length, head_end};
