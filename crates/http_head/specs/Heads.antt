@@ -39,9 +39,12 @@ lines_of parts = map name_and_value parts.fields
 abbrev pub field_of : List ℕ × List ℕ → Field
 field_of line = record { name = str_to_ascii_lowercase line.0; value = line.1 }
 
--- the head of these parts
+-- what a head of these parts says
+abbrev pub said_by : List ℕ → List ℕ → ℕ → List (List ℕ × List ℕ) → RequestHead
+said_by word target minor lines = record { method = method_of word; target = target; minor = minor; fields = map field_of lines }
+
 abbrev pub head_of : grammar.RequestHead → RequestHead
-head_of parts = record { method = method_of parts.method; target = parts.target; minor = parts.minor; fields = map field_of (lines_of parts) }
+head_of parts = said_by parts.method parts.target parts.minor (lines_of parts)
 
 -- how many of the fields are Host, in any case
 abbrev pub host_count : List (List ℕ × List ℕ) → ℕ

@@ -1,10 +1,5 @@
-ghost use Rattle.std.specs.Prelude.{◌≡◌, ◌≤◌, length, IfOk, IsErrOf};
-ghost use Rattle.http_head.specs.Ends.{head_end};
-ghost use Rattle.http_head.specs.Heads.{IsTooMany, IsMalformed, LacksHost, Says};
-
-use crate::ends::HeadEnd;
-use pod_base::{Bytes, Fields, Method, NoMemory};
-use std::alloc::Global;
+use pod_base::{Bytes, Fields, Method};
+use thiserror::Error;
 
 /// What the head of a request says (RFC 9112, sections 3 and 5).
 #[derive(Debug, Drop)]
@@ -19,14 +14,18 @@ pub struct RequestHead {
 }
 
 /// Why a head is no head of a request.
-#[derive(Clone, Copy, Debug, PartialEq, Eq)]
+#[derive(Clone, Copy, Debug, PartialEq, Eq, Error)]
 pub enum HeadFault {
     /// It is no head by the grammar, or has more than 64 fields.
+    #[error("malformed head")]
     Malformed,
     /// It has more than 66 lines.
+    #[error("too many lines in a head")]
     TooMany,
     /// It is of HTTP/1.1 and has no Host, or several.
+    #[error("no one host")]
     Host,
     /// No memory was left for it.
+    #[error("out of memory")]
     NoMemory,
 }

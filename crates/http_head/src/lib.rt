@@ -12,4 +12,5 @@ pub use ends::{HEAD_LIMIT, HeadEnd, blank_length, head_end};
 pub use form::BodyForm;
 pub use framed::FramingFault;
 pub use head::{HeadFault, RequestHead};
+pub use read::read_head;
 pub use search::HeadSearch;

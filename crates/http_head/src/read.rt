@@ -1,4 +1,4 @@
-ghost use Rattle.std.specs.Prelude.{◌≡◌, ◌++◌, ◌<◌, ◌≤◌, ℕ, length, map, All, IfOk, IfErr, IfSome, IfNone, IsErrOf, IsAscii, codes};
+ghost use Rattle.std.specs.Prelude.{◌≡◌, ◌≤◌, ◌==◌, ◌&&◌, not, ℕ, length, map, All, IfOk, IfSome, IfNone, IsErrOf, IsAscii, codes};
 ghost use Rattle.std.specs.Str.{str_to_ascii_lowercase, str_eq_ignore_ascii_case};
 ghost use Rattle.httparse.specs.Grammar as grammar;
 ghost use Rattle.httparse.specs.Spans.{IsRequestAt, IsRequestWithin, IsHeaderWithin, IsWithin, span_bytes, header_bytes};
@@ -117,4 +117,63 @@ fn fields_of(alloc: Global, head: &[u8], spans: &[HeaderSpan]) -> Mem<Fields>
         fields.add(alloc, field)?;
     }
     Ok(fields)
+}
+
+/// What a head of the parts that were found says.
+fn head_of(
+    alloc: Global,
+    head: &[u8],
+    found: &RequestSpans,
+    lines: &[HeaderSpan],
+) -> Mem<RequestHead>
+    requires method { IsWithin (length head.now) found.now.method }
+    requires path { IsWithin (length head.now) found.now.path }
+    requires lines { All (IsHeaderWithin (length head.now)) lines.now }
+    requires ascii { All (λ s. IsAscii (span_bytes head.now s.name)) lines.now }
+    ensures { IfOk result (λ said. said ≡ heads.said_by (span_bytes head.now found.now.method)
+        (span_bytes head.now found.now.path) found.now.version (map (header_bytes head.now) lines.now)) }
+{
+    let method = method_of(found.method.of(head));
+    let target = Bytes::of(alloc, found.path.of(head))?;
+    let fields = fields_of(alloc, head, lines)?;
+    Ok(RequestHead {
+        method,
+        target,
+        minor: found.version,
+        fields,
+    })
+}
+
+/// Whether a head of that minor version has the wrong number of Host fields.
+fn lacks_host(minor: u8, hosts: usize) -> bool
+    ensures { result ≡ (minor == 1 && not (hosts == 1)) }
+{
+    minor == 1 && hosts != 1
+}
+
+/// Reads a whole head, as [`head_end`](crate::head_end) finds it. A head of more than 66 lines from its request line on
+/// is `TooMany`; else one that isn't in the grammar, or has more than 64 fields, is `Malformed`; else one of HTTP/1.1
+/// without exactly one Host is `Host` (RFC 9112, sections 2.2, 3 and 5).
+pub fn read_head(alloc: Global, head: &[u8]) -> Result<RequestHead, HeadFault>
+    requires { head_end head.now ≡ end.Whole (length head.now) }
+    ensures ok { IfOk result (Says head.now) }
+    ensures too_many { IsErrOf result HeadFault.TooMany → IsTooMany head.now }
+    ensures malformed { IsErrOf result HeadFault.Malformed → IsMalformed head.now }
+    ensures host { IsErrOf result HeadFault.Host → LacksHost head.now }
+{
+    if line_count(head) > LINE_LIMIT {
+        return Err(HeadFault::TooMany);
+    }
+    let mut spans = [EMPTY_HEADER_SPAN; FIELD_LIMIT];
+    let Some(found) = spans_of(head, &mut spans) else {
+        return Err(HeadFault::Malformed);
+    };
+    let lines = &spans[..found.headers];
+    if lacks_host(found.version, host_count(head, lines)) {
+        return Err(HeadFault::Host);
+    }
+    match head_of(alloc, head, &found, lines) {
+        Ok(said) => Ok(said),
+        Err(_no_memory) => Err(HeadFault::NoMemory),
+    }
 }
