@@ -1,9 +1,8 @@
-use Rattle.std.specs.Prelude.{ℕ, Bool, false, ◌&&◌, ◌==◌, not, if◌then◌else◌, nat_lt, List, [], ◌∷◌, length, map, Result, Ok, Err, codes}
+use Rattle.std.specs.Prelude.{ℕ, Bool, ◌&&◌, ◌||◌, ◌==◌, not, if◌then◌else◌, nat_lt, List, [], ◌∷◌, length, map, Result, Ok, Err, codes}
 use Rattle.std.specs.List.{list_all, join_with_byte}
-use Rattle.std.specs.Char.{is_ascii_digit}
 use Rattle.std.specs.Str.{str_eq_ignore_ascii_case}
-use Rattle.std.specs.Str.Parse.{digits_value}
 use Rattle.pod_base.specs.declared.field.Field.{Field}
+use Rattle.http_head.specs.Numbers.{is_number, number_of}
 use Rattle.http_head.specs.Fields.{fields_named, has_field}
 use Rattle.http_head.specs.declared.form.BodyForm.{BodyForm}
 use Rattle.http_head.specs.declared.form.BodyForm.TheVariants.{Empty, Length, Chunked}
@@ -24,27 +23,34 @@ has_length fields = has_field (codes "content-length") fields
 abbrev pub has_coding : List Field → Bool
 has_coding fields = has_field (codes "transfer-encoding") fields
 
--- one digit or more, and nothing else
-abbrev pub is_number : List ℕ → Bool
-is_number value = nat_lt 0 (length value) && list_all is_ascii_digit value
-
 -- the number that a field's digits write
 abbrev pub number : Field → ℕ
-number field = digits_value 10 field.value
+number field = number_of field.value
 
--- whether some field's number is another than that of the first
-abbrev pub differ : List Field → Bool
-differ [] = false
-differ (field ∷ fields) = not (list_all (λ other. number other == number field) fields)
-
--- the number of the first field
+-- the number of the first field, 0 where there is none
 abbrev pub told : List Field → ℕ
 told [] = 0
 told (field ∷ fields) = number field
 
+-- whether some field's number is another than that of the first
+abbrev pub differ : List Field → Bool
+differ fields = not (list_all (λ field. number field == told fields) fields)
+
 -- the values, joined by commas, are `chunked` in some case
 abbrev pub is_chunked : List Field → Bool
 is_chunked fields = str_eq_ignore_ascii_case (join_with_byte 44 (map (λ f. f.value) fields)) (codes "chunked")
+
+-- the fields contradict each other or the version, or a length is no number
+abbrev pub conflicts : ℕ → List Field → Bool
+conflicts minor fields =
+    (has_length fields && has_coding fields) || (has_coding fields && minor == 0)
+    || not (list_all (λ f. is_number f.value) (lengths fields)) || differ (lengths fields)
+
+-- the form of a body that no coding frames
+abbrev pub length_form : List Field → Result BodyForm FramingFault
+length_form fields =
+    if nat_lt 8_388_608 (told (lengths fields)) then Err TooLarge else (
+    if has_length fields then Ok (Length (told (lengths fields))) else Ok Empty)
 
 -- a row of a table: where its condition holds, its answer
 abbrev pub Row : Type 0

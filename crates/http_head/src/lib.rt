@@ -5,12 +5,16 @@ mod ends;
 mod form;
 mod framed;
 mod head;
+mod number;
 mod read;
 mod search;
+mod wishes;
 
 pub use ends::{HEAD_LIMIT, HeadEnd, blank_length, head_end};
 pub use form::BodyForm;
-pub use framed::FramingFault;
+pub use framed::{FramingFault, framing};
 pub use head::{HeadFault, RequestHead};
+pub use number::BODY_LIMIT;
 pub use read::read_head;
 pub use search::HeadSearch;
+pub use wishes::{closes, expects_continue};
