@@ -1,7 +1,6 @@
 -- Steps of the search for the end of a head.
-use Rattle.std.proofs.Common.{◌≡◌, ℕ, suc, ◌∙◌, ◌+◌, ◌<◌, ◌==◌, ◌&&◌, Bool, true, false, cond, if◌then◌else◌, nat_lt, List, [], ◌∷◌, drop, Option, Some, None, refl, ap, arith}
+use Rattle.std.proofs.Common.{◌≡◌, ℕ, suc, ◌∙◌, ◌+◌, ◌<◌, ◌==◌, ◌&&◌, true, false, cond, if◌then◌else◌, nat_lt, List, [], ◌∷◌, drop, Option, Some, None, refl, ap, arith}
 use Rattle.std.specs.Option.{option_map}
-use Rattle.std.proofs.lemmas.Bool.Decides.{nat_tests}
 use Rattle.http_head.specs.Ends.{line_end, blank_length, end_behind, head_length}
 
 -- where no line end stands no empty lines begin, and a line end is the first of them

@@ -1,5 +1,5 @@
 -- The table of framing, row by row.
-use Rattle.std.proofs.Common.{◌≡◌, ℕ, suc, ◌+◌, ◌<◌, ◌≤◌, ◌==◌, ◌&&◌, ◌||◌, not, Bool, true, false, cond, if◌then◌else◌, nat_lt, nat_le, List, [], ◌∷◌, ◌++◌, length, map, filter, find, Option, Some, None, Result, Ok, Err, codes, refl, sym, ap, subst, arith, ◌∙◌}
+use Rattle.std.proofs.Common.{◌≡◌, ℕ, suc, ◌==◌, ◌&&◌, ◌||◌, not, Bool, true, false, cond, if◌then◌else◌, nat_lt, nat_le, List, [], ◌∷◌, ◌++◌, length, map, filter, find, Option, Some, None, Result, Ok, Err, codes, refl, sym, ap, subst, arith, ◌∙◌}
 use Rattle.std.specs.Option.{option_map}
 use Rattle.std.specs.List.{list_all, list_any, join_with_byte}
 use Rattle.std.specs.Char.{is_ascii_digit, to_ascii_lowercase}
@@ -143,15 +143,15 @@ form_first fields value it =
 
 read_within : (most n m : ℕ) → Some m ≡ (if nat_le n most then Some n else None) → Ok (Length m) ≡ (if nat_lt most n then Err TooLarge else Ok (Length n))
 read_within most n m e = elim (nat_le n most) as (λ t. nat_le n most ≡ t → Some m ≡ (if t then Some n else None) → Ok (Length m) ≡ (if nat_lt most n then Err TooLarge else Ok (Length n))) [
-    | true ↦ λ yes same. let no : nat_lt most n ≡ false = grind (arith, nat_tests, yes) in let is : m ≡ n = cc in sym (ap (λ t. if t then Err TooLarge else Ok (Length n)) no ∙ ap (λ k. Ok (Length k)) (sym is))
-    | false ↦ λ no same. cc
-    ] refl e
+  | true ↦ λ yes same. let no : nat_lt most n ≡ false = grind (arith, nat_tests, yes) in let is : m ≡ n = cc in sym (ap (λ t. if t then Err TooLarge else Ok (Length n)) no ∙ ap (λ k. Ok (Length k)) (sym is))
+  | false ↦ λ no same. cc
+] refl e
 
 read_past : (most n : ℕ) → None ≡ (if nat_le n most then Some n else None) → Err TooLarge ≡ (if nat_lt most n then Err TooLarge else Ok (Length n))
 read_past most n e = elim (nat_le n most) as (λ t. nat_le n most ≡ t → None ≡ (if t then Some n else None) → Err TooLarge ≡ (if nat_lt most n then Err TooLarge else Ok (Length n))) [
-    | true ↦ λ yes same. cc
-    | false ↦ λ no same. let past : nat_lt most n ≡ true = grind (arith, nat_tests, no) in sym (ap (λ t. if t then Err TooLarge else Ok (Length n)) past)
-    ] refl e
+  | true ↦ λ yes same. cc
+  | false ↦ λ no same. let past : nat_lt most n ≡ true = grind (arith, nat_tests, no) in sym (ap (λ t. if t then Err TooLarge else Ok (Length n)) past)
+] refl e
 
 -- a length within the limit
 pub form_some : (fields : List Field) (value : List ℕ) (n : ℕ) → First (is_named (codes "content-length")) fields value

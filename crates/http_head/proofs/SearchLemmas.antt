@@ -1,9 +1,9 @@
 -- What a search may pass without losing the end of a head.
-use Rattle.std.proofs.Common.{◌≡◌, ℕ, suc, ◌∙◌, ◌+◌, ◌-◌, ◌<◌, ◌≤◌, ◌==◌, ◌&&◌, not, Bool, true, false, cond, if◌then◌else◌, nat_lt, List, [], ◌∷◌, ◌++◌, length, take, drop, zero, Option, Some, None, IfSome, refl, sym, ap, subst, arith, append_assoc, add-one, length-append, length-drop}
+use Rattle.std.proofs.Common.{◌≡◌, ℕ, suc, ◌∙◌, ◌+◌, ◌-◌, ◌≤◌, ◌==◌, ◌&&◌, not, Bool, true, false, cond, nat_lt, List, [], ◌∷◌, ◌++◌, length, take, drop, zero, Option, Some, None, refl, sym, ap, subst, arith, append_assoc, add-one, length-append, length-drop}
 use Rattle.std.specs.Option.{option_map}
 use Rattle.std.proofs.lemmas.Bool.Decides.{nat_tests}
-use Rattle.std.proofs.lemmas.List.{drop-drop, drop-append-le, take-append-le}
-use Rattle.http_head.specs.Ends.{line_end, blank_length, end_behind, head_length, length_in}
+use Rattle.std.proofs.lemmas.List.{drop-drop, drop-append-le}
+use Rattle.http_head.specs.Ends.{blank_length, end_behind, head_length, length_in}
 use Rattle.http_head.specs.Search.{Looked, looked, begins_line, length_from, Passed, HasSeen, SawFrontOf}
 use Rattle.http_head.proofs.EndsLemmas.{no_end_here}
 

@@ -1,4 +1,4 @@
-use Rattle.std.specs.Prelude.{ℕ, Bool, nat_lt, List, length, filter}
+use Rattle.std.specs.Prelude.{ℕ, Bool, List, filter}
 use Rattle.std.specs.List.{list_any}
 use Rattle.pod_base.specs.Fields.{is_named}
 use Rattle.pod_base.specs.declared.field.Field.{Field}

@@ -18,3 +18,6 @@ pub use number::BODY_LIMIT;
 pub use read::read_head;
 pub use search::HeadSearch;
 pub use wishes::{closes, expects_continue};
+
+#[cfg(test)]
+mod tests;

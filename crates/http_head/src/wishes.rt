@@ -83,9 +83,7 @@ fn is_close(word: &[u8]) -> bool
 fn says_close(value: &[u8]) -> bool
     ensures { result ≡ spec.says_close value.now }
 {
-    value
-        .split(|byte| *byte == b',')
-        .any(|word| is_close(word))
+    value.split(|byte| *byte == b',').any(|word| is_close(word))
 }
 
 /// Whether the connection closes behind the response (RFC 9112, section 9.3): `close` is among the words of some

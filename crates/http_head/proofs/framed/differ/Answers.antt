@@ -1,4 +1,4 @@
-use Rattle.std.proofs.Common.{◌≡◌, ℕ, ◌∙◌, List, Bool, not, codes, sym, ap}
+use Rattle.std.proofs.Common.{ℕ, ◌∙◌, List, Bool, not, codes, sym, ap}
 use Rattle.std.specs.List.{list_all}
 use Rattle.std.specs.Str.{bytes_eq}
 use Rattle.pod_base.specs.Fields.{is_named}

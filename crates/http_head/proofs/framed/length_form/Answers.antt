@@ -1,4 +1,4 @@
-use Rattle.std.proofs.Common.{◌≡◌, ℕ, ◌∙◌, nat_le, List, Option, Some, None, codes, sym, ap, if◌then◌else◌}
+use Rattle.std.proofs.Common.{ℕ, ◌∙◌, nat_le, List, Option, Some, None, codes, sym, ap, if◌then◌else◌}
 use Rattle.pod_base.specs.Fields.{is_named}
 use Rattle.http_head.specs.Numbers.{number_of}
 use Rattle.http_head.proofs.FramingLemmas.{first_found, none_found, form_none, form_some, form_past}

@@ -1,4 +1,4 @@
-use Rattle.std.proofs.Common.{◌≡◌, ℕ, ◌≤◌, Bool, List, length, drop, ap, sym, ◌∙◌, subst, arith}
+use Rattle.std.proofs.Common.{◌≡◌, ℕ, ◌≤◌, List, length, drop, ap, sym, ◌∙◌, subst}
 use Rattle.http_head.specs.Ends.{blank_length}
 use Rattle.http_head.specs.Search.{begins_line}
 use Rattle.http_head.proofs.SearchLemmas.{blank_passed, blank_alone}

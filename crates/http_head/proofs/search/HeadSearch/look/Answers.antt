@@ -1,4 +1,4 @@
-use Rattle.std.proofs.Common.{List, ℕ, sym, subst}
+use Rattle.std.proofs.Common.{sym, subst}
 use Rattle.http_head.specs.Search.{Passed}
 use Rattle.http_head.proofs.SearchLemmas.{saw_front}
 use Rattle.http_head.proofs.search.HeadSearch.look.Goals as goal
