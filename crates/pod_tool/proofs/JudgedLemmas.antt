@@ -6,7 +6,8 @@ use Rattle.httparse.proofs.GrammarLemmas.{request_unique}
 use Rattle.pod_tool.specs.declared.asked.Asked as asked
 use Rattle.pod_tool.specs.declared.built.Verdict.{Verdict}
 use Rattle.pod_tool.specs.declared.built.Verdict.TheVariants.{Malformed}
-use Rattle.pod_tool.specs.Built.{IsWhole, IsProper, IsMalformed, line_count, host_count, lines_of, asked_of_lines}
+use Rattle.pod_tool.specs.Built.{IsProper, IsMalformed, asked_of_lines}
+use Rattle.http_head.specs.Heads.{IsWhole, line_count, host_count, lines_of}
 use Rattle.pod_tool.specs.Verdicts.{IsJudged, verdict_on, verdict_of}
 
 -- the heads of one text are one

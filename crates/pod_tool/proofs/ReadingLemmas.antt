@@ -7,9 +7,9 @@ use Rattle.pod_base.specs.declared.request.Request.{Request}
 use Rattle.pod_base.specs.declared.heard.Heard.{Heard}
 use Rattle.pod_base.specs.declared.heard.Heard as heard
 use Rattle.pod_tool.specs.declared.asked.Asked.{Asked}
-use Rattle.pod_tool.specs.declared.head.HeadEnd.{HeadEnd}
-use Rattle.pod_tool.specs.declared.head.HeadEnd.TheVariants.{Whole, NotYet, TooLong}
-use Rattle.pod_tool.specs.Ends.{head_end}
+use Rattle.http_head.specs.declared.ends.HeadEnd.{HeadEnd}
+use Rattle.http_head.specs.declared.ends.HeadEnd.TheVariants.{Whole, NotYet, TooLong}
+use Rattle.http_head.specs.Ends.{head_end}
 use Rattle.pod_tool.specs.Built.{IsProper, IsMalformed, IsUnbuilt, IsCrowded, Asks, asked_of_head, with_body}
 use Rattle.pod_tool.specs.Messages.{HasHead, IsFirst, Requests, IsBad, long, crowded, malformed, unbuilt, IsPartial, in_head, in_body, rest_length, heard_of, Messages, unfinished, refused}
 
