@@ -1,5 +1,5 @@
 -- No field of a reply breaks its line.
-use Rattle.std.proofs.Common.{◌≡◌, ℕ, Bool, true, false, ◌&&◌, List, [], ◌∷◌, ◌++◌, Option, Some, None, IsTrue, refl, ◌∙◌, if◌then◌else◌, codes}
+use Rattle.std.proofs.Common.{◌≡◌, ℕ, Bool, true, false, ◌&&◌, List, ◌++◌, Option, Some, None, IsTrue, refl, ◌∙◌, if◌then◌else◌, codes}
 use Rattle.std.specs.List.{list_all}
 use Rattle.std.specs.FinMap as map
 use Rattle.std.proofs.lemmas.Bool.{and_from}
@@ -13,7 +13,7 @@ use Rattle.pod_core.specs.declared.document.Document.{Document}
 use Rattle.pod_core.specs.declared.reply.Replied.{Replied}
 use Rattle.pod_core.specs.Paths.{is_member_path, uri_of}
 use Rattle.pod_core.specs.State.{State}
-use Rattle.pod_core.specs.Reply.{acl_link, field, shown, created, read_of, written_of, reply_at, reply_of, refusal}
+use Rattle.pod_core.specs.Reply.{acl_link, read_of, written_of, reply_at, reply_of, refusal}
 use Rattle.pod_core.proofs.PathsLemmas.{uri_stays}
 
 -- a link to a URI stays within a line

@@ -1,19 +1,18 @@
 -- What a connection has come to, where it ends.
-use Rattle.std.proofs.Common.{◌≡◌, ◌≢◌, ◌⊎◌, inl, inr, ℕ, Bool, true, false, ◌==◌, cond, if◌then◌else◌, List, [], ◌∷◌, ◌++◌, length, take, drop, map, Option, Some, None, is_some, IfSome, refl, sym, ap, ap₂, subst, append_assoc, ◌∙◌, arith}
+use Rattle.std.proofs.Common.{◌≡◌, ◌≢◌, inr, ℕ, false, if◌then◌else◌, List, [], ◌∷◌, ◌++◌, length, take, drop, map, Option, Some, None, is_some, IfSome, refl, sym, ap, append_assoc, ◌∙◌}
 use Rattle.std.specs.List.{AllByRecursion, flat_map}
 use Rattle.std.proofs.lemmas.Grind.{flat_map-append}
 use Rattle.std.proofs.lemmas.List.{append-nil, take-append-drop, length-map}
 use Rattle.http_out.specs.Dates.{Dated}
 use Rattle.pod_base.specs.declared.request.Request.{Request}
-use Rattle.pod_base.specs.declared.response.Response.{Response}
 use Rattle.pod_base.specs.declared.heard.Heard.{Heard}
 use Rattle.pod_base.specs.declared.heard.Heard as heard
 use Rattle.pod_core.specs.declared.entry.Entry.{Entry}
 use Rattle.pod_tool.specs.Fresh.{fresh_pod, fresh_service}
-use Rattle.pod_tool.specs.Messages.{Requests, IsBad, IsPartial, rest_length, heard_of, Messages, unfinished, refused, FirstHeard, unrefused, refused_first}
+use Rattle.pod_tool.specs.Messages.{Requests, IsBad, IsPartial, rest_length, heard_of, unfinished, refused, unrefused, refused_first}
 use Rattle.pod_tool.specs.Output.{item_text, output_of}
 use Rattle.pod_tool.specs.Served.{OnFresh, IsServed, IsStopped}
-use Rattle.pod_tool.specs.Session.{Outcome, answered, no_memory, disk_fault, Item, upgrades, UpgradesLast, ends_upgraded, requests_of, bad_status, has_bad, Begins, Session, IsRefused, IsWhole}
+use Rattle.pod_tool.specs.Session.{Outcome, answered, no_memory, disk_fault, Item, upgrades, UpgradesLast, ends_upgraded, requests_of, bad_status, IsRefused}
 use Rattle.pod_tool.specs.Turns.{Refuses, refusal_bytes}
 use Rattle.pod_tool.proofs.ProgressLemmas.{IsPlainOutcome, IsPlain, Progress}
 

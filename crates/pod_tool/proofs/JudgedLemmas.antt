@@ -1,12 +1,12 @@
 -- The verdict on a head that was read is the verdict on its bytes.
-use Rattle.std.proofs.Common.{◌≡◌, ℕ, ◌≤◌, ◌==◌, ◌&&◌, not, Bool, true, false, if◌then◌else◌, List, [], length, Option, Some, None, refl, sym, ap, subst, arith, ◌∙◌}
+use Rattle.std.proofs.Common.{◌≡◌, ℕ, ◌≤◌, ◌==◌, ◌&&◌, not, true, false, if◌then◌else◌, List, [], Option, Some, None, refl, sym, ap, arith, ◌∙◌}
 use Rattle.std.proofs.lemmas.Bool.Decides.{nat_tests}
 use Rattle.httparse.specs.Grammar.{RequestHead}
 use Rattle.httparse.proofs.GrammarLemmas.{request_unique}
 use Rattle.pod_tool.specs.declared.asked.Asked as asked
-use Rattle.pod_tool.specs.declared.built.Verdict.{Verdict}
 use Rattle.pod_tool.specs.declared.built.Verdict.TheVariants.{Malformed}
-use Rattle.pod_tool.specs.Built.{IsWhole, IsProper, IsMalformed, line_count, host_count, lines_of, asked_of_lines}
+use Rattle.pod_tool.specs.Built.{IsProper, asked_of_lines}
+use Rattle.http_head.specs.Heads.{IsWhole, line_count, host_count, lines_of}
 use Rattle.pod_tool.specs.Verdicts.{IsJudged, verdict_on, verdict_of}
 
 -- the heads of one text are one

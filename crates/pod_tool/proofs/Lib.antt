@@ -1,6 +1,5 @@
 pub mod DigitsLemmas
 pub mod EndingsLemmas
-pub mod EndsLemmas
 pub mod JudgedLemmas
 pub mod PipesLemmas
 pub mod ProgressLemmas

@@ -1,5 +1,5 @@
 -- How far a connection has come: its session so far, and a turn more.
-use Rattle.std.proofs.Common.{◌≡◌, ◌≢◌, ◌⊎◌, inl, inr, ℕ, zero, suc, ◌+◌, ◌-◌, ◌<◌, ◌≤◌, ◌==◌, Bool, true, false, cond, if◌then◌else◌, List, [], ◌∷◌, ◌++◌, length, take, drop, fold, map, slice_get, max, Option, Some, None, is_some, IfSome, refl, sym, ap, ap₂, subst, length-append, append_assoc, ◌∙◌, arith}
+use Rattle.std.proofs.Common.{◌≡◌, inl, inr, ℕ, ◌+◌, ◌-◌, ◌==◌, true, false, cond, if◌then◌else◌, List, [], ◌∷◌, ◌++◌, length, take, fold, map, slice_get, max, Option, Some, None, is_some, IfSome, refl, sym, ap, ap₂, subst, length-append, ◌∙◌, arith}
 use Rattle.std.specs.Option.{option_map_or, option_to_list}
 use Rattle.std.specs.List.{AllByRecursion, flat_map, range_with_len}
 use Rattle.std.proofs.lemmas.Grind.{flat_map-append, fold-append}
@@ -7,11 +7,9 @@ use Rattle.std.proofs.lemmas.List.{append-nil}
 use Rattle.std.proofs.Math.Seq.{take-length}
 use Rattle.std.proofs.lemmas.Bool.Decides.{nat_tests}
 use Rattle.http_out.specs.Dates.{Dated}
-use Rattle.http_out.specs.Text.{response_text, memory_text}
+use Rattle.http_out.specs.Text.{memory_text}
 use Rattle.pod_base.specs.declared.request.Request.{Request}
 use Rattle.pod_base.specs.declared.response.Response.{Response}
-use Rattle.pod_base.specs.declared.heard.Heard.{Heard}
-use Rattle.pod_base.specs.declared.heard.Heard as heard
 use Rattle.pod_core.specs.State.{State, apply}
 use Rattle.pod_core.specs.declared.entry.Entry.{Entry}
 use Rattle.pod_core.specs.Reply.{reply_of, is_change}
@@ -19,8 +17,7 @@ use Rattle.pod_core.specs.declared.reply.Replied.{Replied}
 use Rattle.pod_base.specs.declared.moment.Stamp.{Stamp}
 use Rattle.pod_tool.specs.declared.keeper.Keeper.{Keeper}
 use Rattle.pod_tool.specs.Fresh.{fresh_pod, fresh_service}
-use Rattle.pod_tool.specs.Messages.{IsFirst, Requests, heard_of}
-use Rattle.pod_tool.specs.Output.{item_text, output_of}
+use Rattle.pod_tool.specs.Output.{item_text}
 use Rattle.pod_tool.specs.Session.{Outcome, answered, no_memory, disk_fault, Item, NeverFalls, IsItem, IsAnswered, IsTimely, places_of, entries_of, reply_at, moment_before}
 use Rattle.pod_tool.specs.Turns.{IsTaken, Turned, reply_now, stamped}
 use Rattle.pod_tool.proofs.RepliesLemmas.{plain_reply}

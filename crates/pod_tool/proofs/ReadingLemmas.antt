@@ -1,5 +1,5 @@
 -- A text has one reading.
-use Rattle.std.proofs.Common.{◌≡◌, ℕ, ◌+◌, ◌<◌, ◌≤◌, List, [], ◌∷◌, ◌++◌, length, take, drop, Option, Some, None, refl, sym, ap, ap₂, subst, ◌∙◌, arith}
+use Rattle.std.proofs.Common.{◌≡◌, ℕ, ◌+◌, List, [], ◌∷◌, ◌++◌, take, drop, Option, Some, None, refl, sym, ap, ap₂, subst, ◌∙◌, arith}
 use Rattle.std.proofs.lemmas.List.{append-nil}
 use Rattle.httparse.specs.Grammar.{RequestHead}
 use Rattle.httparse.proofs.GrammarLemmas.{request_unique}
@@ -7,10 +7,10 @@ use Rattle.pod_base.specs.declared.request.Request.{Request}
 use Rattle.pod_base.specs.declared.heard.Heard.{Heard}
 use Rattle.pod_base.specs.declared.heard.Heard as heard
 use Rattle.pod_tool.specs.declared.asked.Asked.{Asked}
-use Rattle.pod_tool.specs.declared.head.HeadEnd.{HeadEnd}
-use Rattle.pod_tool.specs.declared.head.HeadEnd.TheVariants.{Whole, NotYet, TooLong}
-use Rattle.pod_tool.specs.Ends.{head_end}
-use Rattle.pod_tool.specs.Built.{IsProper, IsMalformed, IsUnbuilt, IsCrowded, Asks, asked_of_head, with_body}
+use Rattle.http_head.specs.declared.ends.HeadEnd.{HeadEnd}
+use Rattle.http_head.specs.declared.ends.HeadEnd.TheVariants.{Whole, NotYet, TooLong}
+use Rattle.http_head.specs.Ends.{head_end}
+use Rattle.pod_tool.specs.Built.{IsProper, IsMalformed, Asks, asked_of_head, with_body}
 use Rattle.pod_tool.specs.Messages.{HasHead, IsFirst, Requests, IsBad, long, crowded, malformed, unbuilt, IsPartial, in_head, in_body, rest_length, heard_of, Messages, unfinished, refused}
 
 length_of : HeadEnd → ℕ

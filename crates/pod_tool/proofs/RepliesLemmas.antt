@@ -1,12 +1,11 @@
 -- What holds of each reply of the pod.
-use Rattle.std.proofs.Common.{◌≡◌, ℕ, ◌==◌, Bool, true, false, if◌then◌else◌, Option, Some, None, IfSome, refl, codes}
+use Rattle.std.proofs.Common.{◌≡◌, ℕ, ◌==◌, true, false, if◌then◌else◌, Option, Some, None, IfSome, refl, codes}
 use Rattle.std.specs.FinMap as map
 use Rattle.pod_base.specs.declared.method.Method.{Method}
 use Rattle.pod_base.specs.declared.method.Method.TheVariants.{Get, Head, Options, Post, Put, Patch, Delete, Other}
 use Rattle.pod_base.specs.declared.moment.Stamp.{Stamp}
 use Rattle.pod_base.specs.declared.request.Request.{Request}
 use Rattle.pod_core.specs.declared.document.Document.{Document}
-use Rattle.pod_core.specs.declared.entry.Entry.{Entry}
 use Rattle.pod_core.specs.declared.reply.Replied.{Replied}
 use Rattle.pod_core.specs.Paths.{is_member_path}
 use Rattle.pod_core.specs.Reply.{read_of, written_of, reply_at, reply_of, refusal}

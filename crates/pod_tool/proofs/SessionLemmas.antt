@@ -1,12 +1,12 @@
 -- A session stays one where its history grows.
-use Rattle.std.proofs.Common.{◌≡◌, ℕ, zero, suc, ◌+◌, ◌-◌, ◌<◌, ◌≤◌, ◌==◌, Bool, true, false, cond, if◌then◌else◌, List, [], ◌∷◌, ◌++◌, length, take, fold, slice_get, max, Option, Some, None, is_some, IfSome, refl, sym, ap, ap₂, subst, length-append, ◌∙◌, arith}
+use Rattle.std.proofs.Common.{◌≡◌, ℕ, zero, suc, ◌+◌, ◌-◌, ◌<◌, ◌≤◌, ◌==◌, true, false, cond, if◌then◌else◌, List, [], ◌∷◌, ◌++◌, length, fold, slice_get, max, Option, Some, None, is_some, IfSome, refl, sym, ap, ap₂, subst, length-append, ◌∙◌, arith}
 use Rattle.std.specs.Option.{option_map_or, option_to_list}
 use Rattle.std.specs.List.{AllByRecursion, flat_map, range_with_len}
 use Rattle.std.proofs.lemmas.List.{take-append-le}
 use Rattle.std.proofs.lemmas.Option.{slice_get_within}
 use Rattle.std.proofs.lemmas.Bool.Decides.{nat_tests}
 use Rattle.pod_base.specs.declared.response.Response.{Response}
-use Rattle.pod_tool.specs.Session.{Service, Outcome, answered, no_memory, disk_fault, Item, NeverFalls, replay, reply_at, moment_before, IsAnswered, IsMoment, IsTimely, Owes, IsItem, places_on, places_of, entries_on, entries_of, stamp_of}
+use Rattle.pod_tool.specs.Session.{Service, Outcome, answered, no_memory, disk_fault, Item, NeverFalls, replay, reply_at, moment_before, IsAnswered, IsTimely, Owes, IsItem, places_on, places_of, entries_on, entries_of, stamp_of}
 
 pub slice_get-append : {A : Type 0} (xs ys : List A) (k : ℕ) → k < length xs → slice_get (xs ++ ys) k ≡ slice_get xs k
 slice_get-append [] ys k h = absurd (omega arith)

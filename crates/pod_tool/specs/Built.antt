@@ -1,17 +1,16 @@
-use Rattle.std.specs.Prelude.{◌≡◌, ℕ, ◌+◌, ◌-◌, ◌*◌, ◌<◌, ◌≤◌, Bool, true, false, ◌&&◌, ◌==◌, not, if◌then◌else◌, nat_le, List, [], ◌∷◌, length, drop, map, find, count_by, Option, Some, None, is_none, codes}
+use Rattle.std.specs.Prelude.{◌≡◌, ℕ, ◌+◌, ◌-◌, ◌*◌, ◌<◌, ◌≤◌, Bool, false, ◌&&◌, ◌==◌, if◌then◌else◌, nat_le, List, [], ◌∷◌, length, find, count_by, Option, Some, None, is_none, codes}
 use Rattle.std.specs.Option.{option_map, option_and_then}
 use Rattle.std.specs.List.{list_all}
 use Rattle.std.specs.Char.{is_ascii_digit}
 use Rattle.std.specs.Str.{bytes_eq, str_eq_ignore_ascii_case}
-use Rattle.httparse.specs.Grammar.{RequestHead, ReadsRequest}
-use Rattle.httparse.specs.Spans.{name_and_value}
+use Rattle.httparse.specs.Grammar.{RequestHead}
 use Rattle.pod_base.specs.Fields.{is_named}
 use Rattle.pod_base.specs.declared.field.Field.{Field}
 use Rattle.pod_base.specs.declared.method.Method.TheVariants.{Get, Put}
 use Rattle.pod_base.specs.declared.method.Method.{Method}
 use Rattle.pod_base.specs.declared.request.Request.{Request}
 use Rattle.pod_core.specs.Paths.{is_member_path}
-use Rattle.pod_tool.specs.Ends.{blank_length}
+use Rattle.http_head.specs.Heads.{IsWhole, lines_of, line_count, host_count}
 use Rattle.pod_tool.specs.declared.asked.Asked.{Asked}
 
 -- The requests that are read so far: a GET or a PUT of a member of the root, with the fields Host, Content-Type
@@ -98,28 +97,12 @@ asked_of method target minor fields =
 abbrev pub asked_of_lines : List ℕ → List ℕ → ℕ → List (List ℕ × List ℕ) → Option Asked
 asked_of_lines method target minor lines = option_and_then (asked_of method target minor) (known_fields lines)
 
--- names and values of a head's fields
-abbrev pub lines_of : RequestHead → List (List ℕ × List ℕ)
-lines_of h = map name_and_value h.fields
-
 abbrev pub asked_of_head : RequestHead → Option Asked
 asked_of_head h = asked_of_lines h.method h.target h.minor (lines_of h)
 
 -- the request with its body
 abbrev pub with_body : Asked → List ℕ → Request
 with_body asked body = record { method = asked.method; target = asked.target; minor = 1; fields = asked.fields; body = body }
-
--- how many lines a head has from its first line on
-abbrev pub line_count : List ℕ → ℕ
-line_count head = count_by (λ b. b == 10) (drop (blank_length head) head)
-
-abbrev pub host_count : List (List ℕ × List ℕ) → ℕ
-host_count lines = count_by (λ line. str_eq_ignore_ascii_case line.0 (codes "host")) lines
-
--- the head is h by the grammar of RFC 9112, with at most 64 fields
-pub record IsWhole (head : List ℕ) (h : RequestHead) : Type 0 where
-  pub reads : ReadsRequest head h []
-  pub room : length h.fields ≤ 64
 
 -- it has exactly one Host where its version is 1.1
 pub record IsProper (head : List ℕ) (h : RequestHead) : Type 0 where

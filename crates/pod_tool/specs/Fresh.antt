@@ -1,5 +1,4 @@
-use Rattle.std.specs.Prelude.{ℕ, ◌+◌, ◌==◌, false, if◌then◌else◌, max, length, List, codes, Option, Some, None}
-use Rattle.std.specs.Option.{option_to_list}
+use Rattle.std.specs.Prelude.{ℕ, ◌==◌, false, if◌then◌else◌, List, codes}
 use Rattle.pod_base.specs.declared.response.Response.{Response}
 use Rattle.pod_core.specs.State.{State, new_pod, apply}
 use Rattle.pod_core.specs.Reply.{reply_of, refusal, is_change}

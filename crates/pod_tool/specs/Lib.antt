@@ -1,6 +1,5 @@
 pub mod Built
 pub mod Collected
-pub mod Ends
 pub mod Fresh
 pub mod Messages
 pub mod Nexts

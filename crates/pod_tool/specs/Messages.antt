@@ -1,10 +1,10 @@
-use Rattle.std.specs.Prelude.{◌≡◌, ◌⊎◌, ℕ, ◌+◌, ◌-◌, ◌<◌, ◌≤◌, List, [], ◌∷◌, ◌++◌, length, take, drop, map}
+use Rattle.std.specs.Prelude.{◌≡◌, ℕ, ◌+◌, ◌-◌, ◌<◌, ◌≤◌, List, [], ◌∷◌, ◌++◌, length, take, drop, map}
 use Rattle.pod_base.specs.declared.request.Request.{Request}
 use Rattle.pod_base.specs.declared.heard.Heard as heard
 use Rattle.pod_base.specs.declared.heard.Heard.{Heard}
 use Rattle.pod_tool.specs.declared.asked.Asked.{Asked}
-use Rattle.pod_tool.specs.declared.head.HeadEnd.TheVariants.{Whole, NotYet, TooLong}
-use Rattle.pod_tool.specs.Ends.{blank_length, head_end}
+use Rattle.http_head.specs.declared.ends.HeadEnd.TheVariants.{Whole, NotYet, TooLong}
+use Rattle.http_head.specs.Ends.{blank_length, head_end}
 use Rattle.pod_tool.specs.Built.{IsCrowded, IsMalformed, IsUnbuilt, Asks, with_body}
 
 -- What is heard in a text: the whole text split into requests, and what is left behind them.

@@ -1,4 +1,4 @@
-use Rattle.std.specs.Prelude.{ℕ, Bool, true, if◌then◌else◌, List, [], ◌∷◌, ◌++◌, Option, Some, None}
+use Rattle.std.specs.Prelude.{ℕ, true, if◌then◌else◌, List, [], ◌∷◌, ◌++◌, Option, Some, None}
 use Rattle.http_out.specs.Dates.{Dated}
 use Rattle.http_out.specs.Text.{response_text, interim_text, memory_text, disk_text}
 use Rattle.pod_base.specs.declared.heard.Heard.{Heard}

@@ -4,7 +4,7 @@ use Rattle.http_out.specs.Dates.{Dated, IsDated}
 use Rattle.http_out.specs.Text.{response_text, memory_text}
 use Rattle.pod_base.specs.declared.moment.Stamp.{Stamp}
 use Rattle.pod_base.specs.declared.request.Request.{Request}
-use Rattle.pod_core.specs.State.{State, apply}
+use Rattle.pod_core.specs.State.{apply}
 use Rattle.pod_core.specs.Reply.{reply_of, is_change}
 use Rattle.pod_core.specs.declared.reply.Replied.{Replied}
 use Rattle.pod_io.specs.Counts.{Rose}

@@ -1,4 +1,5 @@
 use Rattle.std.specs.Prelude.{ℕ, ◌&&◌, ◌==◌, not, if◌then◌else◌, List, Option, Some, None}
+use Rattle.http_head.specs.Heads.{host_count}
 use Rattle.pod_tool.specs.Built as built
 use Rattle.pod_tool.specs.Built.{IsCrowded, IsMalformed, IsUnbuilt, Asks}
 use Rattle.pod_tool.specs.declared.asked.Asked as asked
@@ -20,5 +21,5 @@ verdict_on None = Unbuilt
 -- the verdict on a head of so few lines that was read
 abbrev pub verdict_of : List ℕ → List ℕ → ℕ → List (List ℕ × List ℕ) → Verdict
 verdict_of method target minor lines =
-    if minor == 1 && not (built.host_count lines == 1) then Malformed
+    if minor == 1 && not (host_count lines == 1) then Malformed
     else verdict_on (built.asked_of_lines method target minor lines)

@@ -3,13 +3,14 @@ ghost use Rattle.std.specs.Option.{option_map, option_copied};
 ghost use Rattle.std.specs.Str.{str_eq_ignore_ascii_case, bytes_eq};
 ghost use Rattle.httparse.specs.Grammar.{RequestHead, ReadsRequest};
 ghost use Rattle.httparse.specs.Spans.{IsRequestAt, IsRequestWithin, IsHeaderWithin, IsWithin, span_bytes, header_bytes};
+ghost use Rattle.http_head.specs.Heads as heads;
 ghost use Rattle.pod_tool.specs.Built as built;
 ghost use Rattle.pod_tool.specs.Verdicts as verdicts;
 ghost use Rattle.pod_tool.specs.Verdicts.{IsJudged};
 
 use crate::asked::Asked;
-use crate::head::blank_length;
 use crate::length::told_length;
+use http_head::blank_length;
 use httparse::Status;
 use httparse::spans::{EMPTY_HEADER_SPAN, HeaderSpan, RequestSpans, parse_request};
 use pod_base::{Bytes, Field, Fields, Mem, Method, Text};
@@ -174,7 +175,7 @@ fn is_host(name: &[u8]) -> bool
 /// How many of the lines name the host.
 fn host_count(head: &[u8], spans: &[HeaderSpan]) -> usize
     requires { All (IsHeaderWithin (length head.now)) spans.now }
-    ensures { result ≡ built.host_count (map (header_bytes head.now) spans.now) }
+    ensures { result ≡ heads.host_count (map (header_bytes head.now) spans.now) }
 {
     let mut count = 0;
     for span in spans {
@@ -186,8 +187,8 @@ fn host_count(head: &[u8], spans: &[HeaderSpan]) -> usize
 /// Where the parts of a head are, if the head is one.
 fn spans_of(head: &[u8], spans: &mut [HeaderSpan; FIELD_LIMIT]) -> Option<RequestSpans>
     ensures within { IfSome result (IsRequestWithin head.now spans.new) }
-    ensures found { IfSome result (λ r. (h : RequestHead) × built.IsWhole head.now h × IsRequestAt head.now spans.new r h) }
-    ensures none { IfNone result ((h : RequestHead) → built.IsWhole head.now h → ⊥) }
+    ensures found { IfSome result (λ r. (h : RequestHead) × heads.IsWhole head.now h × IsRequestAt head.now spans.new r h) }
+    ensures none { IfNone result ((h : RequestHead) → heads.IsWhole head.now h → ⊥) }
 {
     match parse_request(head, spans) {
         Ok(Status::Complete(found)) if found.len == head.len() => Some(found),
@@ -224,7 +225,7 @@ fn verdict_of(
 
 /// How many lines a head has from its first line on.
 fn line_count(head: &[u8]) -> usize
-    ensures { result ≡ built.line_count head.now }
+    ensures { result ≡ heads.line_count head.now }
 {
     let lines = &head[blank_length(head)..];
     lines.iter().filter(|byte| **byte == b'\n').count()

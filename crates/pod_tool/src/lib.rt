@@ -3,7 +3,6 @@
 
 mod asked;
 mod built;
-mod head;
 mod input;
 mod keeper;
 mod laws;
@@ -17,7 +16,6 @@ mod write;
 
 pub use asked::Asked;
 pub use built::Verdict;
-pub use head::{HeadEnd, blank_length, head_end};
 pub use input::{Reading, collect};
 pub use keeper::Keeper;
 pub use laws::one_reading;

@@ -1,11 +1,11 @@
 ghost use Rattle.std.specs.Prelude.{◌≡◌, ◌<◌, ◌≤◌, length, IfOk};
-ghost use Rattle.pod_tool.specs.Ends.{head_end};
+ghost use Rattle.http_head.specs.Ends.{head_end};
 ghost use Rattle.pod_tool.specs.Messages.{HasHead, rest_length};
 ghost use Rattle.pod_tool.specs.Nexts.{IsNext};
 
 use crate::asked::Asked;
 use crate::built::{Verdict, judge};
-use crate::head::{HeadEnd, blank_length, head_end};
+use http_head::{HeadEnd, blank_length, head_end};
 use pod_base::{Bytes, Mem, Request};
 use std::alloc::Global;
 

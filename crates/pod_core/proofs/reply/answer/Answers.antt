@@ -1,7 +1,6 @@
 use Rattle.std.proofs.Common.{sym, subst}
 use Rattle.std.proofs.lemmas.Result.{IfOk-weaker}
 use Rattle.http_out.specs.Text.{AreFieldLines}
-use Rattle.pod_core.specs.Reply.{reply_of}
 use Rattle.pod_core.proofs.LinesLemmas.{reply_lines}
 use Rattle.pod_core.proofs.reply.answer.Goals as goal
 

@@ -1,6 +1,6 @@
 use Rattle.std.proofs.Common.{◌≡◌, ◌≤◌, ◌+◌, drop, map}
 use Rattle.httparse.specs.Spans.{header_bytes}
-use Rattle.pod_tool.specs.Built.{host_count}
+use Rattle.http_head.specs.Heads.{host_count}
 use Rattle.pod_tool.proofs.built.host_count.Given as goal
 
 -- those so far and those of the other lines are those of all

@@ -1,7 +1,7 @@
 use Rattle.std.proofs.Common.{◌≡◌, ℕ, ◌≤◌, List, map, take, sym, ap, subst, ◌∙◌, arith}
 use Rattle.std.proofs.lemmas.Result.{IfOk-weaker}
 use Rattle.httparse.specs.Spans.{span_bytes, header_bytes}
-use Rattle.pod_tool.specs.Built.{line_count, lines_of}
+use Rattle.http_head.specs.Heads.{line_count, lines_of}
 use Rattle.pod_tool.specs.Verdicts.{IsJudged, verdict_of}
 use Rattle.pod_tool.proofs.JudgedLemmas.{judged}
 use Rattle.pod_tool.proofs.built.judge.Goals as goal

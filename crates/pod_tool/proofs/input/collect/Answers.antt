@@ -1,4 +1,4 @@
-use Rattle.std.proofs.Common.{◌≡◌, List, ℕ, ◌++◌, true, false, not, if◌then◌else◌, is_ok, is_err, Result, Ok, Err, take, sym, ap, subst, ◌∙◌, refl}
+use Rattle.std.proofs.Common.{◌≡◌, List, ℕ, ◌++◌, true, if◌then◌else◌, is_ok, is_err, Result, Ok, Err, take, sym, subst, ◌∙◌, refl}
 use Rattle.pod_tool.specs.Collected.{Reads}
 use Rattle.pod_tool.proofs.ReadsLemmas.{reads_more}
 use Rattle.pod_tool.proofs.input.collect.Goals as goal

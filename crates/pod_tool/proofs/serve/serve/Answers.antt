@@ -1,6 +1,5 @@
-use Rattle.std.proofs.Common.{◌≡◌, ◌≤◌, ◌+◌, ◌++◌, ℕ, List, drop, subst, sym, ◌∙◌, ap, arith, refl}
-use Rattle.std.specs.Option.{option_map}
-use Rattle.pod_tool.specs.Messages.{IsFirst, IsBad}
+use Rattle.std.proofs.Common.{ℕ, drop, arith, refl}
+use Rattle.pod_tool.specs.Messages.{IsBad}
 use Rattle.pod_tool.specs.Nexts.{IsNext}
 use Rattle.pod_tool.specs.declared.message.Message.TheVariants as message
 use Rattle.pod_tool.proofs.RunLemmas.{begins, base_stays, goes_on, bad_is_refused, refused_ends, memory_ends, partial_ends, fault_ends, next_at}

@@ -4,7 +4,7 @@ use Rattle.http_out.specs.Dates.{Dated}
 use Rattle.http_out.specs.Text.{response_text}
 use Rattle.pod_core.specs.State.{apply}
 use Rattle.pod_core.specs.declared.reply.Replied.{Replied}
-use Rattle.pod_tool.specs.Turns.{IsTaken, reply_now}
+use Rattle.pod_tool.specs.Turns.{reply_now}
 use Rattle.pod_tool.proofs.keeper.Keeper.take.Goals as goal
 
 pub returns-clause-taken : goal.returns-clause-taken
