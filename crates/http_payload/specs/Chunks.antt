@@ -66,6 +66,14 @@ pub record IsTrailers (used : ℕ) (text : List ℕ) : Type 0 where
   pub fits : used + length (trailer_texts lines) ≤ longest_trailers
   pub text_is : text ≡ trailer_texts lines ++ line_end
 
+-- what follows in a trailer line behind `used` bytes of trailer lines: the rest of it, its end, and the others
+pub record InTrailer (used : ℕ) (text : List ℕ) : Type 0 where
+  pub bytes : List ℕ
+  pub rest : List ℕ
+  pub stay : StayInLine bytes
+  pub others : IsTrailers (used + length bytes + 2) rest
+  pub text_is : text ≡ bytes ++ (line_end ++ rest)
+
 -- The text is the last line, whose size is 0, and the trailers.
 pub record IsLast (text : List ℕ) : Type 0 where
   pub line : ChunkLine
@@ -100,3 +108,11 @@ pub record EndsInChunks (before text : List ℕ) (ending : Ending) : Type 0 wher
   pub fits : length (before ++ chunk_bytes chunks) ≤ longest_body
   pub ends : EndsAs (before ++ chunk_bytes chunks) behind ending
   pub text_is : text ≡ chunk_texts chunks ++ behind
+
+-- what follows in a chunk of which `left` bytes are still to come, behind the bytes before: these, the end, and the rest
+pub record InChunk (left : ℕ) (before text : List ℕ) (ending : Ending) : Type 0 where
+  pub bytes : List ℕ
+  pub rest : List ℕ
+  pub size : length bytes ≡ left
+  pub ends : EndsInChunks (before ++ bytes) rest ending
+  pub text_is : text ≡ bytes ++ (line_end ++ rest)

@@ -4,7 +4,7 @@ use Rattle.http_head.specs.declared.form.BodyForm.{BodyForm}
 use Rattle.http_payload.specs.declared.fault.PayloadFault.{PayloadFault}
 use Rattle.http_payload.specs.declared.stage.Stage.{Stage}
 use Rattle.http_payload.specs.declared.stage.Stage.TheVariants.{Rest, Line, Chunk, ChunkEnd, Trailers, Trailer, TrailerEnd, LastEnd, Failed}
-use Rattle.http_payload.specs.Chunks.{Ending, Whole, Over, line_end, longest_body, longest_trailers, IsLine, StayInLine, IsTrailers, EndsInChunks}
+use Rattle.http_payload.specs.Chunks.{Ending, Whole, longest_body, longest_trailers, IsLine, IsTrailers, InTrailer, InChunk, EndsInChunks}
 use Rattle.http_payload.specs.Bodies.{Ends}
 
 -- what a payload holds: where it is, what has come of the line before a chunk, and the bytes of the body so far
@@ -39,12 +39,10 @@ fault_of h = fault_at h.stage
 abbrev pub LeftAt : Stage → List ℕ → List ℕ → List ℕ → Ending → Type 0
 LeftAt (Rest n) line body more ending = (length more ≡ n) × (ending ≡ Whole (body ++ more))
 LeftAt Line line body more ending = EndsInChunks body (line ++ more) ending
-LeftAt (Chunk n) line body more ending = (bytes : List ℕ) × (rest : List ℕ) × (length bytes ≡ n)
-    × (more ≡ bytes ++ (line_end ++ rest)) × EndsInChunks (body ++ bytes) rest ending
+LeftAt (Chunk n) line body more ending = InChunk n body more ending
 LeftAt ChunkEnd line body more ending = (rest : List ℕ) × (more ≡ 10 ∷ rest) × EndsInChunks body rest ending
 LeftAt (Trailers used) line body more ending = IsTrailers used more × (ending ≡ Whole body)
-LeftAt (Trailer used) line body more ending = (bytes : List ℕ) × (rest : List ℕ) × StayInLine bytes
-    × (more ≡ bytes ++ (line_end ++ rest)) × IsTrailers (used + length bytes + 2) rest × (ending ≡ Whole body)
+LeftAt (Trailer used) line body more ending = InTrailer used more × (ending ≡ Whole body)
 LeftAt (TrailerEnd used) line body more ending =
     (rest : List ℕ) × (more ≡ 10 ∷ rest) × IsTrailers (used + 1) rest × (ending ≡ Whole body)
 LeftAt LastEnd line body more ending = (more ≡ 10 ∷ []) × (ending ≡ Whole body)
@@ -73,17 +71,17 @@ IsSoundAt (TrailerEnd used) line body = used + 1 ≤ longest_trailers
 IsSoundAt LastEnd line body = ⊤
 IsSoundAt (Failed fault) line body = ⊤
 
--- the counts of trailer bytes are within their limit
-abbrev pub HasRoom : Stage → Type 0
-HasRoom (Rest n) = ⊤
-HasRoom Line = ⊤
-HasRoom (Chunk n) = ⊤
-HasRoom ChunkEnd = ⊤
-HasRoom (Trailers used) = used ≤ longest_trailers
-HasRoom (Trailer used) = used + 2 ≤ longest_trailers
-HasRoom (TrailerEnd used) = used + 1 ≤ longest_trailers
-HasRoom LastEnd = ⊤
-HasRoom (Failed fault) = ⊤
+-- a stage that takes bytes one by one, its count of trailer bytes within the limit
+abbrev pub TakesBytes : Stage → Type 0
+TakesBytes (Rest n) = ⊥
+TakesBytes Line = ⊥
+TakesBytes (Chunk n) = n ≡ 0
+TakesBytes ChunkEnd = ⊤
+TakesBytes (Trailers used) = used ≤ longest_trailers
+TakesBytes (Trailer used) = used + 2 ≤ longest_trailers
+TakesBytes (TrailerEnd used) = used + 1 ≤ longest_trailers
+TakesBytes LastEnd = ⊤
+TakesBytes (Failed fault) = ⊥
 
 abbrev pub IsSound : Held → Type 0
 IsSound h = IsSoundAt h.stage h.line h.body

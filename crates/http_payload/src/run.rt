@@ -1,7 +1,7 @@
 ghost use Rattle.std.specs.Prelude.{◌≡◌, ◌≢◌, ◌<◌, ◌≤◌, ◌++◌, List, ℕ, None, min, take, length, IsOk, IfOk, IfErr};
 ghost use Rattle.http_head.specs.declared.form.BodyForm.{BodyForm as Form};
 ghost use Rattle.http_payload.specs.Bodies.{IsFault};
-ghost use Rattle.http_payload.specs.Held.{held, IsSoundAt, HasRoom, Stands, fault_at};
+ghost use Rattle.http_payload.specs.Held.{held, IsSoundAt, TakesBytes, Stands, fault_at};
 ghost use Rattle.http_payload.specs.Steps.{Advances, Blocks, BehindLine};
 
 use crate::fault::PayloadFault;
@@ -62,7 +62,7 @@ fn line_step(line: &mut Vec<u8>, body: &[u8], bytes: &[u8]) -> Result<Step, Payl
 /// Reads one byte.
 fn byte_step(stage: Stage, bytes: &[u8]) -> Result<Step, PayloadFault>
     requires some { 0 < length bytes.now }
-    requires room { HasRoom stage }
+    requires byte { TakesBytes stage }
     ensures ok { IfOk result (λ step. (line body : List ℕ) → IsSoundAt stage line body
         → Advances (held stage line body) bytes.now step.taken (held step.stage line body)) }
     ensures fault { IfErr result (λ fault. (line body : List ℕ) → Blocks (held stage line body) bytes.now fault) }
@@ -78,6 +78,7 @@ fn advance(stage: Stage, line: &mut Vec<u8>, body: &mut Vec<u8>, bytes: &[u8]) -
     requires some { 0 < length bytes.now }
     requires sound { IsSoundAt stage line.old.items body.old.items }
     requires not_done { stage ≢ Stage.Rest 0 }
+    requires no_fault { fault_at stage ≡ None }
     ensures ok { IfOk result (λ step. Advances (held stage line.old.items body.old.items) bytes.now step.taken
         (held step.stage line.new.items body.new.items)) }
     ensures fault { IfErr result (Blocks (held stage line.old.items body.old.items) bytes.now) }

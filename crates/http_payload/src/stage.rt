@@ -1,6 +1,6 @@
-ghost use Rattle.std.specs.Prelude.{◌≡◌, ◌==◌, ◌∷◌, [], List, ℕ, if◌then◌else◌, Some, None, IfSome, IfNone};
-ghost use Rattle.http_payload.specs.Held.{held, IsSoundAt, HasRoom, fault_at};
-ghost use Rattle.http_payload.specs.Steps.{Steps, Never, TakesByte};
+ghost use Rattle.std.specs.Prelude.{◌≡◌, ◌≢◌, ◌<◌, ◌≤◌, ◌+◌, ◌∷◌, [], List, ℕ, IfSome, IfNone};
+ghost use Rattle.http_payload.specs.Held.{held, TakesBytes};
+ghost use Rattle.http_payload.specs.Steps.{Never, TakesByte};
 
 use crate::fault::PayloadFault;
 
@@ -32,13 +32,17 @@ pub(crate) enum Stage {
 
 /// That stage where the byte is the one that is wanted.
 fn behind(byte: u8, wanted: u8, next: Stage) -> Option<Stage>
-    ensures { result ≡ (if byte == wanted then Some next else None) }
+    ensures some { IfSome result (λ stage. (stage ≡ next) × (byte ≡ wanted)) }
+    ensures none { IfNone result (byte ≢ wanted) }
 {
     if byte == wanted { Some(next) } else { None }
 }
 
 /// The stage behind one more byte of a trailer line, after so many bytes of trailer lines. The byte isn't CR.
-fn in_trailer(used: u64, byte: u8) -> Option<Stage> {
+fn in_trailer(used: u64, byte: u8) -> Option<Stage>
+    ensures some { IfSome result (λ next. (next ≡ Stage.Trailer (used + 1)) × (used + 3 ≤ LONGEST_TRAILERS) × (byte ≢ 10)) }
+    ensures none { IfNone result (byte ≢ 10 → LONGEST_TRAILERS < used + 3) }
+{
     if byte != b'\n' && used <= LONGEST_TRAILERS - 3 {
         Some(Stage::Trailer(used + 1))
     } else {
@@ -48,7 +52,7 @@ fn in_trailer(used: u64, byte: u8) -> Option<Stage> {
 
 /// The stage behind one more byte, where a stage takes bytes one by one; none where nothing that begins so is a body.
 pub(crate) fn after_byte(stage: Stage, byte: u8) -> Option<Stage>
-    requires { HasRoom stage }
+    requires { TakesBytes stage }
     ensures some { IfSome result (TakesByte stage byte) }
     ensures none { IfNone result ((line body : List ℕ) → Never (held stage line body) (byte ∷ [])) }
 {
