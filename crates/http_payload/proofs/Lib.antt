@@ -3,6 +3,8 @@ pub mod ChunkSteps
 pub mod Fronts
 pub mod LineFacts
 pub mod LineLimits
+pub mod LineSteps
+pub mod RunSteps
 pub mod Standing
 pub mod TrailerSteps
 pub mod Uniqueness

@@ -3,16 +3,17 @@ use Rattle.std.proofs.Common.{◌≡◌, ◌≢◌, ℕ, ◌+◌, ◌-◌, ◌<�
 use Rattle.std.proofs.lemmas.Bool.{cases_lt, cases_eq}
 use Rattle.httparse.specs.Grammar.{ChunkLine, print_chunk_line, chunk_size}
 use Rattle.http_head.specs.declared.form.BodyForm.{BodyForm}
+use Rattle.http_head.specs.declared.form.BodyForm.TheVariants.{Empty, Length, Chunked}
 use Rattle.http_payload.specs.declared.fault.PayloadFault.{PayloadFault}
 use Rattle.http_payload.specs.declared.fault.PayloadFault.TheVariants.{Malformed, TooLarge, NoMemory}
 use Rattle.http_payload.specs.declared.stage.Stage.{Stage}
 use Rattle.http_payload.specs.declared.stage.Stage.TheVariants.{Rest, Line, Chunk, ChunkEnd, Trailers, Trailer, TrailerEnd, LastEnd, Failed}
 use Rattle.http_payload.specs.Chunks.{longest_body, longest_trailers, line_end, trailer_texts, IsLast, IsOverLine, Ending, Whole, Over, EndsInChunks, InChunk, InTrailer, IsTrailers}
 use Rattle.http_payload.specs.Bodies.{Ends, IsBody, HasNoEnd, IsFault, IsPartial}
-use Rattle.http_payload.specs.Held.{Held, held, Left, LeftAt, IsSound, IsSoundAt, IsOpenLine, Stands, IsDone, fault_of, fault_at}
+use Rattle.http_payload.specs.Held.{Held, held, Left, LeftAt, IsSound, IsSoundAt, IsOpenLine, Stands, IsDone, fault_of, fault_at, first_stage}
 use Rattle.http_payload.specs.Steps.{Steps, Never, Passes, Blocks}
 use Rattle.http_payload.proofs.Fronts.{fronts}
-use Rattle.http_payload.proofs.LineFacts.{zero_line, zero_text, zero_is_line}
+use Rattle.http_payload.proofs.LineFacts.{zero_line, zero_text, zero_is_line, open_at_first}
 use Rattle.http_payload.proofs.TrailerSteps.{empty_line}
 use Rattle.http_payload.proofs.ByteSteps.{some_end}
 use Rattle.http_payload.proofs.ChunkSteps.{line_first, closed_last, closed_over, from_size}
@@ -193,3 +194,25 @@ fault_of_text form h text bytes TooLarge stands sound not_done passes memory =
     (text ++ passes.0, passes.1, ap (λ (t : List ℕ). text ++ t) passes.2 ∙ sym (append_assoc text passes.0 passes.1),
         stands.ends passes.0 Over passes.3)
 fault_of_text form h text bytes NoMemory stands sound not_done blocks memory = absurd (memory refl)
+
+-- a payload at the beginning of a body
+stands_at_first : (form : BodyForm) → Stands form (held (first_stage form) [] []) []
+stands_at_first Empty = record {
+  no_fault = refl;
+  left = λ more ending h. (ap length h.0, h.1 ∙ ap Whole (sym h.0));
+  ends = λ more ending h. (nothing more h.0, h.1 ∙ ap Whole (nothing more h.0));
+}
+  where
+    nothing : (t : List ℕ) → length t ≡ 0 → t ≡ []
+    nothing [] e = refl
+    nothing (x ∷ t) e = absurd (omega arith)
+stands_at_first (Length n) = record { no_fault = refl; left = λ more ending h. h; ends = λ more ending h. h }
+stands_at_first Chunked = record { no_fault = refl; left = λ more ending h. h; ends = λ more ending h. h }
+
+pub stands_first : (form : BodyForm) (h : Held) → h ≡ held (first_stage form) [] [] → Stands form h []
+stands_first form h e = subst (λ k. Stands form k []) (sym e) (stands_at_first form)
+
+pub sound_first : (form : BodyForm) → IsSoundAt (first_stage form) [] []
+sound_first Empty = tt
+sound_first (Length n) = tt
+sound_first Chunked = (open_at_first, omega arith)

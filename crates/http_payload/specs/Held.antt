@@ -1,6 +1,7 @@
 use Rattle.std.specs.Prelude.{ℕ, ◌≡◌, ◌+◌, ◌≤◌, List, [], ◌∷◌, ◌++◌, length, Option, Some, None, ⊤}
 use Rattle.httparse.specs.Grammar.{ChunkLine, print_chunk_line}
 use Rattle.http_head.specs.declared.form.BodyForm.{BodyForm}
+use Rattle.http_head.specs.declared.form.BodyForm.TheVariants.{Empty, Length, Chunked}
 use Rattle.http_payload.specs.declared.fault.PayloadFault.{PayloadFault}
 use Rattle.http_payload.specs.declared.stage.Stage.{Stage}
 use Rattle.http_payload.specs.declared.stage.Stage.TheVariants.{Rest, Line, Chunk, ChunkEnd, Trailers, Trailer, TrailerEnd, LastEnd, Failed}
@@ -34,6 +35,12 @@ fault_at (Failed fault) = Some fault
 
 abbrev pub fault_of : Held → Option PayloadFault
 fault_of h = fault_at h.stage
+
+-- where a body of that form begins
+abbrev pub first_stage : BodyForm → Stage
+first_stage Empty = Rest 0
+first_stage (Length n) = Rest n
+first_stage Chunked = Line
 
 -- what is still to come, and how it ends then
 abbrev pub LeftAt : Stage → List ℕ → List ℕ → List ℕ → Ending → Type 0

@@ -45,13 +45,8 @@ impl Payload {
     pub fn new(alloc: Global, form: BodyForm) -> Payload
         ensures { Stands form result [] }
     {
-        let stage = match form {
-            BodyForm::Empty => Stage::Rest(0),
-            BodyForm::Length(length) => Stage::Rest(length),
-            BodyForm::Chunked => Stage::Line,
-        };
         Payload {
-            stage,
+            stage: Stage::first(form),
             line: Vec::new(alloc),
             body: Vec::new(alloc),
         }
@@ -64,7 +59,7 @@ impl Payload {
             → IsBody form text self.now.body }
         ensures partial { result ≡ false → (form : Form) (text : List ℕ) → Stands form self.now text → IsPartial form text }
     {
-        self.stage == Stage::Rest(0)
+        self.stage.is_end()
     }
 
     /// Reads the next piece of the body's bytes, up to the body's end. A whole body takes nothing more.
@@ -111,7 +106,7 @@ impl Payload {
                 self.stage = step.stage;
                 Ok(Fed {
                     taken: step.taken,
-                    done: step.stage == Stage::Rest(0),
+                    done: step.stage.is_end(),
                 })
             }
             Err(fault) => {

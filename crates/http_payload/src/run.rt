@@ -116,7 +116,7 @@ pub(crate) fn run(stage: Stage, line: &mut Vec<u8>, body: &mut Vec<u8>, piece: &
 {
     let mut taken = 0;
     let mut stage = stage;
-    while taken < piece.len() && stage != Stage::Rest(0) {
+    while taken < piece.len() && !stage.is_end() {
         let step = advance(stage, line, body, &piece[taken..])?;
         taken += step.taken;
         stage = step.stage;

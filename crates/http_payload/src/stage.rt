@@ -1,8 +1,9 @@
-ghost use Rattle.std.specs.Prelude.{◌≡◌, ◌≢◌, ◌<◌, ◌≤◌, ◌+◌, ◌∷◌, [], List, ℕ, IfSome, IfNone};
-ghost use Rattle.http_payload.specs.Held.{held, TakesBytes};
+ghost use Rattle.std.specs.Prelude.{◌≡◌, ◌≢◌, ◌<◌, ◌≤◌, ◌+◌, ◌∷◌, [], List, ℕ, false, IsTrue, IfSome, IfNone};
+ghost use Rattle.http_payload.specs.Held.{held, TakesBytes, first_stage};
 ghost use Rattle.http_payload.specs.Steps.{Never, TakesByte};
 
 use crate::fault::PayloadFault;
+use http_head::BodyForm;
 
 /// The most bytes of all trailer lines, their ends counted.
 const LONGEST_TRAILERS: u64 = 16_384;
@@ -28,6 +29,27 @@ pub(crate) enum Stage {
     LastEnd,
     /// That fault was told.
     Failed(PayloadFault),
+}
+
+impl Stage {
+    /// Whether the body is whole.
+    pub(crate) fn is_end(self) -> bool
+        ensures yes { IsTrue result → self ≡ Stage.Rest 0 }
+        ensures no { result ≡ false → self ≢ Stage.Rest 0 }
+    {
+        matches!(self, Stage::Rest(0))
+    }
+
+    /// The stage before any byte of a body of that form.
+    pub(crate) fn first(form: BodyForm) -> Stage
+        ensures { result ≡ first_stage form }
+    {
+        match form {
+            BodyForm::Empty => Stage::Rest(0),
+            BodyForm::Length(length) => Stage::Rest(length),
+            BodyForm::Chunked => Stage::Line,
+        }
+    }
 }
 
 /// That stage where the byte is the one that is wanted.
