@@ -1,5 +1,6 @@
 pub mod ByteSteps
 pub mod ChunkSteps
+pub mod Feeding
 pub mod Fronts
 pub mod LineFacts
 pub mod LineLimits
