@@ -11,7 +11,7 @@ use Rattle.http_payload.specs.Chunks.{Whole}
 use Rattle.http_payload.specs.Bodies.{IsBody, IsFault, IsPartial, Tells}
 use Rattle.http_payload.specs.Held.{Held, held, IsSound, Stands, IsDone, fault_of, fault_at}
 use Rattle.http_payload.proofs.Standing.{body_of, partial_of}
-use Rattle.http_payload.proofs.Uniqueness.{one_reading, no_fault_at_body, one_fault, no_fault_at_partial, no_body_at_partial}
+use Rattle.http_payload.proofs.Laws.{one_reading, no_fault_at_body, one_fault, no_fault_at_partial, no_body_at_partial}
 
 abbrev pub fed : ℕ → Bool → Fed
 fed taken done = record { taken = taken; done = done }
