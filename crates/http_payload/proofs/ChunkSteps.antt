@@ -127,7 +127,7 @@ behind_zero {before} {rest} {ending} line is_line zero h = by_case (opened h)
         absurd (omega (arith, over.over, ap chunk_size same.0, zero, fits))
     by_case (at_chunk c after is_chunk text_is ends) =
         let same = one_line line c.line rest ((c.bytes ++ line_end) ++ after) is_line is_chunk.line
-            (text_is ∙ append_assoc (print_chunk_line c.line) (c.bytes ++ line_end) after) in
+        (text_is ∙ append_assoc (print_chunk_line c.line) (c.bytes ++ line_end) after) in
         absurd (omega (arith, is_chunk.some, is_chunk.size, ap chunk_size same.0, zero))
 
 -- behind a line of another size that fits stands the chunk
@@ -145,7 +145,7 @@ behind_size {before} {rest} {ending} line is_line some room h = by_case (opened 
         absurd (omega (arith, over.over, ap chunk_size same.0, room))
     by_case (at_chunk c after is_chunk text_is ends) =
         let same = one_line line c.line rest ((c.bytes ++ line_end) ++ after) is_line is_chunk.line
-            (text_is ∙ append_assoc (print_chunk_line c.line) (c.bytes ++ line_end) after) in
+        (text_is ∙ append_assoc (print_chunk_line c.line) (c.bytes ++ line_end) after) in
         record {
           bytes = c.bytes;
           rest = after;
@@ -244,9 +244,12 @@ size_line_step line body bytes size l some room =
 -- a line whose size is too large
 pub over_line_passes : (line body bytes : List ℕ) (taken size : ℕ) → IsLineOf (line ++ take taken bytes) size
     → longest_body < length body + size → length body ≤ longest_body → Passes (held Line line body) bytes
-over_line_passes line body bytes taken size l over fits =
-    (take taken bytes, drop taken bytes, sym (take-append-drop taken bytes),
-        closed_over (record { line = l.line; is_line = l.is_line; over = omega (arith, over, l.size_is); text_is = l.text_is }) fits)
+over_line_passes line body bytes taken size l over fits = (
+  take taken bytes,
+  drop taken bytes,
+  sym (take-append-drop taken bytes),
+  closed_over (record { line = l.line; is_line = l.is_line; over = omega (arith, over, l.size_is); text_is = l.text_is }) fits,
+)
 
 -- where no line goes on so, no body does
 pub never_line : (line body bytes : List ℕ) → NeverLine (line ++ bytes) → Never (held Line line body) bytes

@@ -11,7 +11,7 @@ use Rattle.http_payload.specs.Chunks.{Whole}
 use Rattle.http_payload.specs.Bodies.{IsBody, IsFault, IsPartial, Tells}
 use Rattle.http_payload.specs.Held.{Held, held, IsSound, Stands, IsDone, fault_of, fault_at}
 use Rattle.http_payload.proofs.Standing.{body_of, partial_of}
-use Rattle.http_payload.proofs.Laws.{one_reading, no_fault_at_body, one_fault, no_fault_at_partial, no_body_at_partial}
+use Rattle.http_payload.proofs.LawLemmas.{one_reading, no_fault_at_body, one_fault, no_fault_at_partial, no_body_at_partial}
 
 abbrev pub fed : ℕ → Bool → Fed
 fed taken done = record { taken = taken; done = done }
@@ -34,7 +34,7 @@ pub whole_told : (form : BodyForm) (text piece : List ℕ) (taken : ℕ) (done :
     → Tells {A = Fed} (Ok (fed taken done)) (Ok (fed (length front - length text) true))
 whole_told form text piece taken true spelled within whole partial front rest body e is_body =
     let one = one_reading form (text ++ take taken piece) front (drop taken piece) rest (Whole spelled) (Whole body) (whole refl) is_body
-        (whole_piece text piece taken ∙ e) in
+    (whole_piece text piece taken ∙ e) in
     let size : taken ≡ length front - length text =
     omega (arith, ap length one.0, length-append text (take taken piece), length-take-le taken piece within) in
     inl (ap (λ n. Ok (fed n true)) size)

@@ -13,8 +13,13 @@ length-print_chunk_line line grammar =
     let digits = line.digits in
     let pad = line.pad in
     let extension = print_extension line.extension in
-    omega (arith, grammar.digits.0, length-append ((digits ++ pad) ++ extension) (print_end crlf),
-        length-append (digits ++ pad) extension, length-append digits pad)
+    omega (
+      arith,
+      grammar.digits.0,
+      length-append ((digits ++ pad) ++ extension) (print_end crlf),
+      length-append (digits ++ pad) extension,
+      length-append digits pad,
+    )
 
 -- the line of size 0
 abbrev pub zero_line : ChunkLine

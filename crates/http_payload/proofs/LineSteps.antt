@@ -40,9 +40,9 @@ kept_line old bytes n len size is_open begins fits =
     let past : length old < len = elim (cases_lt (length old) len) [
       | inl past ↦ past
       | inr short ↦
-        let cut = fronts (print_chunk_line begins.line.line) old (drop len text) (take n bytes) (sym whole)
-            (omega (arith, short, printed, ap length begins.line.text_is)) in
-        absurd (is_open.none begins.line.line cut.0 begins.line.is_line cut.1)
+          let cut = fronts (print_chunk_line begins.line.line) old (drop len text) (take n bytes) (sym whole)
+          (omega (arith, short, printed, ap length begins.line.text_is)) in
+          absurd (is_open.none begins.line.line cut.0 begins.line.is_line cut.1)
     ] in
     let cut = fronts old (take len text) (take n bytes) (drop len text) (sym (take-append-drop len text)) (omega (arith, past, printed)) in
     let more : length cut.0 ≡ len - length old = omega (arith, printed, ap length cut.1, length-append old cut.0) in
@@ -64,7 +64,11 @@ kept_line old bytes n len size is_open begins fits =
 -- a line has some bytes
 pub some_line : (text : List ℕ) (len size : ℕ) → BeginsWithLine text len size → (0 < len) × (len ≤ length text)
 some_line text len size begins = (
-  omega (arith, length-take-le len text begins.within, ap length begins.line.text_is,
-      length-print_chunk_line begins.line.line begins.line.is_line.grammar),
+  omega (
+    arith,
+    length-take-le len text begins.within,
+    ap length begins.line.text_is,
+    length-print_chunk_line begins.line.line begins.line.is_line.grammar,
+  ),
   begins.within,
 )

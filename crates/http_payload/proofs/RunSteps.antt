@@ -66,7 +66,7 @@ chunk_advances left taken line body bytes new some some_bytes empty fits is_take
       some = omega arith;
       within = omega arith;
       steps = subst (λ k. Steps (held (Chunk left) line body) (take taken bytes) (held (Chunk (left - k)) line (body ++ take taken bytes)))
-        read (chunk_bytes_step left line body (take taken bytes) (omega arith));
+          read (chunk_bytes_step left line body (take taken bytes) (omega arith));
       sound = (empty, omega (arith, fits, read, length-append body (take taken bytes)));
       no_fault = refl;
     })

@@ -79,7 +79,7 @@ from_line used {b} {more} passes h =
       each = ((omega arith, (passes, h.stay)), h.others.each);
       fits = omega (arith, h.others.fits, length-append (bytes ++ line_end) texts, length-append bytes line_end);
       text_is = ap (λ (t : List ℕ). b ∷ t)
-        (h.text_is ∙ ap (λ (t : List ℕ). bytes ++ (line_end ++ t)) h.others.text_is ∙ sym regroup);
+          (h.text_is ∙ ap (λ (t : List ℕ). bytes ++ (line_end ++ t)) h.others.text_is ∙ sym regroup);
     }
 
 -- a byte in a trailer line that isn't its end

@@ -51,8 +51,7 @@ returns-in-Ok c = record {
       (whole_after c form text stands) (partial_after c form text stands) is_fault;
   ended = λ done.
       let kept = c.in-Ok.ensures.done (ap (λ h. h.stage) c.self.view_is ∙ done) in
-      let stage = kept.1 ∙ sym (ap (λ h. h.stage) c.self.view_is ∙ done) in
-      (
+      let stage = kept.1 ∙ sym (ap (λ h. h.stage) c.self.view_is ∙ done) in (
         same_held stage kept.2 kept.3 ∙ c.self.view_is,
         same_fed kept.0 (must_be_true c.is_end.result (λ told. c.is_end.ensures.no told kept.1)),
       );

@@ -73,7 +73,7 @@ pub partial_before : (form : BodyForm) (text more : List ℕ) (ending : Ending) 
 partial_before form text more ending ends some = record {
   no_end = λ front rest other text_is front_ends.
       let one = one_reading form front (text ++ more) (rest ++ more) [] other ending front_ends ends
-          (sym (append_assoc front rest more) ∙ ap (λ (t : List ℕ). t ++ more) (sym text_is) ∙ sym (append-nil (text ++ more))) in
+      (sym (append_assoc front rest more) ∙ ap (λ (t : List ℕ). t ++ more) (sym text_is) ∙ sym (append-nil (text ++ more))) in
       some (nothing_behind rest more one.1);
   more = more;
   ending = ending;
