@@ -1,17 +1,15 @@
 -- The line before a chunk and the chunk, read in pieces.
-use Rattle.std.proofs.Common.{◌≡◌, ◌≢◌, ℕ, ◌+◌, ◌-◌, ◌<◌, ◌≤◌, Bool, true, false, IsTrue, List, [], ◌∷◌, ◌++◌, length, take, drop, min, refl, sym, ap, ◌∙◌, subst, arith, length-append, append_assoc, append-nil, Option, Some, None, inl, inr}
+use Rattle.std.proofs.Common.{◌≡◌, ℕ, ◌+◌, ◌-◌, ◌<◌, ◌≤◌, List, [], ◌∷◌, ◌++◌, length, take, drop, refl, sym, ap, ◌∙◌, subst, arith, length-append, append_assoc, append-nil}
 use Rattle.std.proofs.lemmas.List.{take-append-drop}
 use Rattle.std.specs.List.{AllByRecursion}
 use Rattle.httparse.specs.Grammar.{ChunkLine, print_chunk_line, chunk_size}
 use Rattle.httparse.proofs.ChunkLemmas.{chunk_line_unique}
-use Rattle.http_payload.specs.declared.stage.Stage.{Stage}
 use Rattle.http_payload.specs.declared.stage.Stage.TheVariants.{Rest, Line, Chunk as InTheChunk, Trailers}
 use Rattle.http_payload.specs.Chunks.{longest_body, line_end, IsLine, Chunk, chunk_text, IsChunk, chunk_texts, chunk_bytes, IsTrailers, IsLast, IsOverLine, Ending, Whole, Over, EndsAs, EndsInChunks, InChunk}
-use Rattle.http_payload.specs.Held.{held, Left, IsOpenLine}
+use Rattle.http_payload.specs.Held.{held}
 use Rattle.http_payload.specs.Lines.{NeverLine, IsLineOf}
 use Rattle.http_payload.specs.Steps.{Steps, Never, Passes}
-use Rattle.http_payload.proofs.Fronts.{fronts, same_fronts}
-use Rattle.http_payload.proofs.LineFacts.{length-print_chunk_line}
+use Rattle.http_payload.proofs.Fronts.{fronts}
 
 -- one line stands at the front of a text
 pub one_line : (l k : ChunkLine) (r q : List ℕ) → IsLine l → IsLine k

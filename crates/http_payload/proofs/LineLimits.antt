@@ -1,15 +1,15 @@
 -- The limit of a line before a chunk: which beginnings can still end within it.
-use Rattle.std.proofs.Common.{◌≡◌, ◌≢◌, ℕ, ◌+◌, ◌-◌, ◌<◌, ◌≤◌, ◌⊎◌, Bool, true, false, IsTrue, List, [], ◌∷◌, ◌++◌, length, get_or, take, drop, refl, sym, ap, ◌∙◌, subst, arith, length-append, append_assoc, append-nil, Option, Some, None, inl, inr}
+use Rattle.std.proofs.Common.{◌≡◌, ◌≢◌, ℕ, ◌+◌, ◌<◌, ◌≤◌, IsTrue, List, [], ◌∷◌, ◌++◌, length, get_or, refl, sym, ap, ◌∙◌, subst, arith, length-append, append_assoc, append-nil, Option, Some, None, inl, inr}
 use Rattle.std.specs.List.{All}
 use Rattle.std.specs.Char.{is_ascii_hexdigit}
-use Rattle.std.proofs.lemmas.Bool.{cases_lt, cases_eq}
+use Rattle.std.proofs.lemmas.Bool.{cases_lt}
 use Rattle.std.proofs.lemmas.Bool.Decides.{nat_tests}
 use Rattle.std.proofs.lemmas.List.{get_or_append_left}
 use Rattle.std.proofs.lemmas.List.Elements.{All-nil, All-cons, All-append, All-weaker, All-get_or}
 use Rattle.std.proofs.Math.Seq.{get_or-append_seam}
-use Rattle.httparse.specs.Grammar.{ChunkLine, IsChunkLine, print_chunk_line, print_extension, print_end, crlf, is_ows, is_extension_byte, HasNoChunkLine, IsExtension, ReadsChunkLine}
+use Rattle.httparse.specs.Grammar.{ChunkLine, IsChunkLine, print_chunk_line, print_extension, is_ows, is_extension_byte, HasNoChunkLine, IsExtension, ReadsChunkLine}
 use Rattle.httparse.proofs.ChunkLemmas.{chunk_line_unique}
-use Rattle.http_payload.specs.Chunks.{IsLine, longest_line}
+use Rattle.http_payload.specs.Chunks.{longest_line}
 use Rattle.http_payload.specs.Held.{IsOpenLine}
 use Rattle.http_payload.specs.Lines.{CanEnd, NeverLine}
 use Rattle.http_payload.proofs.Fronts.{fronts, All-front}

@@ -1,14 +1,13 @@
 -- Reading on in the line before a chunk.
-use Rattle.std.proofs.Common.{◌≡◌, ℕ, ◌+◌, ◌-◌, ◌<◌, ◌≤◌, List, [], ◌∷◌, ◌++◌, length, take, drop, refl, sym, ap, ◌∙◌, subst, arith, length-append, append_assoc, append-nil, inl, inr}
+use Rattle.std.proofs.Common.{◌≡◌, ℕ, ◌+◌, ◌-◌, ◌<◌, ◌≤◌, List, ◌++◌, length, take, drop, sym, ap, ◌∙◌, arith, length-append, append_assoc, inl, inr}
 use Rattle.std.proofs.lemmas.Bool.{cases_lt}
 use Rattle.std.proofs.Math.Seq.{take-append_seam}
 use Rattle.std.proofs.lemmas.List.{take-append-drop, length-take-le}
-use Rattle.httparse.specs.Grammar.{ChunkLine, print_chunk_line}
+use Rattle.httparse.specs.Grammar.{print_chunk_line}
 use Rattle.http_payload.specs.declared.fault.PayloadFault.{PayloadFault}
 use Rattle.http_payload.specs.declared.fault.PayloadFault.TheVariants.{Malformed, TooLarge, NoMemory}
-use Rattle.http_payload.specs.Chunks.{IsLine}
 use Rattle.http_payload.specs.Held.{IsOpenLine}
-use Rattle.http_payload.specs.Lines.{NeverLine, LineFault, IsLineOf, BeginsWithLine}
+use Rattle.http_payload.specs.Lines.{LineFault, IsLineOf, BeginsWithLine}
 use Rattle.http_payload.proofs.Fronts.{fronts}
 use Rattle.http_payload.proofs.LineFacts.{length-print_chunk_line}
 

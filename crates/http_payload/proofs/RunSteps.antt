@@ -1,5 +1,5 @@
 -- The steps of a run, from what its calls tell.
-use Rattle.std.proofs.Common.{◌≡◌, ◌≢◌, ℕ, ◌+◌, ◌-◌, ◌<◌, ◌≤◌, List, [], ◌∷◌, ◌++◌, length, take, drop, min, refl, sym, ap, ◌∙◌, subst, arith, length-append, append_assoc, append-nil, Result, Ok, Err, None}
+use Rattle.std.proofs.Common.{◌≡◌, ℕ, ◌+◌, ◌-◌, ◌<◌, ◌≤◌, List, [], ◌++◌, length, take, drop, min, refl, sym, ap, ◌∙◌, subst, arith, length-append, Ok, Err}
 use Rattle.std.proofs.lemmas.List.{take-append-drop, length-take-le, length-drop, take_all}
 use Rattle.std.proofs.Math.Seq.{take-append-add}
 use Rattle.http_payload.specs.declared.fault.PayloadFault.{PayloadFault}

@@ -1,17 +1,17 @@
 -- What a payload's answers say of the texts that it stands for.
-use Rattle.std.proofs.Common.{◌≡◌, ◌≢◌, ℕ, ◌+◌, ◌-◌, ◌<◌, ◌≤◌, ◌⊎◌, Bool, true, false, IsTrue, List, [], ◌∷◌, ◌++◌, length, take, drop, zero, suc, refl, sym, ap, ◌∙◌, subst, arith, length-append, append_assoc, append-nil, inl, inr, None, Some, Option}
+use Rattle.std.proofs.Common.{◌≡◌, ◌≢◌, ℕ, ◌+◌, ◌≤◌, List, [], ◌∷◌, ◌++◌, length, zero, suc, refl, sym, ap, ◌∙◌, subst, arith, length-append, append_assoc, append-nil, inl, inr, None, Some}
 use Rattle.std.proofs.lemmas.Bool.{cases_lt, cases_eq}
-use Rattle.httparse.specs.Grammar.{ChunkLine, print_chunk_line, chunk_size}
+use Rattle.httparse.specs.Grammar.{chunk_size}
 use Rattle.http_head.specs.declared.form.BodyForm.{BodyForm}
 use Rattle.http_head.specs.declared.form.BodyForm.TheVariants.{Empty, Length, Chunked}
 use Rattle.http_payload.specs.declared.fault.PayloadFault.{PayloadFault}
 use Rattle.http_payload.specs.declared.fault.PayloadFault.TheVariants.{Malformed, TooLarge, NoMemory}
 use Rattle.http_payload.specs.declared.stage.Stage.{Stage}
 use Rattle.http_payload.specs.declared.stage.Stage.TheVariants.{Rest, Line, Chunk, ChunkEnd, Trailers, Trailer, TrailerEnd, LastEnd, Failed}
-use Rattle.http_payload.specs.Chunks.{longest_body, longest_trailers, line_end, trailer_texts, IsLast, IsOverLine, Ending, Whole, Over, EndsInChunks, InChunk, InTrailer, IsTrailers}
+use Rattle.http_payload.specs.Chunks.{longest_body, line_end, trailer_texts, Ending, Whole, Over, EndsInChunks}
 use Rattle.http_payload.specs.Bodies.{Ends, IsBody, HasNoEnd, IsFault, IsPartial}
 use Rattle.http_payload.specs.Held.{Held, held, Left, LeftAt, IsSound, IsSoundAt, IsOpenLine, Stands, IsDone, fault_of, fault_at, first_stage}
-use Rattle.http_payload.specs.Steps.{Steps, Never, Passes, Blocks}
+use Rattle.http_payload.specs.Steps.{Steps, Blocks}
 use Rattle.http_payload.proofs.Fronts.{fronts}
 use Rattle.http_payload.proofs.LineFacts.{zero_line, zero_text, zero_is_line, open_at_first}
 use Rattle.http_payload.proofs.TrailerSteps.{empty_line}

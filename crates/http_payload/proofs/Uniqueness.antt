@@ -1,18 +1,11 @@
 -- A text of chunks has one reading.
-use Rattle.std.proofs.Common.{◌≡◌, ◌≢◌, ℕ, ◌+◌, ◌-◌, ◌<◌, ◌≤◌, ◌⊎◌, Bool, true, false, IsTrue, List, [], ◌∷◌, ◌++◌, length, refl, sym, ap, ◌∙◌, subst, arith, length-append, append_assoc, append-nil, inl, inr}
+use Rattle.std.proofs.Common.{◌≡◌, ℕ, ◌≤◌, List, [], ◌∷◌, ◌++◌, length, refl, sym, ap, ◌∙◌, subst, arith, length-append, append_assoc, append-nil}
 use Rattle.std.specs.List.{AllByRecursion}
-use Rattle.std.proofs.lemmas.List.{append_cancel_right}
-use Rattle.std.proofs.lemmas.Bool.{cases_lt}
 use Rattle.httparse.specs.Grammar.{ChunkLine, print_chunk_line, chunk_size}
-use Rattle.http_head.specs.declared.form.BodyForm.{BodyForm}
-use Rattle.http_head.specs.declared.form.BodyForm.TheVariants.{Empty, Length, Chunked}
-use Rattle.http_payload.specs.declared.fault.PayloadFault.{PayloadFault}
-use Rattle.http_payload.specs.declared.fault.PayloadFault.TheVariants.{Malformed, TooLarge, NoMemory}
 use Rattle.http_payload.specs.Chunks.{longest_body, line_end, StayInLine, IsTrailer, trailer_texts, IsTrailers, Chunk, chunk_text, IsChunk, chunk_texts, chunk_bytes, IsLast, IsOverLine, Ending, Whole, Over, EndsAs, EndsInChunks}
-use Rattle.http_payload.specs.Bodies.{Ends, IsBody, HasNoEnd, IsFault, IsPartial}
 use Rattle.http_payload.proofs.Fronts.{same_fronts}
 use Rattle.http_payload.proofs.TrailerSteps.{stays_no_cr}
-use Rattle.http_payload.proofs.ChunkSteps.{one_line, Opens, at_last, at_over, at_chunk, opens_as, opened}
+use Rattle.http_payload.proofs.ChunkSteps.{one_line, Opens, at_last, at_over, at_chunk, opened}
 
 -- a line that has no CR ends at its first CR LF
 one_trailer : (l m x y : List ℕ) → StayInLine l → StayInLine m → l ++ (line_end ++ x) ≡ m ++ (line_end ++ y) → x ≡ y

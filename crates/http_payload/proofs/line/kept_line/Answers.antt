@@ -1,4 +1,4 @@
-use Rattle.std.proofs.Common.{◌≡◌, ◌+◌, ◌-◌, ◌≤◌, ◌++◌, List, ℕ, length, take, ◌∙◌, ap, sym, arith, subst, IfErr, min}
+use Rattle.std.proofs.Common.{◌≡◌, ◌-◌, ◌++◌, length, take, ◌∙◌, sym, arith, subst}
 use Rattle.std.proofs.lemmas.Result.{err_from_is_err_and}
 use Rattle.http_payload.specs.Lines.{LineFault, BeginsWithLine, IsLineOf}
 use Rattle.http_payload.proofs.LineSteps.{fault_wider, KeptLine, kept_line}

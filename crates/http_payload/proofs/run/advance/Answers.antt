@@ -1,4 +1,4 @@
-use Rattle.std.proofs.Common.{◌≡◌, ◌-◌, List, ℕ, sym, subst}
+use Rattle.std.proofs.Common.{◌-◌, sym, subst}
 use Rattle.http_payload.specs.declared.stage.Stage.TheVariants.{Chunk}
 use Rattle.http_payload.specs.Held.{held, IsSoundAt}
 use Rattle.http_payload.specs.Steps.{Advances}

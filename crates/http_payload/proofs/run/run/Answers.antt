@@ -1,4 +1,4 @@
-use Rattle.std.proofs.Common.{◌≡◌, ◌+◌, ◌++◌, ◌∙◌, List, ℕ, take, drop, length, refl, ap, sym, subst, arith, append_assoc}
+use Rattle.std.proofs.Common.{◌++◌, ◌∙◌, List, ℕ, take, drop, refl, ap, sym, subst, arith, append_assoc}
 use Rattle.std.proofs.lemmas.Result.{err_from_is_err_and}
 use Rattle.std.proofs.lemmas.List.{take-append-drop, length-drop}
 use Rattle.http_payload.specs.Bodies.{IsFault}
