@@ -54,13 +54,13 @@ whole_text response date close =
     let lengths = length_line response ++ (codes "\r\n" ++ body) in
     let fields = field_lines response.fields ++ (closing_line response.status close ++ lengths) in
     sym (seven (status_line response.status) (field_line (codes "Date") date) (field_lines response.fields)
-        (closing_line response.status close) (length_line response) (codes "\r\n") body
+    (closing_line response.status close) (length_line response) (codes "\r\n") body
     ∙ status_pieces (codes "HTTP/1.1 ") (code_digits response.status) (codes " ") (phrase_of response.status)
-        (field_line (codes "Date") date ++ fields)
+    (field_line (codes "Date") date ++ fields)
     ∙ ap (λ (t : List ℕ). codes "HTTP/1.1 " ++ (code_digits response.status ++ (codes " " ++ (phrase_of response.status ++ (codes "\r\n" ++ t)))))
-        (field_pieces (codes "Date") date fields
-        ∙ ap (λ (t : List ℕ). codes "Date: " ++ (date ++ (codes "\r\n" ++ (field_lines response.fields ++ (closing_line response.status close ++ t)))))
-            (length_pieces (has_no_length response.status) (decimal (body_length response.body)) (codes "\r\n" ++ body))))
+    (field_pieces (codes "Date") date fields
+    ∙ ap (λ (t : List ℕ). codes "Date: " ++ (date ++ (codes "\r\n" ++ (field_lines response.fields ++ (closing_line response.status close ++ t)))))
+    (length_pieces (has_no_length response.status) (decimal (body_length response.body)) (codes "\r\n" ++ body))))
 
 -- ---- bytes that are given
 
@@ -89,7 +89,7 @@ gives_rest piece behind next slice new_slice skip count is_count is_new some sam
       within = omega (arith, whole, length-append (drop skip piece) behind);
       room = omega arith;
       given = is_new ∙ ap (λ (t : List ℕ). t ++ drop count slice)
-        (sym (take-append-le count (drop skip piece) behind (omega (arith, whole))));
+          (sym (take-append-le count (drop skip piece) behind (omega (arith, whole))));
       left = same ∙ sym (drop-append_seam (drop skip piece) behind) ∙ ap (λ n. drop n (drop skip piece ++ behind)) whole;
     }
 
@@ -112,11 +112,11 @@ gives_more old middle new slice first_slice rest_slice given more x y =
       within = omega (arith, x.within, y.within, ap length x.left, length-drop given old);
       room = omega (arith, x.room, y.room, ap length tail, length-drop given slice);
       given = ap (λ (t : List ℕ). t ++ rest_slice) front
-        ∙ ap (λ (t : List ℕ). take given old ++ t) (y.given ∙ ap (λ (t : List ℕ). take more t ++ drop more (drop given first_slice)) x.left
-            ∙ ap (λ (t : List ℕ). take more (drop given old) ++ drop more t) tail)
-        ∙ sym (append_assoc (take given old) (take more (drop given old)) (drop more (drop given slice)))
-        ∙ ap (λ (t : List ℕ). t ++ drop more (drop given slice)) (sym sum)
-        ∙ ap (λ (t : List ℕ). take (given + more) old ++ t) (drop-drop more given slice);
+          ∙ ap (λ (t : List ℕ). take given old ++ t) (y.given ∙ ap (λ (t : List ℕ). take more t ++ drop more (drop given first_slice)) x.left
+          ∙ ap (λ (t : List ℕ). take more (drop given old) ++ drop more t) tail)
+          ∙ sym (append_assoc (take given old) (take more (drop given old)) (drop more (drop given slice)))
+          ∙ ap (λ (t : List ℕ). t ++ drop more (drop given slice)) (sym sum)
+          ∙ ap (λ (t : List ℕ). take (given + more) old ++ t) (drop-drop more given slice);
       left = y.left ∙ ap (λ (t : List ℕ). drop more t) x.left ∙ drop-drop more given old;
     }
 

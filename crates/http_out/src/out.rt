@@ -83,7 +83,11 @@ fn has_no_length(status: u16) -> bool
 fn closing_line(status: u16, close: bool) -> &'static [u8]
     ensures { result.now ≡ closing_line status close }
 {
-    if close && status != 101 { b"Connection: close\r\n" } else { b"" }
+    if close && status != 101 {
+        b"Connection: close\r\n"
+    } else {
+        b""
+    }
 }
 
 impl Pieces {

@@ -53,7 +53,8 @@ impl Place {
             Place::Colon(i) if i < fields => Place::Value(i),
             Place::Value(i) if i < fields => Place::LineEnd(i),
             Place::LineEnd(i) if i < fields => Place::Name(i + 1),
-            Place::Name(_) | Place::Colon(_) | Place::Value(_) | Place::LineEnd(_) => Place::Closing,
+            Place::Name(_) | Place::Colon(_) | Place::Value(_) | Place::LineEnd(_) =>
+                Place::Closing,
             Place::Closing => Place::LengthName,
             Place::LengthName => Place::Length,
             Place::Length => Place::LengthEnd,
