@@ -1,5 +1,5 @@
 -- The pieces of a response's text, one after the other, are the text.
-use Rattle.std.proofs.Common.{◌≡◌, ◌≢◌, ℕ, ◌+◌, ◌-◌, ◌<◌, ◌≤◌, Bool, true, false, cond, List, [], ◌∷◌, ◌++◌, length, take, drop, min, codes, decimal, refl, sym, ap, ◌∙◌, subst, arith, length-append, append_assoc, append-nil}
+use Rattle.std.proofs.Common.{◌≡◌, ◌≢◌, ℕ, ◌+◌, ◌-◌, ◌<◌, ◌≤◌, Bool, true, false, cond, List, [], ◌∷◌, ◌++◌, length, take, drop, min, codes, decimal, refl, sym, ap, ◌∙◌, arith, length-append, append_assoc, append-nil}
 use Rattle.std.proofs.lemmas.List.{take-append-drop, length-take-le, length-drop, drop_all, take_all, drop_more, drop-drop, take-append-le, drop-append-le}
 use Rattle.std.proofs.Math.Seq.{take-append-add, take-append_seam, drop-append_seam}
 use borrow.Rule.Slice.PartMut.{put_mid}
@@ -7,8 +7,8 @@ use Rattle.http.specs.StatusCode.{code_digits}
 use Rattle.pod_base.specs.declared.field.Field.{Field}
 use Rattle.pod_base.specs.declared.response.Response.{Response}
 use Rattle.http_out.specs.declared.place.Place.TheVariants.{Version, Name, LineEnd}
-use Rattle.http_out.specs.Text.{line, field_line, phrase_of, status_line, field_lines, closing_line, has_no_length, body_length, length_line, body_text, head_text, response_text}
-use Rattle.http_out.specs.Pieces.{length_name, length_digits, length_end, name_of, behind_name, behind_line, piece_at, behind_at, left_at, from_fields, from_closing, from_length, from_head_end, Gives}
+use Rattle.http_out.specs.Text.{line, field_line, phrase_of, status_line, field_lines, closing_line, has_no_length, body_length, length_line, body_text, response_text}
+use Rattle.http_out.specs.Pieces.{name_of, behind_name, behind_line, piece_at, behind_at, left_at, from_fields, from_closing, Gives}
 
 -- the pieces of a field's line
 field_pieces : (name value behind : List ℕ)

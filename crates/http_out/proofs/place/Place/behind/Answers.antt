@@ -1,4 +1,4 @@
-use Rattle.std.proofs.Common.{◌≡◌, ◌∙◌, ap, sym, arith}
+use Rattle.std.proofs.Common.{◌∙◌, ap, sym, arith}
 use Rattle.http_out.specs.Pieces.{behind_at}
 use Rattle.http_out.proofs.PieceLemmas.{behind_line_end}
 use Rattle.http_out.proofs.place.Place.behind.Goals as goal
