@@ -1,0 +1,9 @@
+//! The disks of a store: what their calls do, and what a crash may leave at each moment.
+//!
+//! A disk in memory tells its content and all that a crash may leave of it. One over a real file tells
+//! nothing; it is thin, and trusted.
+#![tactic(auto)]
+
+mod disk;
+
+pub use disk::Disk;
