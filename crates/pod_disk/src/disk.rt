@@ -12,7 +12,7 @@ use pod_io::Failed;
 /// was written is not on the disk yet: between two syncs each written range, and all past the old end, may
 /// hold any bytes. After a call that failed nothing is known of its range until a later sync succeeds. The
 /// content is one of the images at that moment, and that is all that such a call says of it.
-pub trait Disk {
+pub trait Disk: Drop {
     /// What reads give, where the disk tells it. A disk that does not tell it has no images.
     ghost content: { Self → Option (List ℕ) };
 

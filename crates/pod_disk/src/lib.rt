@@ -5,5 +5,7 @@
 #![tactic(auto)]
 
 mod disk;
+mod place;
 
 pub use disk::Disk;
+pub use place::{Disks, Place};
