@@ -4,8 +4,10 @@
 //! nothing; it is thin, and trusted.
 #![tactic(auto)]
 
+mod call;
 mod disk;
 mod place;
 
+pub use call::{Call, Noted};
 pub use disk::Disk;
 pub use place::{Disks, Place};
