@@ -1,9 +1,9 @@
 -- What one more call makes of the content and the images of a disk in memory.
-use Rattle.std.proofs.Common.{◌≡◌, ◌⊎◌, inl, inr, ⊎_elim, ℕ, ◌+◌, ◌≤◌, Bool, true, false, List, [], ◌∷◌, ◌++◌, length, take, Some, refl, sym, ◌∙◌, ap, subst, arith, length-append}
+use Rattle.std.proofs.Common.{◌≡◌, ◌⊎◌, inl, inr, ⊎_elim, ℕ, ◌+◌, ◌≤◌, Bool, true, false, List, [], ◌∷◌, ◌++◌, length, take, Some, Result, Ok, Err, OnOk, OnErr, refl, sym, ◌∙◌, ap, subst, arith, length-append}
 use Rattle.std.proofs.lemmas.List.{take_all, take-append-le}
 use Rattle.std.proofs.lemmas.Bool.{cases_lt}
 use Rattle.pod_disk.specs.Disk.{Passes}
-use Rattle.pod_disk.specs.Record.{Kept, noted_as, done_by, content_after, Step, left_by, images_after, content_at, content_of, told, ImageAt, IsImage, WasImage, MayLeave, moment_of, LeftSince}
+use Rattle.pod_disk.specs.Record.{Kept, noted_as, done_by, content_after, Step, left_by, images_after, content_at, content_of, told, ImageAt, IsImage, WasImage, MayLeave, moment_of, LeftSince, Makes, Settles}
 use Rattle.pod_disk.specs.Laws.{no_step, content_is_image}
 use Rattle.pod_disk.specs.declared.call.Call.{Call}
 use Rattle.pod_disk.specs.declared.call.Noted.{Noted}
@@ -13,6 +13,13 @@ use Rattle.pod_disk.specs.declared.call.Call.TheVariants.{Length, Read, Write, C
 content_push : (b : List ℕ) (calls : List Noted) (noted : Noted) → content_at b (calls ++ noted ∷ []) ≡ content_after (content_at b calls) noted
 content_push b [] noted = refl
 content_push b (first ∷ calls) noted = content_push (content_after b first) calls noted
+
+pub replay_done : (b : List ℕ) (calls later : List Noted) (call : Call) → later ≡ calls ++ noted_as call true ∷ [] → content_at b later ≡ done_by call (content_at b calls)
+replay_done b calls later call is = ap (content_at b) is ∙ content_push b calls (noted_as call true)
+
+pub replay_failed : (b : List ℕ) (calls later : List Noted) (call : Call) → (later ≡ calls ++ noted_as call false ∷ []) ⊎ (later ≡ calls) → content_at b later ≡ content_at b calls
+replay_failed b calls later call (inl added) = ap (content_at b) added ∙ content_push b calls (noted_as call false)
+replay_failed b calls later call (inr kept) = ap (content_at b) kept
 
 image_push : (b : List ℕ) (images : List ℕ → Type 0) (calls : List Noted) (noted : Noted) (c : List ℕ) → ImageAt b images (calls ++ noted ∷ []) c → images_after (content_at b calls) (ImageAt b images calls) noted c
 image_push b images [] noted c image = image
@@ -87,5 +94,29 @@ module _ (old new : Kept) where
   content_failed call first (inr kept) = ap (λ (b : List ℕ). content_at b new.noted) first ∙ ap (content_at old.first) kept
 
   -- after a sync that succeeded the content is the only image
-  pub durable_after : new.first ≡ old.first → Adds Sync true → (c : List ℕ) → MayLeave new c → told new ≡ Some c
+  durable_after : new.first ≡ old.first → Adds Sync true → (c : List ℕ) → MayLeave new c → told new ≡ Some c
   durable_after first is c image = ap Some (content_added Sync true first is ∙ sym (image_added Sync true c first is image))
+
+  settles : (call : Call) → new.first ≡ old.first → Adds call true → Settles call new
+  settles Sync first is = durable_after first is
+  settles Length first is = tt
+  settles (Read at count) first is = tt
+  settles (Write at bytes) first is = tt
+  settles (Shorten len) first is = tt
+
+  module _ {T E : Type 0} (call : Call) where
+    pub passes_made : (result : Result T E) → Makes call result old new → Passes MayLeave moment_of LeftSince (Step call) old new
+    passes_made (Ok x) makes = passes_added call true makes.first makes.done
+    passes_made (Err e) makes = passes_failed call makes.first makes.failed
+
+    pub content_made : (result : Result T E) → Makes call result old new → OnOk result (content_of new ≡ done_by call (content_of old))
+    content_made (Ok x) makes = content_added call true makes.first makes.done
+    content_made (Err e) makes = tt
+
+    pub content_missed : (result : Result T E) → Makes call result old new → OnErr result (content_of new ≡ content_of old)
+    content_missed (Ok x) makes = tt
+    content_missed (Err e) makes = content_failed call makes.first makes.failed
+
+    pub settles_made : (result : Result T E) → Makes call result old new → OnOk result (Settles call new)
+    settles_made (Ok x) makes = settles call makes.first makes.done
+    settles_made (Err e) makes = tt

@@ -25,6 +25,14 @@ done_by Length content = content
 done_by (Read at count) content = content
 done_by Sync content = content
 
+-- a write needs an offset that is no greater than the length
+abbrev pub FitsIn : Call → List ℕ → Type 0
+FitsIn (Write at bytes) content = at ≤ length content
+FitsIn (Shorten len) content = Unit {0}
+FitsIn Length content = Unit {0}
+FitsIn (Read at count) content = Unit {0}
+FitsIn Sync content = Unit {0}
+
 -- what reads give after a call; one that failed leaves it
 abbrev pub content_after : List ℕ → Noted → List ℕ
 content_after content noted = if noted.done then done_by noted.call content else content
@@ -90,3 +98,11 @@ pub record Makes {T E : Type 0} (call : Call) (result : Result T E) (old new : K
   pub listed : NextFails old.calls → IsErr result
   pub done : OnOk result (new.noted ≡ old.noted ++ noted_as call true ∷ [])
   pub failed : OnErr result ((new.noted ≡ old.noted ++ noted_as call false ∷ []) ⊎ (new.noted ≡ old.noted))
+
+-- after a sync that succeeded a crash leaves what reads give
+abbrev pub Settles : Call → Kept → Type 0
+Settles Sync disk = (c : List ℕ) → MayLeave disk c → told disk ≡ Some c
+Settles Length disk = Unit {0}
+Settles (Read at count) disk = Unit {0}
+Settles (Write at bytes) disk = Unit {0}
+Settles (Shorten len) disk = Unit {0}

@@ -6,8 +6,11 @@
 
 mod call;
 mod disk;
+mod mem_disk;
 mod place;
+mod write;
 
 pub use call::{Call, Noted};
 pub use disk::Disk;
+pub use mem_disk::MemDisk;
 pub use place::{Disks, Place};
