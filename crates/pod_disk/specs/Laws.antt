@@ -1,5 +1,5 @@
 -- The laws of a disk, for one in memory.
-use Rattle.std.specs.Prelude.{◌≡◌, ◌⊎◌, ◌<◌, ◌≤◌, ◌+◌, ◌-◌, if◌then◌else◌, ℕ, Bool, true, false, min, List, [], ◌∷◌, ◌++◌, length, take, drop, Some, refl}
+use Rattle.std.specs.Prelude.{◌≡◌, ◌⊎◌, ◌<◌, ◌≤◌, ◌+◌, ◌-◌, if◌then◌else◌, ℕ, Bool, true, false, min, List, [], ◌∷◌, ◌++◌, length, take, drop, Some, None, refl}
 use Rattle.std.proofs.Common.{inl, inr, ⊎_elim, append_assoc, sym, ◌∙◌, ap, subst, arith, rules, length-append}
 use Rattle.std.proofs.lemmas.List.{take_all, drop_all, take_at, drop_at, length-take, length-drop}
 use Rattle.std.proofs.lemmas.Bool.{cases_lt}
@@ -97,3 +97,7 @@ some_is is = search rules
 -- what reads give is one of the images
 pub told_is_image : (disk : Kept) (b : List ℕ) → told disk ≡ Some b → MayLeave disk b
 told_is_image disk b is = subst (MayLeave disk) (some_is is) (content_is_image disk.first (λ d. d ≡ disk.first) disk.noted refl)
+
+-- a disk that tells nothing tells no content
+pub none_told : (b : List ℕ) → None ≡ Some b → ⊥
+none_told b is = search rules

@@ -6,11 +6,14 @@
 
 mod call;
 mod disk;
+mod file_disk;
+mod lazy_file;
 mod mem_disk;
 mod place;
 mod write;
 
 pub use call::{Call, Noted};
 pub use disk::Disk;
+pub use file_disk::FileDisk;
 pub use mem_disk::MemDisk;
 pub use place::{Disks, Place};
