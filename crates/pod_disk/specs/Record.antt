@@ -25,14 +25,6 @@ done_by Length content = content
 done_by (Read at count) content = content
 done_by Sync content = content
 
--- a write needs an offset that is no greater than the length
-abbrev pub FitsIn : Call → List ℕ → Type 0
-FitsIn (Write at bytes) content = at ≤ length content
-FitsIn (Shorten len) content = Unit {0}
-FitsIn Length content = Unit {0}
-FitsIn (Read at count) content = Unit {0}
-FitsIn Sync content = Unit {0}
-
 -- what reads give after a call; one that failed leaves it
 abbrev pub content_after : List ℕ → Noted → List ℕ
 content_after content noted = if noted.done then done_by noted.call content else content

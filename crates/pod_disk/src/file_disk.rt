@@ -1,4 +1,4 @@
-ghost use Rattle.std.specs.Prelude.{◌≤◌, None};
+ghost use Rattle.std.specs.Prelude.{◌≡◌, ◌≤◌, None};
 ghost use Rattle.pod_io.specs.Counts.{Rose};
 ghost use Rattle.pod_disk.specs.Laws.{none_told};
 
@@ -7,20 +7,31 @@ use crate::lazy_file::LazyFile;
 use pod_base::Text;
 use pod_io::Failed;
 use std::fs::Files;
+use std::marker::Model;
 
 /// A disk over a file of the host. It tells nothing of what it holds, and counts its errors. It is opened at
-/// its first use, and a missing file is made: it is an empty disk.
+/// its first use, and a missing file is made: it is an empty disk. Contracts see its count of errors.
 #[derive(Drop)]
 pub struct FileDisk<R: Files + Drop> {
     file: LazyFile<R>,
     faults: u64,
 }
 
+impl<R: Files + Drop> Model for FileDisk<R> {
+    ghost use Rattle.std.specs.Prelude.{ℕ};
+
+    ghost Value = { ℕ };
+
+    ghost view = { λ d. d.faults };
+}
+
 const END: u64 = 1 << 63;
 
 impl<R: Files + Drop> FileDisk<R> {
     /// The disk in the file of that path.
-    pub fn new(host: R, path: Text) -> FileDisk<R> {
+    pub fn new(host: R, path: Text) -> FileDisk<R>
+        ensures { result ≡ 0 }
+    {
         FileDisk {
             file: LazyFile::new(host, path),
             faults: 0,
@@ -29,8 +40,8 @@ impl<R: Files + Drop> FileDisk<R> {
 
     // Counts an error.
     fn fault(&mut self) -> Failed
-        ensures no_fewer { self.old.faults ≤ self.new.faults }
-        ensures rose { Rose self.old.faults self.new.faults }
+        ensures no_fewer { self.old ≤ self.new }
+        ensures rose { Rose self.old self.new }
     {
         self.faults = self.faults.saturating_add(1);
         Failed
@@ -46,7 +57,7 @@ impl<R: Files + Drop> Disk for FileDisk<R> {
 
     ghost left_since = { λ _ _ _. ⊥ };
 
-    ghost faults = { λ d. d.faults };
+    ghost faults = { λ faults. faults };
 
     ghost reads_image = { λ _ b told. none_told b told };
 

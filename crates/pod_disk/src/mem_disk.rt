@@ -4,7 +4,7 @@ ghost use Rattle.pod_io.specs.Counts.{Rose, Counts};
 ghost use Rattle.pod_io.specs.Told.{IfTold};
 ghost use Rattle.pod_io.specs.Memory.{next_call};
 ghost use Rattle.pod_disk.specs.Disk.{overwritten, Torn, Cut, Same, Passes};
-ghost use Rattle.pod_disk.specs.Record.{noted_as, done_by, FitsIn, content_of, told, Step, MayLeave, moment_of, LeftSince, Makes, Settles};
+ghost use Rattle.pod_disk.specs.Record.{noted_as, done_by, content_of, told, Step, MayLeave, moment_of, LeftSince, Makes, Settles};
 
 use crate::call::{Call, Noted};
 use crate::disk::Disk;
@@ -38,7 +38,6 @@ impl Model for MemDisk {
 
 // Does the call, and notes it. For want of memory nothing changes.
 fn make(noted: &mut Vec<Noted>, bytes: &mut Vec<u8>, call: Call) -> Mem<()>
-    requires { FitsIn call bytes.old.items }
     ensures noted { OnOk result (noted.new.items ≡ noted.old.items ++ noted_as call true ∷ []) }
     ensures done { OnOk result (bytes.new.items ≡ done_by call bytes.old.items) }
     ensures kept { OnErr result ((noted.new.items ≡ noted.old.items) × (bytes.new.items ≡ bytes.old.items)) }
@@ -92,7 +91,6 @@ impl MemDisk {
 
     // Makes a call, unless it is to fail.
     fn attempt(&mut self, call: Call) -> Result<(), Failed>
-        requires { FitsIn call (content_of self.old) }
         ensures makes { Makes call result self.old self.new }
         ensures faults { Counts result self.old.calls.faults self.new.calls.faults }
     {
@@ -111,7 +109,6 @@ impl MemDisk {
 
     // The same, with what it makes of the content and of the images.
     fn make(&mut self, call: Call) -> Result<(), Failed>
-        requires { FitsIn call (content_of self.old) }
         ensures makes { Makes call result self.old self.new }
         ensures faults { Counts result self.old.calls.faults self.new.calls.faults }
         ensures passes { Passes MayLeave moment_of LeftSince (Step call) self.old self.new }

@@ -1,25 +1,24 @@
-ghost use Rattle.std.specs.Prelude.{◌≡◌, ◌≤◌, length, OnOk, OnErr};
+ghost use Rattle.std.specs.Prelude.{◌≡◌, OnOk, OnErr};
 ghost use Rattle.pod_disk.specs.Disk.{overwritten};
-ghost use Rattle.pod_disk.specs.Record.{done_by, FitsIn};
+ghost use Rattle.pod_disk.specs.Record.{done_by};
 
 use crate::call::Call;
 use pod_base::Mem;
 
-// Writes the bytes over those of the file from that offset on.
-fn put(file: &mut Vec<u8>, at: usize, bytes: &[u8]) -> Mem<()>
-    requires { at ≤ length file.old.items }
+// Writes the bytes over those of the file from that offset on, or behind them where it has fewer.
+pub fn put(file: &mut Vec<u8>, at: usize, bytes: &[u8]) -> Mem<()>
     ensures done { OnOk result (file.new.items ≡ overwritten at bytes.now file.old.items) }
     ensures kept { OnErr result (file.new.items ≡ file.old.items) }
 {
-    let over = bytes.len().min(file.len() - at);
+    let start = at.min(file.len());
+    let over = bytes.len().min(file.len() - start);
     file.extend_from_slice(&bytes[over..])?;
-    file[at..at + over].copy_from_slice(&bytes[..over]);
+    file[start..start + over].copy_from_slice(&bytes[..over]);
     Ok(())
 }
 
 /// Does to a file what the call does.
 pub fn perform(file: &mut Vec<u8>, call: &Call) -> Mem<()>
-    requires { FitsIn call.now file.old.items }
     ensures done { OnOk result (file.new.items ≡ done_by call.now file.old.items) }
     ensures kept { OnErr result (file.new.items ≡ file.old.items) }
 {
