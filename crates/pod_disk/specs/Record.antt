@@ -1,5 +1,5 @@
 -- What a disk in memory keeps, and what its content and its images are by the record of its calls.
-use Rattle.std.specs.Prelude.{◌≡◌, ◌⊎◌, ◌≤◌, if◌then◌else◌, ℕ, Bool, true, false, List, [], ◌∷◌, ◌++◌, length, take, Option, Some, Result, IsErr, OnOk, OnErr}
+use Rattle.std.specs.Prelude.{◌≡◌, ◌⊎◌, ◌≤◌, if◌then◌else◌, ◌&&◌, ℕ, Bool, true, false, List, [], ◌∷◌, ◌++◌, length, take, Option, Some, Result, IsErr, OnOk, OnErr}
 use Rattle.pod_io.specs.Memory.{Script, next_call, NextFails}
 use Rattle.pod_disk.specs.Disk.{overwritten, Torn, Cut, Same}
 use Rattle.pod_disk.specs.declared.call.Call.{Call}
@@ -45,6 +45,17 @@ left_by content images call done c = (d : List ℕ) × images d × Step call d c
 
 abbrev pub images_after : List ℕ → (List ℕ → Type 0) → Noted → List ℕ → Type 0
 images_after content images noted = left_by content images noted.call noted.done
+
+-- whether a call is a sync that succeeded
+abbrev pub is_sync : Call → Bool
+is_sync Sync = true
+is_sync Length = false
+is_sync (Read at count) = false
+is_sync (Write at bytes) = false
+is_sync (Shorten len) = false
+
+abbrev pub synced : Noted → Bool
+synced noted = noted.done && is_sync noted.call
 
 -- what reads give after these calls, the first of them first
 abbrev pub content_at : List ℕ → List Noted → List ℕ

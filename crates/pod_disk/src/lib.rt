@@ -5,6 +5,7 @@
 #![tactic(auto)]
 
 mod call;
+mod crash;
 mod disk;
 mod file_disk;
 mod lazy_file;
@@ -13,6 +14,7 @@ mod place;
 mod write;
 
 pub use call::{Call, Noted};
+pub use crash::Tear;
 pub use disk::Disk;
 pub use file_disk::FileDisk;
 pub use mem_disk::MemDisk;
