@@ -1,6 +1,6 @@
 ghost use Rattle.std.specs.Prelude.{◌≡◌, ◌≤◌, ℕ, List, length, OnOk, IfOk};
 ghost use Rattle.pod_disk.specs.Disk.{Torn};
-ghost use Rattle.pod_disk.specs.Record.{Step, synced, content_after, images_after, content_at, ImageAt};
+ghost use Rattle.pod_disk.specs.Record.{Step, synced, content_after, images_after, content_at, ImageAt, IsImage};
 
 use crate::call::{Call, Noted};
 use crate::write::{perform, put};
@@ -110,8 +110,8 @@ fn pass(
     follow(content, noted)
 }
 
-/// What reads give after the calls, where the file held this before them.
-pub fn replay(content: &mut Vec<u8>, calls: &[Noted]) -> Mem<()>
+// What reads give after the calls, where the file held this before them.
+fn replay(content: &mut Vec<u8>, calls: &[Noted]) -> Mem<()>
     ensures { OnOk result (content.new.items ≡ content_at content.old.items calls.now) }
 {
     for noted in calls {
@@ -120,8 +120,8 @@ pub fn replay(content: &mut Vec<u8>, calls: &[Noted]) -> Mem<()>
     Ok(())
 }
 
-/// What a crash may leave after the calls, where the disk held the content before them, all of it durable.
-pub fn left_after(
+// What a crash may leave after the calls, where the disk held the content before them, all of it durable.
+fn left_after(
     alloc: Global,
     content: &mut Vec<u8>,
     calls: &[Noted],
@@ -136,12 +136,22 @@ pub fn left_after(
     Ok(image)
 }
 
-/// How many calls there are up to the last sync that succeeded.
-pub fn synced_calls(calls: &[Noted]) -> usize
+// How many calls there are up to the last sync that succeeded.
+fn synced_calls(calls: &[Noted]) -> usize
     ensures { result ≤ length calls.now }
 {
     match calls.iter().rposition(is_synced) {
         Some(at) => at + 1,
         None => 0,
     }
+}
+
+/// What a crash may leave after the calls on a disk that held these bytes at first, all of them durable.
+pub fn crashed(alloc: Global, first: &[u8], calls: &[Noted], tear: Tear) -> Mem<Vec<u8>>
+    ensures { IfOk result (λ image. IsImage first.now calls.now image.items) }
+{
+    let (synced, unsynced) = calls.split_at(synced_calls(calls));
+    let mut content = Vec::from_slice(alloc, first)?;
+    replay(&mut content, synced)?;
+    left_after(alloc, &mut content, unsynced, tear)
 }

@@ -4,9 +4,10 @@ ghost use Rattle.pod_io.specs.Counts.{Rose, Counts};
 ghost use Rattle.pod_io.specs.Told.{IfTold};
 ghost use Rattle.pod_io.specs.Memory.{next_call};
 ghost use Rattle.pod_disk.specs.Disk.{overwritten, Torn, Cut, Same, Passes};
-ghost use Rattle.pod_disk.specs.Record.{noted_as, done_by, content_of, told, Step, MayLeave, moment_of, LeftSince, Makes, Settles};
+ghost use Rattle.pod_disk.specs.Record.{noted_as, done_by, content_of, told, Step, IsImage, MayLeave, moment_of, LeftSince, Makes, Settles};
 
 use crate::call::{Call, Noted};
+use crate::crash::{Tear, crashed};
 use crate::disk::Disk;
 use crate::write::perform;
 use pod_base::{Bytes, Mem};
@@ -61,6 +62,8 @@ impl MemDisk {
     pub fn new(alloc: Global, bytes: Vec<u8>, failing: Vec<u64>) -> Mem<MemDisk>
         ensures first { IfOk result (λ disk. disk.first ≡ bytes.items) }
         ensures noted { IfOk result (λ disk. disk.noted ≡ []) }
+        ensures content { IfOk result (λ disk. told disk ≡ Some bytes.items) }
+        ensures durable { IfOk result (λ disk. (c : List ℕ) → MayLeave disk c → c ≡ bytes.items) }
         ensures made { IfOk result (λ disk. disk.calls.made ≡ 0) }
         ensures failing { IfOk result (λ disk. disk.calls.failing ≡ failing.items) }
         ensures faults { IfOk result (λ disk. disk.calls.faults ≡ 0) }
@@ -87,6 +90,16 @@ impl MemDisk {
         ensures { result.now ≡ self.now.noted }
     {
         self.noted.as_slice()
+    }
+
+    /// The bytes that a crash after the first `count` of the noted calls may leave, where it leaves this of
+    /// each write since the last sync that succeeded, of those that failed too.
+    pub fn crash(&self, alloc: Global, count: usize, tear: Tear) -> Mem<Vec<u8>>
+        requires { count ≤ length self.now.noted }
+        ensures image { IfOk result (λ image. IsImage self.now.first (take count self.now.noted) image.items) }
+        ensures left { IfOk result (λ image. LeftSince self.now count image.items) }
+    {
+        crashed(alloc, &self.first, &self.noted[..count], tear)
     }
 
     // Makes a call, unless it is to fail.
