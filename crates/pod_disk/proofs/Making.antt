@@ -62,8 +62,10 @@ module _ (old new : Kept) where
     where
       front : (k : ℕ) → k ≤ length old.noted → take k new.noted ≡ take k old.noted
       front k le = ap (λ (l : List Noted). take k l) is ∙ take-append-le k old.noted (noted_as call done ∷ []) le
+
       earlier : (k : ℕ) (c : List ℕ) → k ≤ length old.noted → IsImage new.first (take k new.noted) c → IsImage old.first (take k old.noted) c
       earlier k c le image = subst (λ (b : List ℕ). IsImage b (take k old.noted) c) first (subst (λ (l : List Noted). IsImage new.first l c) (front k le) image)
+
       later : (k : ℕ) (c : List ℕ) → k ≤ length old.noted → IsImage old.first (take k old.noted) c → IsImage new.first (take k new.noted) c
       later k c le image = subst (λ (l : List Noted). IsImage new.first l c) (sym (front k le)) (subst (λ (b : List ℕ). IsImage b (take k old.noted) c) (sym first) image)
 
@@ -78,6 +80,7 @@ module _ (old new : Kept) where
     where
       same : (c : List ℕ) (l m : List Noted) → new.first ≡ old.first → l ≡ m → IsImage new.first l c → IsImage old.first m c
       same c l m f e image = subst (λ (b : List ℕ). IsImage b m c) f (subst (λ (k : List Noted). IsImage new.first k c) e image)
+
       back : (c : List ℕ) (l m : List Noted) → new.first ≡ old.first → l ≡ m → IsImage old.first l c → IsImage new.first m c
       back c l m f e image = subst (λ (b : List ℕ). IsImage b m c) (sym f) (subst (λ (k : List Noted). IsImage old.first k c) e image)
 

@@ -121,12 +121,7 @@ fn replay(content: &mut Vec<u8>, calls: &[Noted]) -> Mem<()>
 }
 
 // What a crash may leave after the calls, where the disk held the content before them, all of it durable.
-fn left_after(
-    alloc: Global,
-    content: &mut Vec<u8>,
-    calls: &[Noted],
-    tear: Tear,
-) -> Mem<Vec<u8>>
+fn left_after(alloc: Global, content: &mut Vec<u8>, calls: &[Noted], tear: Tear) -> Mem<Vec<u8>>
     ensures { IfOk result (λ image. ImageAt content.old.items (λ d. d ≡ content.old.items) calls.now image.items) }
 {
     let mut image = Vec::from_slice(alloc, content)?;

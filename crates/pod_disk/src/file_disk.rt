@@ -38,6 +38,13 @@ impl<R: Files + Drop> FileDisk<R> {
         }
     }
 
+    /// How many of its calls failed.
+    pub fn faults(&self) -> u64
+        ensures { result ≡ self.now }
+    {
+        self.faults
+    }
+
     // Counts an error.
     fn fault(&mut self) -> Failed
         ensures no_fewer { self.old ≤ self.new }

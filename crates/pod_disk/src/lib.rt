@@ -19,3 +19,6 @@ pub use disk::Disk;
 pub use file_disk::FileDisk;
 pub use mem_disk::MemDisk;
 pub use place::{Disks, Place};
+
+#[cfg(test)]
+mod tests;

@@ -13,5 +13,5 @@ returns c =
     let content : c.replay.new.content.items ≡ content_at first synced = search rules in
     let whole : synced ++ unsynced ≡ c.args.calls.now = search rules in
     IfOk-weaker c.left_after.result _ _ (λ image left.
-        subst (λ (l : List Noted). IsImage first l image.items) whole
-        (image_of_parts first synced unsynced image.items (subst (λ (b : List ℕ). ImageAt b (λ d. d ≡ b) unsynced image.items) content left))) c.left_after.ensures
+    subst (λ (l : List Noted). IsImage first l image.items) whole
+    (image_of_parts first synced unsynced image.items (subst (λ (b : List ℕ). ImageAt b (λ d. d ≡ b) unsynced image.items) content left))) c.left_after.ensures

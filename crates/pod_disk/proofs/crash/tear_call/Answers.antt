@@ -9,8 +9,8 @@ use Rattle.pod_disk.proofs.crash.tear_call.Goals as goal
 pub returns-in-Write : goal.returns-in-Write
 returns-in-Write c =
     on_ok_weaker c.tear_write.result (λ torn.
-        subst (λ (call : Call). Step call c.args.image.now.items c.tear_write.new.image.items) (sym c.in-Write.is)
-        (subst (λ (n : ℕ). Torn c.in-Write.at n c.args.image.now.items c.tear_write.new.image.items) (ap length c.as_slice.ensures) torn)) c.tear_write.ensures
+    subst (λ (call : Call). Step call c.args.image.now.items c.tear_write.new.image.items) (sym c.in-Write.is)
+    (subst (λ (n : ℕ). Torn c.in-Write.at n c.args.image.now.items c.tear_write.new.image.items) (ap length c.as_slice.ensures) torn)) c.tear_write.ensures
 
 pub returns-in-Cut : goal.returns-in-Cut
 returns-in-Cut c =
