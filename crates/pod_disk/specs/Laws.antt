@@ -4,7 +4,7 @@ use Rattle.std.proofs.Common.{inl, inr, ⊎_elim, append_assoc, sym, ◌∙◌, 
 use Rattle.std.proofs.lemmas.List.{take_all, drop_all, take_at, drop_at, length-take, length-drop}
 use Rattle.std.proofs.lemmas.Bool.{cases_lt}
 use Rattle.pod_disk.specs.Disk.{overwritten, Torn, Cut}
-use Rattle.pod_disk.specs.Record.{Kept, done_by, content_after, Step, left_by, images_after, content_at, content_of, told, ImageAt, IsImage, WasImage, MayLeave, moment_of, LeftSince}
+use Rattle.pod_disk.specs.Record.{Kept, done_by, content_after, Step, left_by, images_after, content_at, told, ImageAt, IsImage, MayLeave, moment_of, LeftSince}
 use Rattle.pod_disk.specs.declared.call.Call.{Call}
 use Rattle.pod_disk.specs.declared.call.Noted.{Noted}
 use Rattle.pod_disk.specs.declared.call.Call.TheVariants.{Length, Read, Write, Cut as Shorten, Sync}
