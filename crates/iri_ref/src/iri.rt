@@ -11,6 +11,7 @@ use crate::components::{components, is_absolute};
 use crate::target::transform;
 use std::alloc::{AllocError, Global};
 use std::marker::Model;
+use thiserror::Error;
 
 /// An absolute IRI, kept as it was written. Contracts see it as its list of bytes, which has a scheme and no
 /// character that Turtle's IRIREF forbids.
@@ -31,11 +32,13 @@ impl Model for Iri {
 }
 
 /// Why there is no IRI.
-#[derive(Clone, Copy, Debug, PartialEq, Eq)]
+#[derive(Clone, Copy, Debug, PartialEq, Eq, Error)]
 pub enum IriFault {
     /// The text has a forbidden character, or names no scheme where it must.
+    #[error("no reference")]
     BadReference,
     /// Memory ran out.
+    #[error("out of memory")]
     NoMemory,
 }
 

@@ -1,10 +1,9 @@
 -- Pairs of names and terms, and how they grow.
 use Rattle.std.proofs.Common.{ℕ, ◌≡◌, ◌≢◌, ◌⊎◌, List, [], ◌∷◌, ◌++◌, Bool, true, false, cond, Option, None, Some, refl, sym, ap, ◌∙◌, subst, inl, inr, ⊎_elim, eqb}
 use Rattle.std.specs.Prelude.{IsSome, is_some}
-use Rattle.std.specs.List.{Contains, All}
 use Rattle.std.proofs.lemmas.Bool.{false≢true, true≢false}
 use lib.Pointwise.{pointwise, bytes_decides}
-use Rattle.rdf_graph.specs.Pattern.{Binding, Extends, HasVariable, HoldsIn, Instantiates, IsVariableOf, NamedOnce, slot_term, value_of}
+use Rattle.rdf_graph.specs.Pattern.{Binding, Extends, HasVariable, HoldsIn, Instantiates, NamedOnce, slot_term, value_of}
 use Rattle.rdf_graph.specs.Search.{and_then, bind_name, bind_pattern, bind_slot, if_same}
 use Rattle.rdf_graph.specs.Term.{term_eq}
 use Rattle.rdf_graph.specs.TermLaws.{term_eq_decides}

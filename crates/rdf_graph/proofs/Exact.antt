@@ -1,5 +1,5 @@
 -- Triples that their order does not tell apart are equal.
-use Rattle.std.proofs.Common.{◌≡◌, ◌++◌, List, ℕ, refl, sym, ap, subst, ◌∙◌, codes}
+use Rattle.std.proofs.Common.{◌≡◌, ◌++◌, List, ℕ, refl, ap, subst, ◌∙◌, codes}
 use Rattle.std.proofs.lemmas.List.{append_cancel_left, append_cancel_right}
 use Rattle.std.proofs.lemmas.Map.Lookups.{exact_bytes, CmpEqualImpliesEq}
 use Rattle.std.specs.Ordering.{ordering_then}

@@ -1,5 +1,5 @@
 -- What an insert, a removal and a sort leave of a graph.
-use Rattle.std.proofs.Common.{ℕ, ◌≡◌, ◌≢◌, ◌<◌, ◌⊎◌, ◌↔◌, List, [], ◌∷◌, Some, length, get_or, refl, sym, ap, ◌∙◌, subst, arith, inl, inr, ⊎_elim, Bool}
+use Rattle.std.proofs.Common.{ℕ, ◌≡◌, ◌⊎◌, List, [], Some, refl, sym, subst, inl, ⊎_elim}
 use Rattle.std.specs.Prelude.{slice_get}
 use Rattle.std.specs.List.{All, Contains, insert, remove, dedup}
 use Rattle.std.specs.List.Sorted.{IsSorted, IsPermutation}
@@ -10,7 +10,7 @@ use Rattle.std.proofs.lemmas.List.Filters.{All-dedup}
 use Rattle.std.proofs.lemmas.List.Kept.{Contains-dedup, Contains-from_dedup, IsStrictlySortedBy-dedup}
 use Rattle.std.proofs.lemmas.List.Sorted.{Contains-permutation, All-permutation, IsPermutation-sym}
 use Rattle.std.proofs.lemmas.Option.{slice_get_within, get_or_from_slice_get}
-use Rattle.rdf_graph.specs.Graph.{IsGraph, IsOrdered, SameSet, SetWith, SetWithout}
+use Rattle.rdf_graph.specs.Graph.{IsGraph, SameSet, SetWith, SetWithout}
 use Rattle.rdf_graph.specs.Place.{IsGap}
 use Rattle.rdf_graph.specs.Triple.{triple_cmp, IsRdf}
 use Rattle.rdf_graph.specs.TripleLaws.{triple_cmp_total}

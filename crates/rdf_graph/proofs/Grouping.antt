@@ -1,13 +1,12 @@
 -- Labels that conditions share, and the groups that they make.
-use Rattle.std.proofs.Common.{ℕ, zero, suc, ◌+◌, ◌<◌, ◌≤◌, ◌≡◌, ◌≢◌, ◌⊎◌, ◌↔◌, List, [], ◌∷◌, ◌++◌, Bool, true, false, cond, Option, None, Some, refl, sym, ap, ◌∙◌, subst, inl, inr, ⊎_elim, length, take, drop, get_or, set, arith, eqb, ltb}
+use Rattle.std.proofs.Common.{ℕ, zero, suc, ◌+◌, ◌<◌, ◌≡◌, ◌⊎◌, List, [], ◌∷◌, ◌++◌, Bool, true, false, cond, None, Some, refl, sym, ap, ◌∙◌, subst, inl, inr, ⊎_elim, length, take, drop, get_or, set, arith, eqb}
 use Rattle.std.specs.Prelude.{slice_get, map, option_map}
 use Rattle.std.specs.List.{Contains, All}
-use Rattle.std.proofs.lemmas.Bool.{cases_order, eqb-true, eq-eqb, ltb-true, lt-ltb, false≢true, true≢false}
+use Rattle.std.proofs.lemmas.Bool.{cases_order, eq-eqb}
 use Rattle.std.proofs.lemmas.List.{take_more, take_more_set, drop_more, drop-set-lt, map_more, take_all, drop_all, append-nil, length-take-le}
-use Rattle.std.proofs.lemmas.List.Elements.{All-push, All-head, All-tail, All-map}
-use Rattle.std.proofs.lemmas.Option.{slice_get-get_or, slice_get_within, get_or_from_slice_get}
+use Rattle.std.proofs.lemmas.List.Elements.{All-map}
+use Rattle.std.proofs.lemmas.Option.{slice_get_within, get_or_from_slice_get}
 use Rattle.rdf_graph.specs.Groups.{AreGroups, AreJoined, Connects, SharesVariable, selected}
-use Rattle.rdf_graph.specs.Pattern.{HasVariable, IsVariableOf}
 use Rattle.rdf_graph.specs.declared.pattern.Pattern.{Pattern}
 use Rattle.rdf_graph.proofs.Bindings.{same_some, some_not_none}
 use Rattle.rdf_graph.proofs.Members.{contains_cases, contains_here, contains_there, contains_none}

@@ -1,5 +1,5 @@
 -- A merge of three lists in order, step by step.
-use Rattle.std.proofs.Common.{ℕ, ◌+◌, ◌≡◌, ◌≢◌, ◌<◌, ◌≤◌, ◌⊎◌, ◌↔◌, List, [], ◌∷◌, ◌++◌, length, take, drop, get_or, refl, sym, ap, ◌∙◌, subst, arith, inl, inr, ⊎_elim}
+use Rattle.std.proofs.Common.{ℕ, ◌+◌, ◌≡◌, ◌<◌, ◌≤◌, ◌⊎◌, ◌↔◌, List, [], ◌∷◌, ◌++◌, length, take, drop, get_or, refl, sym, ap, ◌∙◌, subst, inl, inr, ⊎_elim}
 use Rattle.std.specs.List.{Contains, All}
 use Rattle.std.specs.Prelude.{slice_get, Some}
 use Rattle.std.specs.declared.cmp.Ordering.{Ordering}
@@ -7,15 +7,15 @@ use Rattle.std.specs.declared.cmp.Ordering.TheVariants.{Less, Equal, Greater}
 use Rattle.std.proofs.lemmas.Bool.{cases_lt}
 use Rattle.std.proofs.lemmas.Option.{slice_get-get_or, slice_get_within, get_or_from_slice_get}
 use Rattle.std.proofs.lemmas.List.{take_more, drop_more, take_all, drop_all, get_or_default}
-use Rattle.std.proofs.lemmas.List.Elements.{All-nil, All-cons, All-head, All-tail, All-push, All-contains, All-weaker, Contains-append_left, Contains-append_right, Contains-append_cases, Contains-push, Contains-push_cases}
+use Rattle.std.proofs.lemmas.List.Elements.{All-nil, All-cons, All-head, All-tail, All-push, All-contains, Contains-append_left, Contains-push, Contains-push_cases}
 use Rattle.rdf_graph.specs.Change.{IsChanged}
 use Rattle.rdf_graph.specs.Graph.{IsOrdered}
 use Rattle.rdf_graph.specs.Triple.{triple_cmp}
 use Rattle.rdf_graph.specs.TripleLaws.{triple_cmp_total}
 use Rattle.rdf_graph.specs.declared.triple.Triple.{Triple}
 use Rattle.rdf_graph.proofs.Exact.{triple_cmp_exact}
-use Rattle.rdf_graph.proofs.Members.{contains_none, contains_here, contains_there, contains_cases, contains_take, contains_drop, contains_split, All-from_members}
-use Rattle.rdf_graph.proofs.Sorted.{sorted_nil, sorted_cons, sorted_first, sorted_rest, sorted_append, sorted_drop, above_is_below, below_itself, absent_at_gap}
+use Rattle.rdf_graph.proofs.Members.{contains_none, contains_here, contains_there, contains_cases, contains_take, All-from_members}
+use Rattle.rdf_graph.proofs.Sorted.{sorted_nil, sorted_cons, sorted_first, sorted_append, sorted_drop, above_is_below, below_itself, absent_at_gap}
 use Rattle.rdf_graph.specs.Place.{ComesFirst}
 
 not_first : (x y : Triple) (ys : List Triple) → (y ≡ x → ⊥) → Contains ys x ⊎ (Contains ys x → ⊥) → Contains (y ∷ ys) x ⊎ (Contains (y ∷ ys) x → ⊥)

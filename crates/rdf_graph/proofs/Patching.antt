@@ -1,6 +1,5 @@
 -- What a mapping makes of patterns.
-use Rattle.std.proofs.Common.{ℕ, ◌+◌, ◌<◌, ◌≡◌, ◌↔◌, List, [], ◌∷◌, ◌++◌, length, take, get_or, Some, Bool, true, false, sym, ap, ◌∙◌, subst, inl, inr, ⊎_elim}
-use Rattle.std.specs.Prelude.{IsSome}
+use Rattle.std.proofs.Common.{ℕ, ◌+◌, ◌<◌, ◌≡◌, ◌↔◌, List, [], ◌∷◌, ◌++◌, length, take, get_or, sym, ap, ◌∙◌, subst, ⊎_elim}
 use Rattle.std.specs.List.{All, AllZip, Contains}
 use Rattle.std.proofs.lemmas.List.{take_more}
 use Rattle.std.proofs.lemmas.List.Elements.{All-contains}
@@ -13,7 +12,7 @@ use Rattle.rdf_graph.specs.declared.term.Term.{Term}
 use Rattle.rdf_graph.specs.declared.triple.Triple.{Triple}
 use Rattle.rdf_graph.proofs.Bindings.{same_some}
 use Rattle.rdf_graph.proofs.Exact.{same_parts}
-use Rattle.rdf_graph.proofs.Members.{All-from_members, contains_cases, contains_here, contains_none, contains_there}
+use Rattle.rdf_graph.proofs.Members.{contains_cases, contains_here, contains_none, contains_there}
 
 -- a mapping makes a pattern one triple
 one_instance : (m : Binding) (pattern : Pattern) (t u : Triple) → Instantiates m pattern t → Instantiates m pattern u → t ≡ u

@@ -1,14 +1,14 @@
 -- Solutions of conditions, from those of their groups.
-use Rattle.std.proofs.Common.{ℕ, zero, suc, ◌+◌, ◌<◌, ◌≤◌, ◌≡◌, ◌≢◌, ◌⊎◌, ◌↔◌, List, [], ◌∷◌, ◌++◌, Bool, true, false, cond, Option, None, Some, refl, sym, ap, ◌∙◌, subst, inl, inr, ⊎_elim, length, replicate, get_or, arith, eqb, ltb}
-use Rattle.std.specs.Prelude.{IsSome, slice_get}
+use Rattle.std.proofs.Common.{ℕ, zero, suc, ◌+◌, ◌<◌, ◌≡◌, ◌≢◌, ◌⊎◌, ◌↔◌, List, [], ◌++◌, Bool, true, false, Option, None, Some, refl, sym, ap, ◌∙◌, subst, ⊎_elim, length, replicate, get_or, arith, eqb, ltb}
+use Rattle.std.specs.Prelude.{slice_get}
 use Rattle.std.specs.List.{Contains, All}
-use Rattle.std.proofs.lemmas.Bool.{cases_order, eqb-true, eq-eqb, ltb-true, lt-ltb, true≢false, false≢true}
+use Rattle.std.proofs.lemmas.Bool.{cases_order, eqb-true, eq-eqb, ltb-true, lt-ltb, false≢true}
 use Rattle.std.proofs.lemmas.List.Elements.{All-append, All-contains, All-nil, Contains-append_left, Contains-append_right, Contains-append_cases}
 use Rattle.std.proofs.lemmas.Option.{slice_get-get_or, slice_get_within, get_or_from_slice_get}
-use Rattle.rdf_graph.specs.Groups.{AreGroups, Connects, SharesVariable, selected}
-use Rattle.rdf_graph.specs.Pattern.{Binding, Extends, HasVariable, HoldsIn, IsSolution, IsVariableOf, NamedOnce, SameBinding, value_of}
+use Rattle.rdf_graph.specs.Groups.{AreGroups, Connects, selected}
+use Rattle.rdf_graph.specs.Pattern.{Binding, Extends, HoldsIn, IsSolution, IsVariableOf, value_of}
 use Rattle.rdf_graph.specs.Search.{AreTwo, Everything, IsBoth, IsFull, IsJoin, IsPartial, IsTheOne, Satisfies, Tells}
-use Rattle.rdf_graph.specs.Solutions.{AreSolutions, AreTwoSolutions, IsOnlySolution}
+use Rattle.rdf_graph.specs.Solutions.{AreSolutions}
 use Rattle.rdf_graph.specs.declared.pattern.Found.{Found}
 use Rattle.rdf_graph.specs.declared.pattern.Found.TheVariants.{Nothing, One, Many}
 use Rattle.rdf_graph.specs.declared.pattern.Pattern.{Pattern}

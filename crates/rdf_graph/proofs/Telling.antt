@@ -1,14 +1,14 @@
 -- What a search has found, joined and carried over.
-use Rattle.std.proofs.Common.{ℕ, zero, suc, ◌+◌, ◌<◌, ◌≤◌, ◌≡◌, ◌≢◌, ◌⊎◌, ◌↔◌, List, [], ◌∷◌, ◌++◌, Bool, true, false, cond, Option, None, Some, refl, sym, ap, ◌∙◌, subst, inl, inr, ⊎_elim, length, take, drop, get_or, set, arith}
+use Rattle.std.proofs.Common.{ℕ, zero, suc, ◌+◌, ◌<◌, ◌≡◌, ◌≢◌, ◌⊎◌, ◌↔◌, List, [], ◌∷◌, ◌++◌, Bool, true, false, Option, None, Some, refl, sym, ap, ◌∙◌, subst, inl, inr, ⊎_elim, length, take, get_or, set, arith}
 use Rattle.std.specs.Prelude.{IsSome, slice_get, map}
 use Rattle.std.specs.List.{Contains, All}
 use Rattle.std.specs.declared.cmp.Ordering.TheVariants.{Less}
 use Rattle.std.proofs.lemmas.Bool.{cases_eq, true≢false}
-use Rattle.std.proofs.lemmas.List.{take_more, take_all, length-map, get_or-map, set-set, set-get_or}
+use Rattle.std.proofs.lemmas.List.{take_more, length-map, get_or-map, set-set, set-get_or}
 use Rattle.std.proofs.lemmas.List.Elements.{All-contains, All-head, Contains-append_left, Contains-push, Contains-push_cases}
 use Rattle.std.proofs.lemmas.Option.{slice_get-get_or, slice_get_within, get_or_from_slice_get}
 use Rattle.rdf_graph.specs.Graph.{IsOrdered}
-use Rattle.rdf_graph.specs.Pattern.{Binding, Extends, HasVariable, HoldsIn, Instantiates, IsVariableOf, NamedOnce, slot_term, value_of}
+use Rattle.rdf_graph.specs.Pattern.{Binding, Extends, HoldsIn, Instantiates, IsVariableOf, slot_term, value_of}
 use Rattle.rdf_graph.specs.Search.{AreTwo, IsFull, IsPartial, IsTheOne, Satisfies, Tells, bind_pattern, either}
 use Rattle.rdf_graph.specs.Span.{IsSpan}
 use Rattle.rdf_graph.specs.Triple.{IsAsked, triple_cmp}
@@ -17,12 +17,12 @@ use Rattle.rdf_graph.specs.declared.pattern.Found.{Found}
 use Rattle.rdf_graph.specs.declared.pattern.Found.TheVariants.{Nothing, One, Many}
 use Rattle.rdf_graph.specs.declared.pattern.Pattern.{Pattern}
 use Rattle.rdf_graph.specs.declared.pattern.Slot.{Slot}
-use Rattle.rdf_graph.specs.declared.pattern.Slot.TheVariants.{Fixed, Var}
+use Rattle.rdf_graph.specs.declared.pattern.Slot.TheVariants.{Var}
 use Rattle.rdf_graph.specs.declared.term.Term.{Term}
 use Rattle.rdf_graph.specs.declared.triple.Triple.{Triple}
-use Rattle.rdf_graph.proofs.Bindings.{Pairs, GrowsByPattern, grows_pattern, refused_pattern, holds_kept, instances_apart, is_some_from, same_some, some_is, some_not_none, none_is, slot_kept, instance_kept, Extends-trans}
+use Rattle.rdf_graph.proofs.Bindings.{Pairs, GrowsByPattern, grows_pattern, refused_pattern, holds_kept, instances_apart, is_some_from, same_some, some_not_none, slot_kept, instance_kept, Extends-trans}
 use Rattle.rdf_graph.proofs.Exact.{triple_cmp_exact}
-use Rattle.rdf_graph.proofs.Members.{All-from_members, contains_none}
+use Rattle.rdf_graph.proofs.Members.{contains_none}
 use Rattle.rdf_graph.proofs.Sorted.{sorted_take, sorted_cross, not_among_below}
 
 slice_get-set_other : {X : Type 0} (xs : List X) (i k : ℕ) (x : X) → (k ≡ i → ⊥) → slice_get (set xs i x) k ≡ slice_get xs k

@@ -1,7 +1,7 @@
 -- A term is known by its text.
 use Rattle.std.proofs.Common.{ℕ, ◌≡◌, ◌≢◌, ◌⊎◌, ◌==◌, List, [], ◌∷◌, ◌++◌, Bool, true, false, if◌then◌else◌, cond, refl, sym, ap, ◌∙◌, subst, arith, codes, ⊎_elim, inl, inr, append_assoc, eqb, length}
-use Rattle.std.proofs.lemmas.Bool.{cases_eq, ne_eqb, eq-eqb, cases_Bool}
-use Rattle.std.proofs.lemmas.List.{append_cancel_left, append_cancel_right, append-nil}
+use Rattle.std.proofs.lemmas.Bool.{cases_eq, ne_eqb}
+use Rattle.std.proofs.lemmas.List.{append_cancel_right}
 use lib.Pointwise.{pointwise, bytes_decides}
 use Rattle.rdf_graph.specs.Term.{text, escaped, escaped_byte, datatype_text, xsd_string}
 use Rattle.rdf_graph.specs.declared.term.Term.{Term}

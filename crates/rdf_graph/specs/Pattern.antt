@@ -1,6 +1,5 @@
 -- Patterns, and what mappings make of them (Solid Protocol, N3 Patch).
-use Rattle.std.specs.Prelude.{ℕ, List, [], ◌∷◌, ◌≡◌, ◌≢◌, ◌↔◌, ◌⊎◌, Option, None, Some, IsSome, All, Contains, if◌then◌else◌, nat_eq}
-use Rattle.std.specs.List.{Any}
+use Rattle.std.specs.Prelude.{ℕ, List, [], ◌∷◌, ◌≡◌, ◌↔◌, ◌⊎◌, Option, None, Some, IsSome, All, Contains, if◌then◌else◌, nat_eq}
 use lib.Pointwise.{pointwise}
 use Rattle.rdf_graph.specs.declared.term.Term.{Term}
 use Rattle.rdf_graph.specs.declared.triple.Triple.{Triple}

@@ -1,5 +1,5 @@
 -- The search for solutions: what is known half way.
-use Rattle.std.specs.Prelude.{ℕ, List, [], ◌∷◌, ◌++◌, ◌≡◌, ◌≢◌, Bool, true, false, cond, Option, None, Some, IsSome, All, Contains, slice_get, map, if◌then◌else◌}
+use Rattle.std.specs.Prelude.{ℕ, List, [], ◌∷◌, ◌++◌, ◌≡◌, ◌≢◌, Bool, true, false, Option, None, Some, IsSome, All, slice_get, map}
 use Rattle.rdf_graph.specs.Pattern.{Binding, Extends, HoldsIn, IsVariableOf, NamedOnce, value_of}
 use Rattle.rdf_graph.specs.Term.{term_eq}
 use Rattle.rdf_graph.specs.declared.bound.Bound.{Bound}

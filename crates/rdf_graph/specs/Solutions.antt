@@ -1,5 +1,5 @@
 -- How many solutions conditions have in a graph.
-use Rattle.std.specs.Prelude.{ℕ, List, ◌≡◌, ◌≢◌}
+use Rattle.std.specs.Prelude.{ℕ, List, ◌≢◌}
 use Rattle.rdf_graph.specs.Pattern.{Binding, IsSolution, NamedOnce, SameBinding, value_of}
 use Rattle.rdf_graph.specs.declared.pattern.Found.{Found}
 use Rattle.rdf_graph.specs.declared.pattern.Found.TheVariants.{Nothing, One, Many}

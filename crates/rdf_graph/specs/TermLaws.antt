@@ -1,9 +1,9 @@
 -- `==` of terms is equality.
-use Rattle.std.proofs.Common.{◌≡◌, Bool, true, false, ◌&&◌, refl, sym, ap}
+use Rattle.std.proofs.Common.{◌≡◌, true, false, refl, sym, ap}
 use Rattle.std.specs.Bool.{Decides, one_answer}
 use Rattle.std.specs.Cmp.{IsEquivalence}
 use Rattle.std.proofs.lemmas.Bool.{and_parts, and_from, false≢true}
-use lib.Pointwise.{pointwise, bytes_decides}
+use lib.Pointwise.{bytes_decides}
 use Rattle.rdf_graph.specs.Term.{term_eq}
 use Rattle.rdf_graph.specs.declared.term.Term.{Term}
 use Rattle.rdf_graph.specs.declared.term.Term.TheVariants.{Iri, Blank, Literal, Tagged}

@@ -1,15 +1,9 @@
 -- The order of triples is total, and triples that it does not tell apart are equal.
-use Rattle.std.proofs.Common.{◌≡◌, ◌++◌, List, ℕ, refl, sym, ap, ◌∙◌, codes}
+use Rattle.std.proofs.Common.{ℕ, refl}
 use Rattle.std.proofs.lemmas.Cmp.{on_total, then_total, nat_list_cmp_total}
-use Rattle.std.proofs.lemmas.List.{append_cancel_left, append_cancel_right}
-use Rattle.std.proofs.lemmas.Map.Lookups.{exact_bytes}
 use Rattle.std.specs.Cmp.{IsTotalOrder}
-use Rattle.std.specs.Ordering.{ordering_then}
-use Rattle.std.specs.declared.cmp.Ordering.{Ordering}
-use Rattle.std.specs.declared.cmp.Ordering.TheVariants.{Equal, Less, Greater}
 use Rattle.rdf_graph.specs.Term.{text}
 use Rattle.rdf_graph.specs.Triple.{line, triple_cmp}
-use Rattle.rdf_graph.specs.declared.triple.Triple.{Triple}
 
 pub triple_cmp_total : IsTotalOrder triple_cmp
 unfolding triple_cmp

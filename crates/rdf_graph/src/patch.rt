@@ -17,8 +17,7 @@ use crate::term::Term;
 use crate::triple::Triple;
 use pod_base::{List, Mem, NoMemory, Text};
 use std::alloc::Global;
-use std::error::Error;
-use std::fmt;
+use thiserror::Error;
 
 /// A change that depends on the graph: where the conditions hold under one mapping, the deletions go
 /// and the insertions come, as that mapping makes them.
@@ -30,33 +29,24 @@ pub struct Patch {
 }
 
 /// Why a patch can't be carried out.
-#[derive(Clone, Copy, Debug, PartialEq, Eq)]
+#[derive(Clone, Copy, Debug, PartialEq, Eq, Error)]
 pub enum PatchFault {
     /// No mapping makes the conditions triples of the graph.
+    #[error("no mapping satisfies the conditions")]
     NoMatch,
     /// More than one does.
+    #[error("more than one mapping satisfies the conditions")]
     ManyMatches,
     /// A deletion isn't in the graph.
+    #[error("a deletion is not in the graph")]
     MissingDeletion,
     /// An insertion has a literal as its subject, or another term than an IRI as its predicate.
+    #[error("an insertion is no triple of RDF")]
     NotTriple,
     /// No memory was left.
+    #[error("out of memory")]
     NoMemory,
 }
-
-impl fmt::Display for PatchFault {
-    fn fmt<W: fmt::Write>(&self, f: &mut fmt::Formatter<W>) -> fmt::Result {
-        match self {
-            PatchFault::NoMatch => write!(f, "no mapping satisfies the conditions"),
-            PatchFault::ManyMatches => write!(f, "more than one mapping satisfies the conditions"),
-            PatchFault::MissingDeletion => write!(f, "a deletion is not in the graph"),
-            PatchFault::NotTriple => write!(f, "an insertion is no triple of RDF"),
-            PatchFault::NoMemory => write!(f, "out of memory"),
-        }
-    }
-}
-
-impl Error for PatchFault {}
 
 impl From<NoMemory> for PatchFault {
     ghost from_gives = { λ _ fault. fault ≡ OutOfMemory };

@@ -10,21 +10,38 @@ use pod_base::{List, Text};
 use std::alloc::Global;
 use std::test::Fail;
 
-/// A term by its first byte: `<` before an IRI of e.example, `_` before a label, `"` before a number,
-/// and else a text in English.
+/// The IRI of a name: the name itself where it is absolute, and else one of e.example.
+fn iri(alloc: Global, name: &str) -> Result<Iri, Fail> {
+    if name.starts_with("http:") {
+        return Ok(Iri::read(alloc, name)?);
+    }
+    let text = format!(in alloc; "http://e.example/{name}")?;
+    Ok(Iri::read(alloc, text.as_str())?)
+}
+
+/// A literal of a datatype of XML Schema.
+fn literal(alloc: Global, lexical: &str, datatype: &str) -> Result<Term, Fail> {
+    let datatype = format!(in alloc; "http://www.w3.org/2001/XMLSchema#{datatype}")?;
+    Ok(Term::Literal {
+        lexical: Text::of(alloc, lexical)?,
+        datatype: Iri::read(alloc, datatype.as_str())?,
+    })
+}
+
+/// A term by its first byte: `<` before an IRI, `_` before a label, `"` before an integer, `'` before a plain
+/// string, and else a text in English.
 fn term(alloc: Global, text: &str) -> Result<Term, Fail> {
     if let Some(name) = text.strip_prefix("<") {
-        let text = format!(in alloc; "http://e.example/{name}")?;
-        return Ok(Term::Iri(Iri::read(alloc, text.as_str())?));
+        return Ok(Term::Iri(iri(alloc, name)?));
     }
     if let Some(label) = text.strip_prefix("_") {
         return Ok(Term::Blank(Text::of(alloc, label)?));
     }
     if let Some(number) = text.strip_prefix("\"") {
-        return Ok(Term::Literal {
-            lexical: Text::of(alloc, number)?,
-            datatype: Iri::read(alloc, "http://www.w3.org/2001/XMLSchema#integer")?,
-        });
+        return literal(alloc, number, "integer");
+    }
+    if let Some(string) = text.strip_prefix("'") {
+        return literal(alloc, string, "string");
     }
     Ok(Term::Tagged {
         lexical: Text::of(alloc, text)?,
@@ -166,32 +183,107 @@ fn text_of(alloc: Global, graph: &Graph) -> Result<Vec<u8>, Fail> {
     Ok(text)
 }
 
+/// A copy of the triple of a row.
+fn rdf_triple(alloc: Global, row: &Row<'_>) -> Result<Triple, Fail>
+    ensures { IfOk result IsRdf }
+{
+    let first = triple(alloc, row)?;
+    let copy = first.copy(alloc)?;
+    if copy != first || !copy.is_rdf() {
+        return Err(Fail::new("no equal triple of RDF"));
+    }
+    Ok(copy)
+}
+
+/// The triples of these rows, and then of these rows once more.
+fn twice(alloc: Global, rows: &[&Row<'_>]) -> Result<List<Triple>, Fail>
+    ensures { IfOk result (λ triples. All IsRdf triples.items) }
+{
+    let mut triples = Vec::new(alloc);
+    for row in rows.iter().chain(rows.iter()) {
+        let triple = rdf_triple(alloc, row)?;
+        triples.push(triple)?;
+    }
+    Ok(List::from_vec(triples))
+}
+
+/// The graph of these rows, put in one by one.
+fn one_by_one(alloc: Global, rows: &[&Row<'_>]) -> Result<Graph, Fail> {
+    let mut graph = Graph::new(alloc);
+    for row in rows {
+        let triple = rdf_triple(alloc, row)?;
+        graph.insert(alloc, triple)?;
+    }
+    Ok(graph)
+}
+
+/// Whether the graph of these rows has this text, made at once or one by one.
+fn has_text(alloc: Global, rows: &[&Row<'_>], text: &[u8]) -> Result<bool, Fail> {
+    let at_once = Graph::of(twice(alloc, rows)?);
+    let one_by_one = one_by_one(alloc, rows)?;
+    Ok(
+        text_of(alloc, &at_once)?.as_slice() == text
+            && text_of(alloc, &one_by_one)?.as_slice() == text,
+    )
+}
+
+/// Whether these rows have this text, in whatever order they come.
+fn have_text(alloc: Global, rows: &[Row<'_>; 4], text: &[u8]) -> Result<bool, Fail> {
+    let [w, x, y, z] = rows;
+    for [a, b, c] in [
+        [w, x, y],
+        [w, y, x],
+        [x, w, y],
+        [x, y, w],
+        [y, w, x],
+        [y, x, w],
+    ] {
+        for order in [[z, a, b, c], [a, z, b, c], [a, b, z, c], [a, b, c, z]] {
+            if !has_text(alloc, &order, text)? {
+                return Ok(false);
+            }
+        }
+    }
+    Ok(true)
+}
+
 #[test]
 fn lines_stand_in_byte_order(rt: HostRuntime) -> Result<(), Fail> {
     let alloc = rt.alloc();
-    let rows: [Row<'_>; 4] = [
+    let blanks: [Row<'_>; 4] = [
         ["_g0", "<p", "_g1"],
         ["_g0", "<p", "_g2"],
-        ["_g0", "<p/q", "say \"\\\r\n"],
-        ["_g0-", "<p", "\"7"],
+        [
+            "_g2",
+            "<http://www.w3.org/1999/02/22-rdf-syntax-ns#first",
+            "\"1",
+        ],
+        [
+            "_g2",
+            "<http://www.w3.org/1999/02/22-rdf-syntax-ns#rest",
+            "<http://www.w3.org/1999/02/22-rdf-syntax-ns#nil",
+        ],
     ];
-    let wanted =
-        b"_:g0 <http://e.example/p/q> \"say \\\"\\\\\\r\\n\"@en .\n_:g0 <http://e.example/p> _:g1 .\n_:g0 <http://e.example/p> _:g2 .\n_:g0- <http://e.example/p> \"7\"^^<http://www.w3.org/2001/XMLSchema#integer> .\n";
-    for first in 0..4 {
-        let mut turned = Vec::new(alloc);
-        for step in 0..8 {
-            turned.push(triple(alloc, &rows[(first + 3 * step) % 4])?)?;
-        }
-        let mut kept = Graph::new(alloc);
-        for triple in turned {
-            if !triple.is_rdf() {
-                return Err(Fail::new("no triple of RDF"));
-            }
-            kept.insert(alloc, triple)?;
-        }
-        assert_eq!(rt; text_of(alloc, &kept)?.as_slice(), wanted.as_slice());
-        assert_eq!(rt; kept.len(), 4);
-    }
+    assert!(rt;
+        have_text(
+            alloc,
+            &blanks,
+            b"_:g0 <http://e.example/p> _:g1 .\n_:g0 <http://e.example/p> _:g2 .\n_:g2 <http://www.w3.org/1999/02/22-rdf-syntax-ns#first> \"1\"^^<http://www.w3.org/2001/XMLSchema#integer> .\n_:g2 <http://www.w3.org/1999/02/22-rdf-syntax-ns#rest> <http://www.w3.org/1999/02/22-rdf-syntax-ns#nil> .\n"
+        )?
+    );
+    let literals: [Row<'_>; 4] = [
+        ["_g0", "<p/q", "say \"\\\r\n"],
+        ["_g0", "<p", "'say \"\\\r\n"],
+        ["_g0-", "<p", "\"7"],
+        ["_g0", "<p", "'"],
+    ];
+    assert!(rt;
+        have_text(
+            alloc,
+            &literals,
+            b"_:g0 <http://e.example/p/q> \"say \\\"\\\\\\r\\n\"@en .\n_:g0 <http://e.example/p> \"\" .\n_:g0 <http://e.example/p> \"say \\\"\\\\\\r\\n\" .\n_:g0- <http://e.example/p> \"7\"^^<http://www.w3.org/2001/XMLSchema#integer> .\n"
+        )?
+    );
     Ok(())
 }
 

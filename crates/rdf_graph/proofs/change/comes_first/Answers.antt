@@ -1,6 +1,5 @@
-use Rattle.std.proofs.Common.{◌≡◌, ◌∙◌, ◌↔◌, ap, sym, subst, Some, Bool, true, refl, List, ℕ}
+use Rattle.std.proofs.Common.{◌≡◌, ◌∙◌, ◌↔◌, ap, sym, Some, Bool, true, refl, List, ℕ}
 use Rattle.std.specs.Prelude.{slice_get, IsTrue}
-use Rattle.std.specs.List.{Contains, All}
 use Rattle.std.specs.Ordering.{is_lt}
 use Rattle.std.specs.declared.cmp.Ordering.{Ordering}
 use Rattle.std.specs.declared.cmp.Ordering.TheVariants.{Less, Equal, Greater}

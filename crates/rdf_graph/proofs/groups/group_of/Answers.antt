@@ -1,8 +1,7 @@
-use Rattle.std.proofs.Common.{◌≡◌, ◌∙◌, ◌<◌, ◌+◌, ◌∷◌, [], ◌++◌, List, ap, sym, subst, map, cond, eqb, take, length, get_or, true, false}
+use Rattle.std.proofs.Common.{◌∙◌, ◌<◌, ◌+◌, ◌∷◌, [], ◌++◌, ap, sym, subst, map, cond, eqb, take, length, get_or}
 use Rattle.std.proofs.lemmas.Bool.{eq-eqb, ne_eqb}
 use Rattle.std.proofs.lemmas.List.{map-append, append-nil, get_or_default}
 use Rattle.rdf_graph.specs.Groups.{selected}
-use Rattle.rdf_graph.specs.declared.pattern.Pattern.{Pattern}
 use Rattle.rdf_graph.proofs.Grouping.{selected_more}
 use Rattle.rdf_graph.proofs.groups.group_of.Goals as goal
 use Rattle.rdf_graph.proofs.groups.group_of.Goals.{then-labels-i+in_ok-push, else-labels-i}

@@ -1,7 +1,7 @@
-use Rattle.std.proofs.Common.{◌≡◌, ◌∙◌, ◌<◌, ◌≤◌, ◌+◌, ◌∷◌, [], ◌++◌, ap, sym, subst, length, take, drop, arith, List, ℕ}
+use Rattle.std.proofs.Common.{◌≡◌, ◌∙◌, ◌<◌, ◌+◌, ◌∷◌, [], ◌++◌, ap, sym, subst, length, take, drop, arith, ℕ}
 use Rattle.std.specs.List.{All}
 use Rattle.std.proofs.lemmas.List.{length_push}
-use Rattle.rdf_graph.specs.Groups.{AreJoined, AreGroups}
+use Rattle.rdf_graph.specs.Groups.{AreJoined}
 use Rattle.rdf_graph.proofs.Grouping.{joined_push, joined_row, joined_all, refilled}
 use Rattle.rdf_graph.proofs.groups.groups.Goals as goal
 

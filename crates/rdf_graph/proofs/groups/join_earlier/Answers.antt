@@ -1,9 +1,8 @@
-use Rattle.std.proofs.Common.{◌≡◌, ◌∙◌, ◌<◌, ◌≤◌, ◌+◌, ℕ, List, Some, ap, sym, subst, map, cond, eqb, true, false, length, get_or, arith}
-use Rattle.std.specs.Prelude.{slice_get}
+use Rattle.std.proofs.Common.{◌≡◌, ◌∙◌, ◌<◌, ◌+◌, ℕ, sym, subst, map, cond, eqb, true, false, length, get_or, arith}
 use Rattle.std.specs.List.{All}
 use Rattle.std.proofs.lemmas.Option.{slice_get-get_or}
 use Rattle.std.proofs.lemmas.Bool.{true≢false}
-use Rattle.rdf_graph.specs.Groups.{AreJoined, Connects}
+use Rattle.rdf_graph.specs.Groups.{AreJoined}
 use Rattle.rdf_graph.proofs.Grouping.{joined_relabel, joined_apart, small_relabel, connects_at}
 use Rattle.rdf_graph.proofs.groups.join_earlier.Goals as goal
 use Rattle.rdf_graph.proofs.groups.join_earlier.Goals.{then-shares_variable, else-shares_variable}

@@ -1,4 +1,4 @@
-use Rattle.std.proofs.Common.{◌≡◌, ◌<◌, cond, eqb, length, get_or, arith}
+use Rattle.std.proofs.Common.{◌<◌, cond, eqb, length, get_or, arith}
 use Rattle.std.proofs.lemmas.List.{get_or_default}
 use Rattle.rdf_graph.proofs.Grouping.{relabelled_more}
 use Rattle.rdf_graph.proofs.groups.relabel.Goals as goal

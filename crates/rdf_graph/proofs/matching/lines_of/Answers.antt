@@ -1,12 +1,10 @@
-use Rattle.std.proofs.Common.{rules, ◌≡◌, true, false, Some, take, drop, subst, sym, length, ◌-◌, List}
+use Rattle.std.proofs.Common.{rules, ◌≡◌, true, false, Some, take, drop, subst, sym, length, ◌-◌}
 use Rattle.std.specs.Ordering.{is_lt, is_le}
 use Rattle.std.specs.List.Sorted.{IsPartitionPoint, IsPartitionedBy}
 use Rattle.std.proofs.lemmas.List.{take_rest}
 use Rattle.std.proofs.lemmas.List.Sorted.{IsPartitionPoint-from_clause}
-use Rattle.rdf_graph.specs.Graph.{IsOrdered}
 use Rattle.rdf_graph.specs.Span.{IsSpan}
 use Rattle.rdf_graph.specs.Triple.{line, opening, begins_cmp, triple_cmp}
-use Rattle.rdf_graph.specs.declared.triple.Triple.{Triple}
 use Rattle.rdf_graph.proofs.Sorted.{sorted_drop}
 use Rattle.rdf_graph.proofs.Spans.{span_between, lines_before, lines_upto}
 use Rattle.rdf_graph.proofs.matching.lines_of.Goals as goal

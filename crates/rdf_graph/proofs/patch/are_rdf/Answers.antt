@@ -1,4 +1,4 @@
-use Rattle.std.proofs.Common.{◌≡◌, ◌∙◌, ◌≤◌, sym, arith, length}
+use Rattle.std.proofs.Common.{◌∙◌, ◌≤◌, sym, arith, length}
 use Rattle.std.proofs.lemmas.Bool.{true≢false}
 use Rattle.rdf_graph.specs.Triple.{IsRdf}
 use Rattle.rdf_graph.proofs.Members.{all_more, all_of}

@@ -1,7 +1,7 @@
-use Rattle.std.proofs.Common.{◌≡◌, ◌∙◌, ◌↔◌, List, ap, sym, subst, inl, inr}
-use Rattle.std.specs.List.{All, AllZip, Contains}
-use Rattle.rdf_graph.specs.Patch.{AreInstances, AreKnown, IsBound, IsTheSolution}
-use Rattle.rdf_graph.specs.Pattern.{Instantiates, IsVariableOf, value_of}
+use Rattle.std.proofs.Common.{◌↔◌, sym, subst, inl, inr}
+use Rattle.std.specs.List.{All, Contains}
+use Rattle.rdf_graph.specs.Patch.{AreInstances, AreKnown}
+use Rattle.rdf_graph.specs.Pattern.{value_of}
 use Rattle.rdf_graph.specs.Solutions.{AreSolutions, IsOnlySolution}
 use Rattle.rdf_graph.specs.Triple.{IsRdf}
 use Rattle.rdf_graph.specs.declared.triple.Triple.{Triple}

@@ -1,12 +1,9 @@
-use Rattle.std.proofs.Common.{◌≡◌, ◌∙◌, ◌<◌, ◌≤◌, ◌+◌, ap, sym, subst, List, Bool, length, map, set, true, false, take, arith, Some, None, cond, refl}
-use Rattle.std.specs.Prelude.{slice_get}
+use Rattle.std.proofs.Common.{◌≡◌, ◌∙◌, ◌<◌, ◌≤◌, ◌+◌, ap, sym, subst, length, map, set, true, false, take, arith, Some, None, cond, refl}
 use Rattle.std.proofs.lemmas.List.{length-map, length-set, take_all}
-use Rattle.std.proofs.lemmas.Bool.{true≢false}
-use Rattle.rdf_graph.specs.Search.{IsTheOne, IsPartial, Tells, AreTwo, pairs_of, bind_pattern}
+use Rattle.rdf_graph.specs.Search.{IsTheOne, IsPartial, Tells, pairs_of, bind_pattern}
 use Rattle.rdf_graph.specs.Pattern.{Extends, slot_term, value_of}
 use Rattle.rdf_graph.specs.Span.{IsSpan}
 use Rattle.rdf_graph.specs.declared.pattern.Found.TheVariants.{Many}
-use Rattle.rdf_graph.specs.declared.pattern.Pattern.{Pattern}
 use Rattle.rdf_graph.proofs.Telling.{all_taken, leaf_tells, untaken, untaken-set, read_map, next_fits, next_differs, next_partial, set-back, upto_all, upto_two, Upto}
 use Rattle.rdf_graph.proofs.search.+search.Goals as goal
 use Rattle.rdf_graph.proofs.search.+search.Goals.{then-branch+in_ok-more, else-branch}

@@ -1,4 +1,4 @@
-use Rattle.std.proofs.Common.{◌≡◌, Bool, List, take, length, set, true, ◌≤◌}
+use Rattle.std.proofs.Common.{◌≡◌, take}
 use Rattle.std.specs.Prelude.{map}
 use Rattle.rdf_graph.specs.Search.{Tells, pairs_of}
 use Rattle.rdf_graph.proofs.Telling.{Upto, untaken}

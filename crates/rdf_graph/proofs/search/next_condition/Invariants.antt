@@ -1,4 +1,4 @@
-use Rattle.std.proofs.Common.{◌≡◌, ◌<◌, Some, None, true, false, take, length}
+use Rattle.std.proofs.Common.{◌≡◌, ◌<◌, Some, true, false, take, length}
 use Rattle.std.specs.Prelude.{IfSome, IfNone, slice_get}
 use Rattle.std.specs.List.{All}
 use Rattle.rdf_graph.proofs.search.next_condition.Given as goal

@@ -1,4 +1,4 @@
-use Rattle.std.proofs.Common.{◌≡◌, ◌∙◌, ◌≤◌, List, ap, sym, subst, length, map, arith}
+use Rattle.std.proofs.Common.{◌≡◌, ◌∙◌, ap, subst, length, map, arith}
 use Rattle.rdf_graph.specs.Search.{Everything, Tells}
 use Rattle.rdf_graph.specs.Solutions.{AreSolutions}
 use Rattle.rdf_graph.specs.declared.pattern.Found.TheVariants.{Nothing, One}

@@ -1,4 +1,4 @@
-use Rattle.std.proofs.Common.{◌∙◌, ap, map}
+use Rattle.std.proofs.Common.{ap, map}
 use Rattle.std.proofs.lemmas.Result.{IfOk-weaker}
 use Rattle.rdf_graph.specs.Pattern.{Extends}
 use Rattle.rdf_graph.specs.Search.{Everything, Tells, pairs_of}

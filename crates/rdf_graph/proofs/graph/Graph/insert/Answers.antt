@@ -1,6 +1,6 @@
 use Rattle.std.proofs.Common.{subst, sym, ◌≡◌, ◌∙◌, Some}
 use Rattle.std.specs.Prelude.{slice_get}
-use Rattle.std.specs.List.{insert, Contains}
+use Rattle.std.specs.List.{insert}
 use Rattle.rdf_graph.specs.Graph.{IsGraph, SetWith}
 use Rattle.rdf_graph.specs.Place.{IsGap}
 use Rattle.rdf_graph.proofs.Graphs.{at_place, absent, graph_with, set_with_itself}

@@ -1,13 +1,11 @@
-use Rattle.std.proofs.Common.{◌≡◌, ◌≤◌, ◌∙◌, ◌↔◌, ap, sym, subst, take, arith, List, length}
+use Rattle.std.proofs.Common.{◌≤◌, ◌∙◌, ◌↔◌, ap, sym, subst, arith, length}
 use Rattle.std.specs.List.{filter, Contains}
 use Rattle.std.specs.Option.{option_copied}
 use Rattle.std.proofs.lemmas.List.{take_all}
-use Rattle.std.specs.List.Sorted.{IsStrictlySortedBy}
 use Rattle.std.proofs.lemmas.List.Kept.{IsStrictlySortedBy-filter}
 use Rattle.rdf_graph.specs.Graph.{IsOrdered}
 use Rattle.rdf_graph.specs.Span.{IsSpan}
 use Rattle.rdf_graph.specs.Triple.{agrees, Agrees, triple_cmp}
-use Rattle.rdf_graph.specs.declared.triple.Triple.{Triple}
 use Rattle.rdf_graph.proofs.Spans.{span_members}
 use Rattle.rdf_graph.proofs.graph.Graph.matching.Goals as goal
 

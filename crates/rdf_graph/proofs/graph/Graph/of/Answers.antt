@@ -2,7 +2,7 @@ use Rattle.std.proofs.Common.{subst, sym, ◌≡◌}
 use Rattle.std.specs.List.{All, dedup}
 use Rattle.std.specs.Ordering.{eq_by_cmp}
 use Rattle.std.proofs.lemmas.List.Filters.{dedup_is}
-use Rattle.rdf_graph.specs.Graph.{IsGraph, SameSet}
+use Rattle.rdf_graph.specs.Graph.{SameSet}
 use Rattle.rdf_graph.specs.Triple.{triple_cmp, IsRdf}
 use Rattle.rdf_graph.proofs.Graphs.{same_after_sort, graph_after_sort}
 use Rattle.rdf_graph.proofs.graph.Graph.of.Goals as goal

@@ -1,7 +1,7 @@
 use Rattle.std.proofs.Common.{subst, sym, ◌≡◌, ◌∙◌, Some, refl}
 use Rattle.std.proofs.lemmas.Bool.{false≢true}
 use Rattle.std.specs.Prelude.{slice_get}
-use Rattle.std.specs.List.{remove, Contains}
+use Rattle.std.specs.List.{remove}
 use Rattle.rdf_graph.specs.Graph.{IsGraph, SetWithout}
 use Rattle.rdf_graph.specs.Place.{IsGap}
 use Rattle.rdf_graph.proofs.Graphs.{at_place, absent, graph_without, set_without, set_without_other}

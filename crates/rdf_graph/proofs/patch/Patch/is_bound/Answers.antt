@@ -1,6 +1,6 @@
 use Rattle.std.proofs.Common.{◌≡◌, ◌∙◌, ◌↔◌, List, ℕ, Bool, true, false, sym, subst, inl, inr, ⊎_elim}
 use Rattle.std.specs.Prelude.{IsTrue}
-use Rattle.std.proofs.lemmas.Bool.{true≢false, false≢true}
+use Rattle.std.proofs.lemmas.Bool.{true≢false}
 use Rattle.rdf_graph.specs.Patch.{AllBound, IsBound}
 use Rattle.rdf_graph.specs.Pattern.{IsVariableOf}
 use Rattle.rdf_graph.specs.declared.patch.Patch.{Patch}
