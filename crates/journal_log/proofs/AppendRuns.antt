@@ -29,7 +29,7 @@ module _ {D : Type 0} (moment : D → ℕ) (image : D → List ℕ → Type 0) (
   gate_run old new short run =
       weaker image moment left_since old new (IsOpening front (framed_of body)) _ (λ c opening. stands_opening journal bodies front is body c short opening) run
 
-true_is_false : true ≡ false → ⊥
+pub true_is_false : true ≡ false → ⊥
 true_is_false is = cc
 
 -- where the flag says so, the gate is in doubt

@@ -4,3 +4,6 @@ pub mod Once
 pub mod GateWrites
 pub mod Records
 pub mod AppendRuns
+pub mod HeadBytes
+pub mod QuietRuns
+pub mod WindowReads

@@ -2,9 +2,13 @@
 use Rattle.std.specs.Prelude.{◌≡◌, ◌⊎◌, ◌+◌, ◌<◌, ◌≤◌, ◌^◌, ℕ, List, [], ◌∷◌, ◌++◌}
 use Rattle.std.specs.Int.{to_be_bytes, w64}
 
--- `PODJRNL` and the digit of the format, and then the epoch as eight bytes, the greatest first
+-- `PODJRNL` and the digit of the format
+abbrev pub mark_of : ℕ → List ℕ
+mark_of format = 80 ∷ 79 ∷ 68 ∷ 74 ∷ 82 ∷ 78 ∷ 76 ∷ (48 + format) ∷ []
+
+-- the mark, and the epoch as eight bytes, the greatest first
 unfoldable pub head_of : ℕ → ℕ → List ℕ
-head_of format epoch = (80 ∷ 79 ∷ 68 ∷ 74 ∷ 82 ∷ 78 ∷ 76 ∷ (48 + format) ∷ []) ++ to_be_bytes w64 epoch
+head_of format epoch = mark_of format ++ to_be_bytes w64 epoch
 
 -- Format 1 or 2, and an epoch of at most 2^63. A journal of format 1 has a lesser one, so that there is one behind it.
 pub record IsKnown (format epoch : ℕ) : Type 0 where

@@ -5,3 +5,4 @@ pub mod Laws
 pub mod Held
 pub mod Gates
 pub mod Resting
+pub mod Reading

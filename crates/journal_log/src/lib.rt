@@ -1,13 +1,17 @@
 //! A journal on one disk: records behind gates.
 #![tactic(auto)]
 
+mod buffered;
 mod fault;
 mod framed;
 mod gate;
+mod head;
 mod journal;
 mod laws;
+mod window;
 
 pub use fault::{DiskFault, OpenFault, RenewFault, Side};
 pub use framed::{Framed, frame};
+pub use head::{Head, new_head};
 pub use journal::Journal;
 pub use laws::{damaged_once, stands_once, stands_or_damaged};
