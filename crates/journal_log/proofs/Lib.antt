@@ -7,3 +7,4 @@ pub mod AppendRuns
 pub mod HeadBytes
 pub mod QuietRuns
 pub mod WindowReads
+pub mod FrameReads

@@ -6,3 +6,5 @@ pub mod Held
 pub mod Gates
 pub mod Resting
 pub mod Reading
+pub mod Scanning
+pub mod Causes

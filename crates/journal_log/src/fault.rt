@@ -1,4 +1,9 @@
+ghost use Rattle.std.specs.Prelude.{◌≡◌};
+ghost use Rattle.journal_log.specs.declared.fault.OpenFault.TheVariants as open_fault;
+
+use pod_base::NoMemory;
 use pod_io::Failed;
+use std::alloc::AllocError;
 use thiserror::Error;
 
 /// Which of two disks a journal lies on.
@@ -43,5 +48,29 @@ pub enum RenewFault {
 impl From<Failed> for DiskFault {
     fn from(_failed: Failed) -> DiskFault {
         DiskFault
+    }
+}
+
+impl From<Failed> for OpenFault {
+    ghost from_gives = { λ _ fault. fault ≡ open_fault.DiskFault };
+
+    fn from(_failed: Failed) -> OpenFault {
+        OpenFault::DiskFault
+    }
+}
+
+impl From<NoMemory> for OpenFault {
+    ghost from_gives = { λ _ fault. fault ≡ open_fault.NoMemory };
+
+    fn from(_error: NoMemory) -> OpenFault {
+        OpenFault::NoMemory
+    }
+}
+
+impl From<AllocError> for OpenFault {
+    ghost from_gives = { λ _ fault. fault ≡ open_fault.NoMemory };
+
+    fn from(_error: AllocError) -> OpenFault {
+        OpenFault::NoMemory
     }
 }

@@ -8,6 +8,7 @@ mod gate;
 mod head;
 mod journal;
 mod laws;
+mod scan;
 mod window;
 
 pub use fault::{DiskFault, OpenFault, RenewFault, Side};
