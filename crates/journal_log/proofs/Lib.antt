@@ -8,3 +8,4 @@ pub mod HeadBytes
 pub mod QuietRuns
 pub mod WindowReads
 pub mod FrameReads
+pub mod WalkSteps

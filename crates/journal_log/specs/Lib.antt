@@ -8,3 +8,4 @@ pub mod Resting
 pub mod Reading
 pub mod Scanning
 pub mod Causes
+pub mod Walking

@@ -9,6 +9,7 @@ mod head;
 mod journal;
 mod laws;
 mod scan;
+mod walk;
 mod window;
 
 pub use fault::{DiskFault, OpenFault, RenewFault, Side};
