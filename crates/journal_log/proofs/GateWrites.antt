@@ -1,6 +1,7 @@
 -- What the two writes of an append make of an image.
-use Rattle.std.proofs.Common.{◌≡◌, ℕ, ◌+◌, List, [], ◌∷◌, ◌++◌, length, drop, refl, sym, ◌∙◌, ap, subst, arith, append_assoc, length-append}
-use Rattle.std.proofs.lemmas.List.{drop_at}
+use Rattle.std.proofs.Common.{◌≡◌, inl, inr, take, ℕ, ◌+◌, List, [], ◌∷◌, ◌++◌, length, drop, refl, sym, ◌∙◌, ap, subst, arith, append_assoc, length-append}
+use Rattle.std.proofs.lemmas.List.{drop_at, take_all}
+use Rattle.std.proofs.lemmas.Bool.{cases_lt}
 use Rattle.pod_disk.specs.Disk.{Torn, overwritten}
 use Rattle.journal_log.specs.Gates.{IsShut, IsClosed, IsGated, IsOpening}
 use Rattle.pod_disk.proofs.Torn.{torn_before, torn_inside, overwritten_at}
@@ -70,3 +71,15 @@ written_head head d whole (old, was, closed) = (
 
 pub shut_behind : (n : ℕ) (d c : List ℕ) → Torn 17 n d c → IsShut d → IsShut c
 shut_behind n d c torn (head, whole, closed) = (head, whole, closed_behind head d c 17 n (omega (arith, whole)) torn closed)
+
+-- a write that changed nothing
+pub torn_self : (d : List ℕ) (at n : ℕ) → Torn at n d d
+torn_self d at n = record {
+  before = elim (cases_lt at (length d)) [
+    | inl le ↦ ap (λ (m : ℕ). take m d) (omega (arith, le))
+    | inr lt ↦ ap (λ (m : ℕ). take m d) (omega (arith, lt)) ∙ take_all (length d) d (omega arith) ∙ sym (take_all at d (omega (arith, lt)))
+  ];
+  behind = refl;
+  no_shorter = omega arith;
+  no_longer = omega arith;
+}

@@ -1,6 +1,6 @@
 -- The sixteen bytes of a head.
 use Rattle.std.proofs.Common.{◌≡◌, ◌≢◌, ⊎_elim, ℕ, ◌+◌, ◌<◌, ◌^◌, List, [], ◌∷◌, ◌++◌, length, take, drop, refl, sym, ◌∙◌, ap, subst, arith, append_assoc, length-append, take-append-drop}
-use Rattle.std.proofs.lemmas.List.{take_at, drop_at, drop-drop, append-nil}
+use Rattle.std.proofs.lemmas.List.{take_at, drop_at, drop-drop, take-take, append-nil}
 use Rattle.std.specs.Int.{to_be_bytes, w64}
 use Rattle.journal_log.specs.Heads.{mark_of, head_of, IsKnown, NoHead}
 use Rattle.journal_log.proofs.Splits.{length_be, length_head, number_is}
@@ -50,3 +50,9 @@ no_head_epoch bytes format epoch mark small spelled unknown format_2 epoch_2 res
 pub no_head_front : (bytes : List ℕ) → NoHead (take 16 bytes) → NoHead bytes
 no_head_front bytes none format epoch rest known is =
     none format epoch [] known (ap (λ (l : List ℕ). take 16 l) is ∙ take_at (head_of format epoch) rest 16 (length_head format epoch) ∙ sym (append-nil (head_of format epoch)))
+
+pub head_front : (bytes all rest : List ℕ) (format epoch : ℕ) → bytes ≡ take 16 all → bytes ≡ head_of format epoch ++ rest → all ≡ head_of format epoch ++ drop 16 all
+head_front bytes all rest format epoch taken is =
+    let head : take 16 all ≡ head_of format epoch =
+    sym (take-take 16 16 all (omega arith)) ∙ ap (λ (l : List ℕ). take 16 l) (sym taken ∙ is) ∙ take_at (head_of format epoch) rest 16 (length_head format epoch) in
+    sym (take-append-drop 16 all) ∙ ap (λ (l : List ℕ). l ++ drop 16 all) head

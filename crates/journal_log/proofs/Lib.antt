@@ -9,3 +9,4 @@ pub mod QuietRuns
 pub mod WindowReads
 pub mod FrameReads
 pub mod WalkSteps
+pub mod OpenRuns

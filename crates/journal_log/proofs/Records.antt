@@ -1,5 +1,5 @@
 -- What an image stands for while a record is added.
-use Rattle.std.proofs.Common.{◌≡◌, inl, inr, ℕ, zero, suc, ◌+◌, ◌≤◌, List, [], ◌∷◌, ◌++◌, length, All, false, refl, sym, ◌∙◌, ap, subst, arith, append_assoc, length-append}
+use Rattle.std.proofs.Common.{◌≡◌, ◌≢◌, inl, inr, ℕ, zero, suc, ◌+◌, ◌≤◌, List, [], ◌∷◌, ◌++◌, length, All, false, refl, sym, ◌∙◌, ap, subst, arith, append_assoc, length-append}
 use Rattle.std.proofs.lemmas.List.{append-nil}
 use Rattle.std.proofs.lemmas.List.Elements.{All-append}
 use Rattle.std.proofs.lemmas.Bool.{cases_eq}
@@ -55,20 +55,24 @@ module _ (journal : Held) (bodies : List (List ℕ)) (front : List ℕ) (is : Is
   pub stands_closed : (c : List ℕ) → IsClosed front c → Stands journal.format journal.epoch bodies c
   stands_closed c closed = subst (Stands journal.format journal.epoch bodies) (sym closed.1) (subst (λ (l : List (List ℕ)). Stands journal.format journal.epoch l (front ++ (0 ∷ closed.0))) (append-nil bodies) (behind [] 0 closed.0 (closed.0, refl)))
 
-  -- with the record behind it, any gate leaves them or one more
+  -- with the record behind it, an open gate makes them one more
+  pub stands_gated : (body c : List ℕ) (gate : ℕ) → IsShort body → gate ≢ 0 → IsGated front gate (framed_of body) c → Stands journal.format journal.epoch (bodies ++ body ∷ []) c
+  stands_gated body c gate short open_gate gated = subst (Stands journal.format journal.epoch (bodies ++ body ∷ [])) (sym gated.1) (behind (body ∷ []) gate (framed_of body ++ gated.0) (record {
+    gate = gate;
+    next = 0;
+    rest = gated.0;
+    spells = ap (λ (l : List ℕ). gate ∷ l) (append_assoc (sized body) (0 ∷ []) gated.0);
+    is_open = open_gate;
+    last = inr refl;
+    short = short;
+    behind = (gated.0, refl);
+  }))
+
+  -- and any gate leaves them or one more
   pub stands_opening : (body c : List ℕ) → IsShort body → IsOpening front (framed_of body) c → IsEither journal.format journal.epoch bodies body c
   stands_opening body c short gated = elim (cases_eq gated.0 0) [
     | inl shut ↦ inl (stands_closed c (framed_of body ++ gated.1.0, gated.1.1 ∙ ap (λ (n : ℕ). front ++ (n ∷ (framed_of body ++ gated.1.0))) shut))
-    | inr open_gate ↦ inr (subst (Stands journal.format journal.epoch (bodies ++ body ∷ [])) (sym gated.1.1) (behind (body ∷ []) gated.0 (framed_of body ++ gated.1.0) (record {
-      gate = gated.0;
-      next = 0;
-      rest = gated.1.0;
-      spells = ap (λ (l : List ℕ). gated.0 ∷ l) (append_assoc (sized body) (0 ∷ []) gated.1.0);
-      is_open = open_gate;
-      last = inr refl;
-      short = short;
-      behind = (gated.1.0, refl);
-    })))
+    | inr open_gate ↦ inr (stands_gated body c gated.0 short open_gate gated.1)
   ]
 
   -- the record joins the front

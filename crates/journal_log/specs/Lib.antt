@@ -9,3 +9,4 @@ pub mod Reading
 pub mod Scanning
 pub mod Causes
 pub mod Walking
+pub mod Opening

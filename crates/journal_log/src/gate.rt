@@ -4,7 +4,7 @@ ghost use Rattle.std.specs.Prelude.{◌≡◌, ◌+◌, ◌<◌, ◌≤◌, ◌^
 ghost use Rattle.pod_io.specs.Counts.{Counts};
 ghost use Rattle.pod_io.specs.Told.{IfTold};
 ghost use Rattle.pod_disk.specs.Disk.{Each, LeavesOnly};
-ghost use Rattle.journal_log.specs.Gates.{IsClosed, IsGated, IsOpening};
+ghost use Rattle.journal_log.specs.Gates.{IsClosed, IsGated, IsOpening, IsTornFrom};
 
 use pod_disk::Disk;
 use pod_io::Failed;
@@ -28,6 +28,7 @@ fn write_gate<D: Disk>(disk: &mut D, end: u64, gate: u8) -> Result<(), Failed>
     requires { IfTold (D.content disk.old) (λ b. end ≤ length b) }
     ensures moments { (front behind : List ℕ) → length front ≡ end → Each (D.image disk.old) (IsOpening front behind)
         → LeavesOnly D.moment D.left_since disk.old disk.new (IsOpening front behind) × Each (D.image disk.new) (IsOpening front behind) }
+    ensures torn { LeavesOnly D.moment D.left_since disk.old disk.new (IsTornFrom (D.image disk.old) end 1) }
     ensures written { OnOk result ((front behind : List ℕ) → length front ≡ end → Each (D.image disk.old) (IsOpening front behind)
         → IfTold (D.content disk.new) (IsGated front gate behind)) }
     ensures faults { Counts result (D.faults disk.old) (D.faults disk.new) }
@@ -55,6 +56,7 @@ pub fn set_gate<D: Disk>(disk: &mut D, end: u64, gate: u8) -> Result<(), Failed>
     requires { IfTold (D.content disk.old) (λ b. end ≤ length b) }
     ensures moments { (front behind : List ℕ) → length front ≡ end → Each (D.image disk.old) (IsOpening front behind)
         → LeavesOnly D.moment D.left_since disk.old disk.new (IsOpening front behind) × Each (D.image disk.new) (IsOpening front behind) }
+    ensures torn { LeavesOnly D.moment D.left_since disk.old disk.new (IsTornFrom (D.image disk.old) end 1) }
     ensures set { OnOk result ((front behind : List ℕ) → length front ≡ end → Each (D.image disk.old) (IsOpening front behind)
         → Each (D.image disk.new) (IsGated front gate behind)) }
     ensures faults { Counts result (D.faults disk.old) (D.faults disk.new) }

@@ -1,12 +1,15 @@
 ghost use Rattle.std.specs.Prelude.{◌≡◌, ◌≢◌, ◌⊎◌, ◌+◌, ◌<◌, ◌≤◌, ◌^◌, ◌++◌, ◌∷◌, [], List, ℕ, length, OnOk, OnErr, true, false};
 ghost use Rattle.pod_io.specs.Counts.{Counts};
 ghost use Rattle.pod_disk.specs.Disk.{LeavesOnly};
+ghost use Rattle.journal_log.specs.Heads.{IsKnown};
+ghost use Rattle.journal_log.specs.Walking.{held_at};
 ghost use Rattle.journal_log.specs.Images.{IsEither};
 ghost use Rattle.journal_log.specs.Resting.{Rests, Doubts, RestsOrDoubts};
 
 use crate::fault::DiskFault;
 use crate::framed::Framed;
 use crate::gate::{place, set_gate};
+use crate::head::Head;
 use pod_disk::Disk;
 use std::marker::Model;
 
@@ -36,6 +39,20 @@ impl Model for Journal {
 }
 
 impl Journal {
+    // The journal with this head whose last gate, at this offset, is closed.
+    pub(crate) fn at_rest(head: Head, end: u64) -> Journal
+        requires known { IsKnown head.format head.epoch }
+        requires room { end < 2 ^ 63 }
+        ensures { result ≡ held_at head end }
+    {
+        Journal {
+            end,
+            doubt: false,
+            format: head.format,
+            epoch: head.epoch,
+        }
+    }
+
     /// The format of this journal: 1 or 2. Format 2 is the one that is written, and format 1 is an old one.
     pub fn format(&self) -> u8
         ensures format { result ≡ self.now.format }

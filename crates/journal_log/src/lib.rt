@@ -8,6 +8,7 @@ mod gate;
 mod head;
 mod journal;
 mod laws;
+mod opening;
 mod scan;
 mod walk;
 mod window;
