@@ -2,6 +2,7 @@ pub mod Writing
 pub mod Splits
 pub mod Once
 pub mod GateWrites
+pub mod WriteRuns
 pub mod Records
 pub mod AppendRuns
 pub mod HeadBytes

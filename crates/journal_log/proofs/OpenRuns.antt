@@ -5,7 +5,8 @@ use Rattle.pod_io.specs.Told.{IfTold}
 use Rattle.pod_disk.specs.Disk.{Each, LeavesOnly}
 use Rattle.pod_disk.proofs.Moments.{both, weaker}
 use Rattle.journal_log.specs.Frames.{framed_of}
-use Rattle.journal_log.specs.Gates.{IsGated, IsTornFrom}
+use Rattle.journal_log.specs.Gates.{IsGated}
+use Rattle.journal_log.specs.Writes.{IsTornFrom}
 use Rattle.journal_log.specs.Images.{Stands}
 use Rattle.journal_log.specs.Opening.{IsWhileOpened}
 use Rattle.journal_log.specs.Reading.{Quiet}

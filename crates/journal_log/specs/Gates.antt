@@ -1,5 +1,4 @@
 -- What stands at a gate and behind it.
-use Rattle.pod_disk.specs.Disk.{Torn}
 use Rattle.std.specs.Prelude.{◌≡◌, ℕ, List, ◌∷◌, ◌++◌, length}
 
 -- a gate 0 stands behind these bytes
@@ -17,7 +16,3 @@ IsOpening front behind image = (gate : ℕ) × IsGated front gate behind image
 -- the first gate, behind the sixteen bytes of any head, is 0
 abbrev pub IsShut : List ℕ → Type 0
 IsShut image = (head : List ℕ) × (length head ≡ 16) × IsClosed head image
-
--- one of these images, but for a write of that many bytes at this offset, which a crash may have cut short
-abbrev pub IsTornFrom : (List ℕ → Type 0) → ℕ → ℕ → List ℕ → Type 0
-IsTornFrom images at count image = (from : List ℕ) × images from × Torn at count from image

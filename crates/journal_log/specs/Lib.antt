@@ -10,3 +10,4 @@ pub mod Scanning
 pub mod Causes
 pub mod Walking
 pub mod Opening
+pub mod Writes

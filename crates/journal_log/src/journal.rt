@@ -8,8 +8,8 @@ ghost use Rattle.journal_log.specs.Resting.{Rests, Doubts, RestsOrDoubts};
 
 use crate::fault::DiskFault;
 use crate::framed::Framed;
-use crate::gate::{place, set_gate};
 use crate::head::Head;
+use crate::writes::write_through;
 use pod_disk::Disk;
 use std::marker::Model;
 
@@ -98,9 +98,9 @@ impl Journal {
             → RestsOrDoubts (D.image disk.new) self.new bodies framed.now) }
         ensures faults { Counts result (D.faults disk.old) (D.faults disk.new) }
     {
-        place(disk, self.end, framed.bytes())?;
+        write_through(disk, self.end + 1, framed.bytes())?;
         self.doubt = true;
-        set_gate(disk, self.end, 1)?;
+        write_through(disk, self.end, &[1])?;
         self.doubt = false;
         self.end += framed.bytes().len() as u64;
         Ok(())
@@ -118,7 +118,7 @@ impl Journal {
             → Doubts (D.image disk.new) self.new bodies body) }
         ensures faults { Counts result (D.faults disk.old) (D.faults disk.new) }
     {
-        set_gate(disk, self.end, 0)?;
+        write_through(disk, self.end, &[0])?;
         self.doubt = false;
         Ok(())
     }

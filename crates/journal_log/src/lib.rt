@@ -4,7 +4,6 @@
 mod buffered;
 mod fault;
 mod framed;
-mod gate;
 mod head;
 mod journal;
 mod laws;
@@ -12,6 +11,7 @@ mod opening;
 mod scan;
 mod walk;
 mod window;
+mod writes;
 
 pub use fault::{DiskFault, OpenFault, RenewFault, Side};
 pub use framed::{Framed, frame};

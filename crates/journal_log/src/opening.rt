@@ -11,11 +11,11 @@ ghost use Rattle.journal_log.specs.Opening.{IsWhileOpened};
 ghost use Rattle.journal_log.specs.Causes.{HasCause};
 
 use crate::fault::{OpenFault, Side};
-use crate::gate::set_gate;
 use crate::head::Head;
 use crate::journal::Journal;
 use crate::walk::{Found, Walk, read_records};
 use crate::window::Window;
+use crate::writes::write_through;
 use pod_base::{Bytes, List};
 use pod_disk::Disk;
 use pod_io::Failed;
@@ -127,7 +127,7 @@ fn settle<D: Disk>(disk: &mut D, found: &Found) -> Result<(), Failed>
     ensures faults { Counts result (D.faults disk.old) (D.faults disk.new) }
 {
     match found.mend {
-        Some(at) => set_gate(disk, at, 1),
+        Some(at) => write_through(disk, at, &[1]),
         None => Ok(()),
     }
 }
