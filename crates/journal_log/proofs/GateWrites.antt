@@ -19,17 +19,22 @@ closed_behind front d c at n is torn closed =
           ∙ append_assoc front (0 ∷ []) rest,
     )
 
--- and the bytes stand there where it is done
-pub written_behind : (front framed d : List ℕ) (at : ℕ) → length front + 1 ≡ at → IsClosed front d → IsGated front 0 framed (overwritten at framed d)
-written_behind front framed d at is closed =
-    let apart : d ≡ (front ++ 0 ∷ []) ++ closed.0 = closed.1 ∙ sym (append_assoc front (0 ∷ []) closed.0) in
-    let rest = drop (length framed) closed.0 in (
-      rest,
-      ap (λ (n : ℕ). overwritten n framed d) (sym (length-gate front ∙ is))
-          ∙ ap (λ (l : List ℕ). overwritten (length (front ++ 0 ∷ [])) framed l) apart
-          ∙ overwritten_at (front ++ 0 ∷ []) closed.0 framed
-          ∙ append_assoc front (0 ∷ []) (framed ++ rest),
+-- behind a gate, the bytes stand there where they are written
+pub written_after : (front framed d rest : List ℕ) (at gate : ℕ) → length front + 1 ≡ at → d ≡ front ++ (gate ∷ rest) → IsGated front gate framed (overwritten at framed d)
+written_after front framed d rest at gate is stands =
+    let apart : d ≡ (front ++ gate ∷ []) ++ rest = stands ∙ sym (append_assoc front (gate ∷ []) rest) in
+    let size : length (front ++ gate ∷ []) ≡ at = length-append front (gate ∷ []) ∙ is in
+    let more = drop (length framed) rest in (
+      more,
+      ap (λ (n : ℕ). overwritten n framed d) (sym size)
+          ∙ ap (λ (l : List ℕ). overwritten (length (front ++ gate ∷ [])) framed l) apart
+          ∙ overwritten_at (front ++ gate ∷ []) rest framed
+          ∙ append_assoc front (gate ∷ []) (framed ++ more),
     )
+
+-- behind a closed gate too
+pub written_behind : (front framed d : List ℕ) (at : ℕ) → length front + 1 ≡ at → IsClosed front d → IsGated front 0 framed (overwritten at framed d)
+written_behind front framed d at is closed = written_after front framed d closed.0 at 0 is closed.1
 
 -- one byte, whatever it is
 one : (any : List ℕ) → length any ≡ 1 → (gate : ℕ) × (any ≡ gate ∷ [])

@@ -11,3 +11,4 @@ pub mod WindowReads
 pub mod FrameReads
 pub mod WalkSteps
 pub mod OpenRuns
+pub mod RenewRuns

@@ -11,3 +11,4 @@ pub mod Causes
 pub mod Walking
 pub mod Opening
 pub mod Writes
+pub mod Renewing

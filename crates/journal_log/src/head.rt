@@ -1,4 +1,4 @@
-ghost use Rattle.std.specs.Prelude.{◌≡◌, ◌≢◌, ◌⊎◌, ◌≤◌, ◌<◌, ◌^◌, ◌++◌, List, ℕ, length, IfSome, IfNone, IsTrue};
+ghost use Rattle.std.specs.Prelude.{◌≡◌, ◌≢◌, ◌⊎◌, ◌≤◌, ◌<◌, ◌^◌, ◌++◌, ◌∷◌, [], List, ℕ, length, IfSome, IfNone, IsTrue};
 ghost use Rattle.std.specs.Int.{to_be_bytes, w64};
 ghost use Rattle.journal_log.specs.Heads.{mark_of, head_of, IsKnown, NoHead};
 
@@ -69,13 +69,13 @@ pub fn number(bytes: &[u8]) -> u64
     ])
 }
 
-/// The head of a journal of format 2 and this epoch.
-pub fn new_head(epoch: u64) -> [u8; 16]
-    ensures { result ≡ head_of 2 epoch }
+/// The head of a journal of format 2 and this epoch, and this first gate.
+pub fn head_and_gate(epoch: u64, gate: u8) -> [u8; 17]
+    ensures { result ≡ head_of 2 epoch ++ gate ∷ [] }
 {
     let e = epoch.to_be_bytes();
     [
         b'P', b'O', b'D', b'J', b'R', b'N', b'L', b'2', e[0], e[1], e[2], e[3], e[4], e[5], e[6],
-        e[7],
+        e[7], gate,
     ]
 }

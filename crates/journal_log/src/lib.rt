@@ -8,6 +8,7 @@ mod head;
 mod journal;
 mod laws;
 mod opening;
+mod renewal;
 mod scan;
 mod walk;
 mod window;
@@ -15,6 +16,6 @@ mod writes;
 
 pub use fault::{DiskFault, OpenFault, RenewFault, Side};
 pub use framed::{Framed, frame};
-pub use head::{Head, new_head};
+pub use head::{Head, head_and_gate};
 pub use journal::Journal;
 pub use laws::{damaged_once, stands_once, stands_or_damaged};

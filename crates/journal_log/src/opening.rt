@@ -45,8 +45,8 @@ impl Journal {
     }
 }
 
-// Waits until all is on the disk, and gives its length.
-fn measure<D: Disk>(disk: &mut D) -> Result<u64, Failed>
+/// Waits until all is on the disk, and gives its length.
+pub fn measure<D: Disk>(disk: &mut D) -> Result<u64, Failed>
     ensures quiet { Quiet D.image D.moment D.left_since disk.old disk.new }
     ensures durable { OnOk result (Each (D.image disk.new) (λ c. D.content disk.new ≡ Some c)) }
     ensures content { OnOk result (D.content disk.new ≡ D.content disk.old) }

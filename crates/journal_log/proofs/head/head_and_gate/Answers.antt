@@ -1,6 +1,6 @@
 use Rattle.std.proofs.Common.{rules}
 use Rattle.journal_log.specs.Heads.{head_of}
-use Rattle.journal_log.proofs.head.new_head.Goals as goal
+use Rattle.journal_log.proofs.head.head_and_gate.Goals as goal
 
 pub returns : goal.returns
 unfolding head_of
