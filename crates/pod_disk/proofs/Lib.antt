@@ -1,2 +1,4 @@
 pub mod Moments
 pub mod Torn
+mod Making
+mod Crashing

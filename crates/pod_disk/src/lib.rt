@@ -4,8 +4,21 @@
 //! nothing; it is thin, and trusted.
 #![tactic(auto)]
 
+mod call;
+mod crash;
 mod disk;
+mod file_disk;
+mod lazy_file;
+mod mem_disk;
 mod place;
+mod write;
 
+pub use call::{Call, Noted};
+pub use crash::Tear;
 pub use disk::Disk;
+pub use file_disk::FileDisk;
+pub use mem_disk::MemDisk;
 pub use place::{Disks, Place};
+
+#[cfg(test)]
+mod tests;

@@ -1,0 +1,112 @@
+ghost use Rattle.std.specs.Prelude.{◌≡◌, ◌≤◌, None};
+ghost use Rattle.pod_io.specs.Counts.{Rose};
+ghost use Rattle.pod_disk.specs.Laws.{none_told};
+
+use crate::disk::Disk;
+use crate::lazy_file::LazyFile;
+use pod_base::Text;
+use pod_io::Failed;
+use std::fs::Files;
+use std::marker::Model;
+
+/// A disk over a file of the host. It tells nothing of what it holds, and counts its errors. It is opened at
+/// its first use, and a missing file is made: it is an empty disk. Contracts see its count of errors.
+#[derive(Drop)]
+pub struct FileDisk<R: Files + Drop> {
+    file: LazyFile<R>,
+    faults: u64,
+}
+
+impl<R: Files + Drop> Model for FileDisk<R> {
+    ghost use Rattle.std.specs.Prelude.{ℕ};
+
+    ghost Value = { ℕ };
+
+    ghost view = { λ d. d.faults };
+}
+
+const END: u64 = 1 << 63;
+
+impl<R: Files + Drop> FileDisk<R> {
+    /// The disk in the file of that path.
+    pub fn new(host: R, path: Text) -> FileDisk<R>
+        ensures { result ≡ 0 }
+    {
+        FileDisk {
+            file: LazyFile::new(host, path),
+            faults: 0,
+        }
+    }
+
+    /// How many of its calls failed.
+    pub fn faults(&self) -> u64
+        ensures { result ≡ self.now }
+    {
+        self.faults
+    }
+
+    // Counts an error.
+    fn fault(&mut self) -> Failed
+        ensures no_fewer { self.old ≤ self.new }
+        ensures rose { Rose self.old self.new }
+    {
+        self.faults = self.faults.saturating_add(1);
+        Failed
+    }
+}
+
+impl<R: Files + Drop> Disk for FileDisk<R> {
+    ghost content = { λ _. None };
+
+    ghost image = { λ _ _. ⊥ };
+
+    ghost moment = { λ _. 0 };
+
+    ghost left_since = { λ _ _ _. ⊥ };
+
+    ghost faults = { λ faults. faults };
+
+    ghost reads_image = { λ _ b told. none_told b told };
+
+    ghost counts_now = { λ _ t c le image. image };
+
+    ghost only_now = { λ _ c was. was };
+
+    fn len(&mut self) -> Result<u64, Failed> {
+        match self.file.len() {
+            Ok(len) if len < END => Ok(len),
+            _ => Err(self.fault()),
+        }
+    }
+
+    fn read(&mut self, at: u64, into: &mut [u8]) -> Result<(), Failed> {
+        match self.file.read(at, into) {
+            Ok(()) => Ok(()),
+            Err(_error) => Err(self.fault()),
+        }
+    }
+
+    fn write_at(&mut self, at: u64, bytes: &[u8]) -> Result<(), Failed> {
+        if at >= END || bytes.len() as u64 >= END - at {
+            return Err(self.fault());
+        }
+        match self.file.write(at, bytes) {
+            Ok(()) => Ok(()),
+            Err(_error) => Err(self.fault()),
+        }
+    }
+
+    fn cut(&mut self, len: u64) -> Result<(), Failed> {
+        match self.file.cut(len) {
+            Ok(()) => Ok(()),
+            Err(_error) => Err(self.fault()),
+        }
+    }
+
+    fn sync(&mut self) -> Result<(), Failed> {
+        match self.file.sync() {
+            Ok(()) => Ok(()),
+            Err(_error) => Err(self.fault()),
+        }
+    }
+}

@@ -1,0 +1,33 @@
+ghost use Rattle.std.specs.Prelude.{◌≡◌, OnOk, OnErr};
+ghost use Rattle.pod_disk.specs.Disk.{overwritten};
+ghost use Rattle.pod_disk.specs.Record.{done_by};
+
+use crate::call::Call;
+use pod_base::Mem;
+
+// Writes the bytes over those of the file from that offset on, or behind them where it has fewer.
+pub fn put(file: &mut Vec<u8>, at: usize, bytes: &[u8]) -> Mem<()>
+    ensures done { OnOk result (file.new.items ≡ overwritten at bytes.now file.old.items) }
+    ensures kept { OnErr result (file.new.items ≡ file.old.items) }
+{
+    let start = at.min(file.len());
+    let over = bytes.len().min(file.len() - start);
+    file.extend_from_slice(&bytes[over..])?;
+    file[start..start + over].copy_from_slice(&bytes[..over]);
+    Ok(())
+}
+
+/// Does to a file what the call does.
+pub fn perform(file: &mut Vec<u8>, call: &Call) -> Mem<()>
+    ensures done { OnOk result (file.new.items ≡ done_by call.now file.old.items) }
+    ensures kept { OnErr result (file.new.items ≡ file.old.items) }
+{
+    match call {
+        Call::Write { at, bytes } => put(file, *at as usize, bytes.as_slice()),
+        Call::Cut { len } => {
+            file.truncate(*len as usize);
+            Ok(())
+        }
+        Call::Length | Call::Read { .. } | Call::Sync => Ok(()),
+    }
+}
