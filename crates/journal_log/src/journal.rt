@@ -81,7 +81,8 @@ impl Journal {
     pub fn needs_repair(&self) -> bool
         ensures { result ≡ self.now.doubt }
     {
-        self.doubt
+        let Journal { doubt, .. } = self;
+        *doubt
     }
 
     /// Adds a record, by four calls of the disk: the record with a closed gate behind it, a sync, a 1 at the gate before it,

@@ -1,4 +1,4 @@
-ghost use Rattle.std.specs.Prelude.{◌≡◌, ◌+◌, ◌≤◌, ◌<◌, ◌^◌, ◌++◌, ◌∷◌, [], List, ℕ, length, IfOk, IfErr, OnOk, IsErrOf, Some};
+ghost use Rattle.std.specs.Prelude.{◌≡◌, ◌+◌, ◌≤◌, ◌<◌, ◌^◌, ◌++◌, ◌∷◌, [], List, ℕ, length, take, IfOk, IfErr, OnOk, IsErrOf, Some};
 ghost use Rattle.pod_io.specs.Counts.{Counts, Rose};
 ghost use Rattle.pod_io.specs.Told.{IfTold};
 ghost use Rattle.pod_disk.specs.Disk.{Each, LeavesOnly};
@@ -108,8 +108,8 @@ fn prepare<D: Disk>(disk: &mut D, front: &[u8], framed: &[u8]) -> Result<(), Fai
 {
     match first_gate(disk)? {
         FirstGate::Missing => begin(disk, front, framed),
-        FirstGate::Closed => lay(disk, &front[..16], framed),
-        FirstGate::Open => close_and_lay(disk, &front[..16], framed),
+        FirstGate::Closed => lay(disk, front, framed),
+        FirstGate::Open => close_and_lay(disk, front, framed),
     }
 }
 
@@ -144,29 +144,30 @@ fn close<D: Disk>(disk: &mut D) -> Result<(), Failed>
 }
 
 // The second part, where the first gate isn't closed, and then the third.
-fn close_and_lay<D: Disk>(disk: &mut D, head: &[u8], framed: &[u8]) -> Result<(), Failed>
-    requires whole { length head.now ≡ 16 }
+fn close_and_lay<D: Disk>(disk: &mut D, front: &[u8], framed: &[u8]) -> Result<(), Failed>
+    requires whole { length front.now ≡ 17 }
     requires is_open { Each (D.image disk.old) (IsFirstGate FirstGate.Open) }
     ensures moments { LeavesOnly D.moment D.left_since disk.old disk.new (IsBeforeOpening (D.image disk.old)) }
-    ensures laid { OnOk result (Each (D.image disk.new) (IsGated head.now 0 framed.now)) }
+    ensures laid { OnOk result (Each (D.image disk.new) (IsGated (take 16 front.now) 0 framed.now)) }
     ensures room { OnOk result (17 + length framed.now < 2 ^ 63) }
     ensures faults { Counts result (D.faults disk.old) (D.faults disk.new) }
 {
     close(disk)?;
-    lay(disk, head, framed)
+    lay(disk, front, framed)
 }
 
-// The third part, on a disk of at least 17 bytes whose first gate is closed: the head, the record, a sync. No write
+// The third part, on a disk of at least 17 bytes whose first gate is closed: the head, that is all of `front` but its gate, the record, a
+// sync. No write
 // touches the first gate.
-fn lay<D: Disk>(disk: &mut D, head: &[u8], framed: &[u8]) -> Result<(), Failed>
-    requires whole { length head.now ≡ 16 }
+fn lay<D: Disk>(disk: &mut D, front: &[u8], framed: &[u8]) -> Result<(), Failed>
+    requires whole { length front.now ≡ 17 }
     requires shut { Each (D.image disk.old) IsShut }
     ensures moments { LeavesOnly D.moment D.left_since disk.old disk.new IsShut }
-    ensures laid { OnOk result (Each (D.image disk.new) (IsGated head.now 0 framed.now)) }
+    ensures laid { OnOk result (Each (D.image disk.new) (IsGated (take 16 front.now) 0 framed.now)) }
     ensures room { OnOk result (17 + length framed.now < 2 ^ 63) }
     ensures faults { Counts result (D.faults disk.old) (D.faults disk.new) }
 {
-    write(disk, 0, head)?;
+    write(disk, 0, &front[..16])?;
     write_through(disk, FIRST_GATE + 1, framed)
 }
 
