@@ -19,3 +19,6 @@ pub use framed::{Framed, frame};
 pub use head::{Head, head_and_gate};
 pub use journal::Journal;
 pub use laws::{damaged_once, stands_once, stands_or_damaged};
+
+#[cfg(test)]
+mod tests;
