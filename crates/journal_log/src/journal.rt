@@ -16,7 +16,8 @@ use std::marker::Model;
 /// The place of a journal on its disk: where its last gate stands, and whether that gate is in doubt. The disk is
 /// passed to each call.
 ///
-/// Contracts see a [`Held`](crate::Journal) and say by `Rests` and `Doubts` how it fits the images of a disk.
+/// Contracts see the offset of its last gate, whether that gate is in doubt, the format and the epoch (`Held`), and
+/// say by `Rests` and `Doubts` how these fit the images of a disk.
 #[derive(Drop)]
 pub struct Journal {
     // The offset of the last gate.
