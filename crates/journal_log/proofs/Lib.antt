@@ -1,0 +1,14 @@
+pub mod Writing
+pub mod Splits
+pub mod Once
+pub mod GateWrites
+pub mod WriteRuns
+pub mod Records
+pub mod AppendRuns
+pub mod HeadBytes
+pub mod QuietRuns
+pub mod WindowReads
+pub mod FrameReads
+pub mod WalkSteps
+pub mod OpenRuns
+pub mod RenewRuns

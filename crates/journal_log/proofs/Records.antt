@@ -1,0 +1,122 @@
+-- What an image stands for while a record is added.
+use Rattle.std.proofs.Common.{◌≡◌, ◌≢◌, inl, inr, ℕ, zero, suc, ◌+◌, ◌≤◌, List, [], ◌∷◌, ◌++◌, length, All, false, refl, sym, ◌∙◌, ap, subst, arith, append_assoc, length-append}
+use Rattle.std.proofs.lemmas.List.{append-nil}
+use Rattle.std.proofs.lemmas.List.Elements.{All-append}
+use Rattle.std.proofs.lemmas.Bool.{cases_eq}
+use Rattle.pod_disk.specs.Disk.{Each}
+use Rattle.journal_log.specs.Frames.{sized, framed_of, opened, IsEnd, Leads}
+use Rattle.journal_log.specs.Heads.{head_of, IsKnown}
+use Rattle.journal_log.specs.Images.{Stands, IsEither}
+use Rattle.journal_log.specs.Gates.{IsClosed, IsGated, IsOpening}
+use Rattle.journal_log.specs.Held.{Held}
+use Rattle.journal_log.specs.Resting.{IsShort, IsFront, Rests}
+
+-- open records, and then what the rest leads to
+pub leads_behind : (Last : List ℕ → Type 0) (bodies others : List (List ℕ)) (next : ℕ) (rest : List ℕ) → All IsShort bodies → Leads Last others (next ∷ rest) → Leads Last (bodies ++ others) (opened bodies ++ next ∷ rest)
+leads_behind Last [] others next rest short leads = leads
+leads_behind Last (body ∷ bodies) others next rest short leads =
+    let after = leads_behind Last bodies others next rest (λ k d lt. short (suc k) d (omega (arith, lt))) leads in
+    let start = starts bodies next rest in record {
+      gate = 1;
+      next = start.0;
+      rest = start.1;
+      spells = ap (λ (l : List ℕ). 1 ∷ l) (append_assoc (sized body) (opened bodies) (next ∷ rest) ∙ ap (λ (l : List ℕ). sized body ++ l) start.2);
+      is_open = omega arith;
+      last = inl refl;
+      short = short zero [] (omega arith);
+      behind = subst (Leads Last (bodies ++ others)) start.2 after;
+    }
+  where
+    starts : (bodies : List (List ℕ)) (next : ℕ) (rest : List ℕ) → (first : ℕ) × (more : List ℕ) × (opened bodies ++ next ∷ rest ≡ first ∷ more)
+    starts [] next rest = (next, rest, refl)
+    starts (b ∷ bodies) next rest = (1, (sized b ++ opened bodies) ++ next ∷ rest, refl)
+
+opened-push : (bodies : List (List ℕ)) (body : List ℕ) → opened (bodies ++ body ∷ []) ≡ opened bodies ++ (1 ∷ sized body)
+opened-push [] body = append-nil (1 ∷ sized body)
+opened-push (b ∷ bodies) body = ap (λ (l : List ℕ). (1 ∷ sized b) ++ l) (opened-push bodies body) ∙ sym (append_assoc (1 ∷ sized b) (opened bodies) (1 ∷ sized body))
+
+only_short : (body : List ℕ) → IsShort body → All IsShort (body ∷ [])
+only_short body is zero d lt = is
+only_short body is (suc k) d lt = absurd (omega arith)
+
+short-push : (bodies : List (List ℕ)) (body : List ℕ) → All IsShort bodies → IsShort body → All IsShort (bodies ++ body ∷ [])
+short-push bodies body short is = All-append IsShort bodies (body ∷ []) short (only_short body is)
+
+module _ (journal : Held) (bodies : List (List ℕ)) (front : List ℕ) (is : IsFront journal bodies front) where
+  behind : (others : List (List ℕ)) (next : ℕ) (rest : List ℕ) → Leads IsEnd others (next ∷ rest) → Stands journal.format journal.epoch (bodies ++ others) (front ++ next ∷ rest)
+  behind others next rest leads = record {
+    known = is.known;
+    rest = opened bodies ++ next ∷ rest;
+    spells = ap (λ (l : List ℕ). l ++ next ∷ rest) is.spells ∙ append_assoc (head_of journal.format journal.epoch) (opened bodies) (next ∷ rest);
+    frames = leads_behind IsEnd bodies others next rest is.short leads;
+  }
+
+  -- a closed gate ends them
+  pub stands_closed : (c : List ℕ) → IsClosed front c → Stands journal.format journal.epoch bodies c
+  stands_closed c closed = subst (Stands journal.format journal.epoch bodies) (sym closed.1) (subst (λ (l : List (List ℕ)). Stands journal.format journal.epoch l (front ++ (0 ∷ closed.0))) (append-nil bodies) (behind [] 0 closed.0 (closed.0, refl)))
+
+  -- with the record behind it, an open gate makes them one more
+  pub stands_gated : (body c : List ℕ) (gate : ℕ) → IsShort body → gate ≢ 0 → IsGated front gate (framed_of body) c → Stands journal.format journal.epoch (bodies ++ body ∷ []) c
+  stands_gated body c gate short open_gate gated = subst (Stands journal.format journal.epoch (bodies ++ body ∷ [])) (sym gated.1) (behind (body ∷ []) gate (framed_of body ++ gated.0) (record {
+    gate = gate;
+    next = 0;
+    rest = gated.0;
+    spells = ap (λ (l : List ℕ). gate ∷ l) (append_assoc (sized body) (0 ∷ []) gated.0);
+    is_open = open_gate;
+    last = inr refl;
+    short = short;
+    behind = (gated.0, refl);
+  }))
+
+  -- and any gate leaves them or one more
+  pub stands_opening : (body c : List ℕ) → IsShort body → IsOpening front (framed_of body) c → IsEither journal.format journal.epoch bodies body c
+  stands_opening body c short gated = elim (cases_eq gated.0 0) [
+    | inl shut ↦ inl (stands_closed c (framed_of body ++ gated.1.0, gated.1.1 ∙ ap (λ (n : ℕ). front ++ (n ∷ (framed_of body ++ gated.1.0))) shut))
+    | inr open_gate ↦ inr (stands_gated body c gated.0 short open_gate gated.1)
+  ]
+
+  -- the record joins the front
+  pub next_front : (next : Held) (body : List ℕ) → IsShort body → next.format ≡ journal.format → next.epoch ≡ journal.epoch → next.end ≡ journal.end + length (framed_of body)
+      → IsFront next (bodies ++ body ∷ []) (front ++ (1 ∷ sized body))
+  next_front next body short format epoch ends = record {
+    known = subst (λ (n : ℕ). IsKnown n next.epoch) (sym format) (subst (λ (n : ℕ). IsKnown journal.format n) (sym epoch) is.known);
+    spells = ap (λ (l : List ℕ). l ++ (1 ∷ sized body)) is.spells ∙ append_assoc (head_of journal.format journal.epoch) (opened bodies) (1 ∷ sized body)
+        ∙ ap (λ (l : List ℕ). head_of journal.format journal.epoch ++ l) (sym (opened-push bodies body))
+        ∙ ap (λ (n : ℕ). head_of n journal.epoch ++ opened (bodies ++ body ∷ [])) (sym format)
+        ∙ ap (λ (n : ℕ). head_of next.format n ++ opened (bodies ++ body ∷ [])) (sym epoch);
+    ends = omega (arith, ends, is.ends, length-append front (1 ∷ sized body), length-append (sized body) (0 ∷ []));
+    short = short-push bodies body is.short short;
+  }
+
+  pub next_closed : (body c : List ℕ) → IsGated front 1 (framed_of body) c → IsClosed (front ++ (1 ∷ sized body)) c
+  next_closed body c gated = (
+    gated.0,
+    gated.1 ∙ ap (λ (l : List ℕ). front ++ (1 ∷ l)) (append_assoc (sized body) (0 ∷ []) gated.0) ∙ sym (append_assoc front (1 ∷ sized body) (0 ∷ gated.0)),
+  )
+
+  -- where all images have the record behind an open gate, the journal rests behind it
+  pub rests_behind : (images : List ℕ → Type 0) (next : Held) (body : List ℕ) → IsShort body → Each images (IsGated front 1 (framed_of body))
+      → next.format ≡ journal.format → next.epoch ≡ journal.epoch → next.end ≡ journal.end + length (framed_of body) → next.doubt ≡ false
+      → Rests images next (bodies ++ body ∷ [])
+  rests_behind images next body short gated format epoch ends certain = record {
+    front = front ++ (1 ∷ sized body);
+    is_front = next_front next body short format epoch ends;
+    closed = λ c now. next_closed body c (gated c now);
+    certain = certain;
+  }
+
+pub length_closed : (front c : List ℕ) → IsClosed front c → length front + 1 ≤ length c
+length_closed front c closed = omega (arith, ap length closed.1, length-append front (0 ∷ closed.0))
+
+pub length_opening : (front behind c : List ℕ) → IsOpening front behind c → length front + 1 ≤ length c
+length_opening front behind c (gate, gated) = omega (arith, ap length gated.1, length-append front (gate ∷ behind ++ gated.0))
+
+-- a front is one of each journal with the same place, format and epoch
+pub same_front : (journal next : Held) (bodies : List (List ℕ)) (front : List ℕ) → next.end ≡ journal.end → next.format ≡ journal.format → next.epoch ≡ journal.epoch
+    → IsFront journal bodies front → IsFront next bodies front
+same_front journal next bodies front ends format epoch is = record {
+  known = subst (λ (n : ℕ). IsKnown n next.epoch) (sym format) (subst (λ (n : ℕ). IsKnown journal.format n) (sym epoch) is.known);
+  spells = is.spells ∙ ap (λ (n : ℕ). head_of n journal.epoch ++ opened bodies) (sym format) ∙ ap (λ (n : ℕ). head_of next.format n ++ opened bodies) (sym epoch);
+  ends = is.ends ∙ sym ends;
+  short = is.short;
+}

@@ -1,0 +1,19 @@
+use Rattle.std.proofs.Common.{◌≡◌, ◌-◌, ◌≤◌}
+use Rattle.pod_io.specs.Told.{IfTold}
+use Rattle.journal_log.specs.Reading.{Quiet, IsShown}
+use Rattle.journal_log.specs.Walking.{IsReadTo}
+use Rattle.journal_log.proofs.walk.read_records.Given as goal
+
+abbrev pub invariant-loop-records : goal.invariant-loop-records
+invariant-loop-records g l = record {
+  read : IsReadTo (g.D.Disk.content l.initial.disk) l.initial.window.size l.head l.records.items l.at;
+  within : l.at ≤ l.window.size;
+  size : l.window.size ≡ l.initial.window.size;
+  shown : IfTold (g.D.Disk.content l.disk) (IsShown l.window);
+  content : g.D.Disk.content l.disk ≡ g.D.Disk.content l.initial.disk;
+  quiet : Quiet g.D.Disk.image g.D.Disk.moment g.D.Disk.left_since l.initial.disk l.disk;
+  no_fewer : g.D.Disk.faults l.initial.disk ≤ g.D.Disk.faults l.disk;
+}
+
+abbrev pub decreases-loop-records : goal.decreases-loop-records
+decreases-loop-records g l = l.window.size - l.at

@@ -1,0 +1,23 @@
+-- What an answer of `open` comes from.
+use Rattle.std.specs.Prelude.{◌≡◌, ℕ, List, [], Option}
+use Rattle.pod_io.specs.Counts.{Rose}
+use Rattle.pod_io.specs.Told.{IfTold}
+use Rattle.journal_log.specs.Images.{IsDamaged}
+use Rattle.journal_log.specs.declared.fault.Side.{Side}
+use Rattle.journal_log.specs.declared.fault.OpenFault.{OpenFault}
+use Rattle.journal_log.specs.declared.fault.OpenFault.TheVariants.{Empty, Damaged, DiskFault, NoMemory}
+
+-- a fault of reading comes from the disk, whose count rose, or from want of memory
+abbrev pub IsOfReading : ℕ → ℕ → OpenFault → Type 0
+IsOfReading old new Empty = ⊥
+IsOfReading old new (Damaged side at) = ⊥
+IsOfReading old new DiskFault = Rose old new
+IsOfReading old new NoMemory = Unit {0}
+
+-- An empty disk has no bytes; damage is that of what the disk reads, at its place and on the side handed in; a fault of
+-- the disk was counted; nothing is said of want of memory.
+abbrev pub HasCause : Option (List ℕ) → Side → ℕ → ℕ → OpenFault → Type 0
+HasCause content side old new Empty = IfTold content (λ disk. disk ≡ [])
+HasCause content side old new (Damaged on at) = (on ≡ side) × IfTold content (IsDamaged at)
+HasCause content side old new DiskFault = Rose old new
+HasCause content side old new NoMemory = Unit {0}

@@ -1,0 +1,14 @@
+pub mod Frames
+pub mod Heads
+pub mod Images
+pub mod Laws
+pub mod Held
+pub mod Gates
+pub mod Resting
+pub mod Reading
+pub mod Scanning
+pub mod Causes
+pub mod Walking
+pub mod Opening
+pub mod Writes
+pub mod Renewing

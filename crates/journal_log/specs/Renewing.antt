@@ -1,0 +1,30 @@
+-- What a crash leaves while a journal is begun anew on a disk that has been used.
+use Rattle.std.specs.Prelude.{◌⊎◌, ◌<◌, ◌≤◌, ℕ, List, length}
+use Rattle.pod_disk.specs.Disk.{Torn}
+use Rattle.journal_log.specs.Frames.{framed_of}
+use Rattle.journal_log.specs.Heads.{head_of}
+use Rattle.journal_log.specs.Gates.{IsShut, IsOpening}
+use Rattle.journal_log.specs.declared.renewal.FirstGate.{FirstGate}
+use Rattle.journal_log.specs.declared.renewal.FirstGate.TheVariants.{Missing, Closed, Open}
+
+-- what was read of the first gate
+abbrev pub IsFirstGate : FirstGate → List ℕ → Type 0
+IsFirstGate Missing disk = length disk < 17
+IsFirstGate Closed disk = IsShut disk
+IsFirstGate Open disk = (17 ≤ length disk) × (IsShut disk → ⊥)
+
+-- one of these images whose first gate isn't 0, with any byte there: that gate is being closed
+abbrev pub IsClosing : (List ℕ → Type 0) → List ℕ → Type 0
+IsClosing images image = (from : List ℕ) × images from × (IsShut from → ⊥) × Torn 16 1 from image
+
+-- before the first gate is opened: one of these images, or one whose first gate is being closed, or one whose first gate is 0
+abbrev pub IsBeforeOpening : (List ℕ → Type 0) → List ℕ → Type 0
+IsBeforeOpening images image = images image ⊎ (IsClosing images image ⊎ IsShut image)
+
+-- the new head, any first gate, and behind it the new record with a closed gate
+abbrev pub IsNew : ℕ → List ℕ → List ℕ → Type 0
+IsNew epoch body image = IsOpening (head_of 2 epoch) (framed_of body) image
+
+-- at any moment: as before the first gate is opened, or new
+abbrev pub IsWhileRenewed : (List ℕ → Type 0) → ℕ → List ℕ → List ℕ → Type 0
+IsWhileRenewed images epoch body image = IsBeforeOpening images image ⊎ IsNew epoch body image

@@ -1,0 +1,171 @@
+//! Reads a gate and its record.
+
+ghost use Rattle.std.specs.Prelude.{◌≡◌, ◌≢◌, ◌+◌, ◌≤◌, ◌<◌, ◌^◌, ◌++◌, ◌∷◌, List, ℕ, length, take, drop, IfOk, IfErr, OnOk};
+ghost use Rattle.std.specs.Int.{to_be_bytes, w64};
+ghost use Rattle.pod_io.specs.Counts.{Counts};
+ghost use Rattle.pod_io.specs.Told.{IfTold};
+ghost use Rattle.journal_log.specs.Reading.{Quiet, IsShown, Keeps};
+ghost use Rattle.journal_log.specs.Scanning.{IsByteAt, IsStart, StartFits, IsSeen, FrameFits};
+ghost use Rattle.journal_log.specs.Causes.{IsOfReading};
+
+use crate::fault::OpenFault;
+use crate::head::number;
+use crate::window::Window;
+use pod_base::Bytes;
+use pod_disk::Disk;
+use pod_io::Failed;
+use std::alloc::Global;
+
+/// What stands from a gate on.
+#[derive(Drop)]
+pub enum Frame {
+    /// The gate is 0.
+    End,
+    /// The gate is open, and its record is whole.
+    Record { gate: u8, body: Bytes },
+    /// There is no gate, or its record isn't whole.
+    Broken,
+}
+
+/// What the gate and the eight bytes behind it say.
+#[derive(Drop)]
+pub enum Start {
+    End,
+    Open { gate: u8, len: u64 },
+    Broken,
+}
+
+// The byte at this offset.
+fn byte_at<D: Disk>(window: &mut Window, disk: &mut D, at: u64) -> Result<u8, Failed>
+    requires within { at < window.old.size }
+    requires shown { IfTold (D.content disk.old) (IsShown window.old) }
+    ensures quiet { Quiet D.image D.moment D.left_since disk.old disk.new }
+    ensures kept { OnOk result (Keeps (D.content disk.old) (D.content disk.new) window.old window.new) }
+    ensures byte { IfOk result (λ byte. IfTold (D.content disk.old) (λ b. IsByteAt at b byte)) }
+    ensures faults { Counts result (D.faults disk.old) (D.faults disk.new) }
+{
+    let mut byte = [0u8; 1];
+    window.read(disk, at, &mut byte)?;
+    Ok(byte[0])
+}
+
+// The number that the eight bytes from this offset on spell.
+fn number_at<D: Disk>(window: &mut Window, disk: &mut D, at: u64) -> Result<u64, Failed>
+    requires within { at + 8 ≤ window.old.size }
+    requires shown { IfTold (D.content disk.old) (IsShown window.old) }
+    ensures quiet { Quiet D.image D.moment D.left_since disk.old disk.new }
+    ensures kept { OnOk result (Keeps (D.content disk.old) (D.content disk.new) window.old window.new) }
+    ensures small { IfOk result (λ n. n < 2 ^ 64) }
+    ensures number { IfOk result (λ n. IfTold (D.content disk.old) (λ b. to_be_bytes w64 n ≡ take 8 (drop at b))) }
+    ensures faults { Counts result (D.faults disk.old) (D.faults disk.new) }
+{
+    let mut bytes = [0u8; 8];
+    window.read(disk, at, &mut bytes)?;
+    Ok(number(&bytes))
+}
+
+// What the gate at this offset says, and the length behind it.
+fn start_at<D: Disk>(window: &mut Window, disk: &mut D, at: u64) -> Result<Start, Failed>
+    requires within { at ≤ window.old.size }
+    requires small { window.old.size < 2 ^ 63 }
+    requires shown { IfTold (D.content disk.old) (IsShown window.old) }
+    ensures quiet { Quiet D.image D.moment D.left_since disk.old disk.new }
+    ensures kept { OnOk result (Keeps (D.content disk.old) (D.content disk.new) window.old window.new) }
+    ensures is { IfOk result (λ start. IfTold (D.content disk.old) (λ b. IsStart start (drop at b))) }
+    ensures fits { IfOk result (StartFits at window.old.size) }
+    ensures faults { Counts result (D.faults disk.old) (D.faults disk.new) }
+{
+    if at == window.size {
+        return Ok(Start::Broken);
+    }
+    let gate = byte_at(window, disk, at)?;
+    if gate == 0 {
+        return Ok(Start::End);
+    }
+    if window.size - at < 10 {
+        return Ok(Start::Broken);
+    }
+    let len = number_at(window, disk, at + 1)?;
+    if len > window.size - at - 10 {
+        return Ok(Start::Broken);
+    }
+    Ok(Start::Open { gate, len })
+}
+
+// The bytes of a body, read to memory of their own.
+fn body_at<D: Disk>(
+    alloc: Global,
+    window: &mut Window,
+    disk: &mut D,
+    at: u64,
+    len: u64,
+) -> Result<Bytes, OpenFault>
+    requires within { at + len ≤ window.old.size }
+    requires shown { IfTold (D.content disk.old) (IsShown window.old) }
+    ensures quiet { Quiet D.image D.moment D.left_since disk.old disk.new }
+    ensures kept { OnOk result (Keeps (D.content disk.old) (D.content disk.new) window.old window.new) }
+    ensures len { IfOk result (λ body. length body ≡ len) }
+    ensures body { IfOk result (λ body. IfTold (D.content disk.old) (λ b. body ≡ take len (drop at b))) }
+    ensures no_fewer { D.faults disk.old ≤ D.faults disk.new }
+    ensures cause { IfErr result (IsOfReading (D.faults disk.old) (D.faults disk.new)) }
+{
+    let mut body = vec![in alloc; 0u8; len as usize]?;
+    window.read(disk, at, &mut body)?;
+    Ok(Bytes::from_vec(body))
+}
+
+// The record behind an open gate, whose length was read.
+fn record_at<D: Disk>(
+    alloc: Global,
+    window: &mut Window,
+    disk: &mut D,
+    at: u64,
+    gate: u8,
+    len: u64,
+) -> Result<Frame, OpenFault>
+    requires is_open { gate ≢ 0 }
+    requires within { at + len + 10 ≤ window.old.size }
+    requires small { window.old.size < 2 ^ 63 }
+    requires shown { IfTold (D.content disk.old) (IsShown window.old) }
+    requires start { IfTold (D.content disk.old) (λ b. drop at b ≡ gate ∷ (to_be_bytes w64 len ++ drop 9 (drop at b))) }
+    ensures quiet { Quiet D.image D.moment D.left_since disk.old disk.new }
+    ensures kept { OnOk result (Keeps (D.content disk.old) (D.content disk.new) window.old window.new) }
+    ensures is { IfOk result (λ frame. IfTold (D.content disk.old) (λ b. IsSeen frame (drop at b))) }
+    ensures fits { IfOk result (FrameFits at window.old.size) }
+    ensures no_fewer { D.faults disk.old ≤ D.faults disk.new }
+    ensures cause { IfErr result (IsOfReading (D.faults disk.old) (D.faults disk.new)) }
+{
+    let body = body_at(alloc, window, disk, at + 9, len)?;
+    if gate == 1 {
+        return Ok(Frame::Record { gate, body });
+    }
+    let next = byte_at(window, disk, at + 9 + len)?;
+    if next != 0 {
+        return Ok(Frame::Broken);
+    }
+    Ok(Frame::Record { gate, body })
+}
+
+/// What stands from the gate at this offset on.
+pub fn frame_at<D: Disk>(
+    alloc: Global,
+    window: &mut Window,
+    disk: &mut D,
+    at: u64,
+) -> Result<Frame, OpenFault>
+    requires within { at ≤ window.old.size }
+    requires small { window.old.size < 2 ^ 63 }
+    requires shown { IfTold (D.content disk.old) (IsShown window.old) }
+    ensures quiet { Quiet D.image D.moment D.left_since disk.old disk.new }
+    ensures kept { OnOk result (Keeps (D.content disk.old) (D.content disk.new) window.old window.new) }
+    ensures is { IfOk result (λ frame. IfTold (D.content disk.old) (λ b. IsSeen frame (drop at b))) }
+    ensures fits { IfOk result (FrameFits at window.old.size) }
+    ensures no_fewer { D.faults disk.old ≤ D.faults disk.new }
+    ensures cause { IfErr result (IsOfReading (D.faults disk.old) (D.faults disk.new)) }
+{
+    match start_at(window, disk, at)? {
+        Start::End => Ok(Frame::End),
+        Start::Open { gate, len } => record_at(alloc, window, disk, at, gate, len),
+        Start::Broken => Ok(Frame::Broken),
+    }
+}
