@@ -2,7 +2,7 @@ use Rattle.std.proofs.Common.{subst, sym}
 use Rattle.std.specs.List.{All}
 use Rattle.std.proofs.lemmas.List.Elements.{All-push}
 use Rattle.rdf_graph.specs.Triple.{IsRdf}
-use Rattle.rdf_graph.proofs.tests.shuffled.Goals as goal
+use Rattle.graph_bench.proofs.shuffled.Goals as goal
 
 pub loop-step-preserved : goal.loop-step-preserved
 loop-step-preserved c =
