@@ -1,0 +1,10 @@
+pub mod ByteSteps
+pub mod ChunkSteps
+pub mod Fronts
+pub mod LineFacts
+pub mod LineLimits
+pub mod LineSteps
+pub mod RunSteps
+pub mod Standing
+pub mod TrailerSteps
+pub mod Uniqueness

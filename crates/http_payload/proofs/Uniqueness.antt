@@ -1,0 +1,208 @@
+-- A text has one reading.
+use Rattle.std.proofs.Common.{◌≡◌, ◌≢◌, ℕ, ◌+◌, ◌-◌, ◌<◌, ◌≤◌, ◌⊎◌, Bool, true, false, IsTrue, List, [], ◌∷◌, ◌++◌, length, refl, sym, ap, ◌∙◌, subst, arith, length-append, append_assoc, append-nil, inl, inr}
+use Rattle.std.specs.List.{AllByRecursion}
+use Rattle.std.proofs.lemmas.List.{append_cancel_right}
+use Rattle.std.proofs.lemmas.Bool.{cases_lt}
+use Rattle.httparse.specs.Grammar.{ChunkLine, print_chunk_line, chunk_size}
+use Rattle.http_head.specs.declared.form.BodyForm.{BodyForm}
+use Rattle.http_head.specs.declared.form.BodyForm.TheVariants.{Empty, Length, Chunked}
+use Rattle.http_payload.specs.declared.fault.PayloadFault.{PayloadFault}
+use Rattle.http_payload.specs.declared.fault.PayloadFault.TheVariants.{Malformed, TooLarge, NoMemory}
+use Rattle.http_payload.specs.Chunks.{longest_body, line_end, StayInLine, IsTrailer, trailer_texts, IsTrailers, Chunk, chunk_text, IsChunk, chunk_texts, chunk_bytes, IsLast, IsOverLine, Ending, Whole, Over, EndsAs, EndsInChunks}
+use Rattle.http_payload.specs.Bodies.{Ends, IsBody, HasNoEnd, IsFault, IsPartial}
+use Rattle.http_payload.proofs.Fronts.{same_fronts}
+use Rattle.http_payload.proofs.TrailerSteps.{stays_no_cr}
+use Rattle.http_payload.proofs.ChunkSteps.{one_line, Opens, at_last, at_over, at_chunk, opens_as, opened}
+
+-- a line that has no CR ends at its first CR LF
+one_trailer : (l m x y : List ℕ) → StayInLine l → StayInLine m → l ++ (line_end ++ x) ≡ m ++ (line_end ++ y) → x ≡ y
+one_trailer [] [] x y l_stays m_stays e = cc
+one_trailer [] (b ∷ m) x y l_stays m_stays e = absurd (stays_no_cr b m_stays.0 (cc))
+one_trailer (b ∷ l) [] x y l_stays m_stays e = absurd (stays_no_cr b l_stays.0 (cc))
+one_trailer (b ∷ l) (c ∷ m) x y l_stays m_stays e = one_trailer l m x y l_stays.1 m_stays.1 (cc)
+
+-- the first byte of trailer lines isn't the CR of the empty line
+no_line : (m : List ℕ) (r y : List ℕ) → IsTrailer m → line_end ++ r ≡ m ++ y → ⊥
+no_line [] r y is_trailer e = omega (arith, is_trailer.0)
+no_line (b ∷ m) r y is_trailer e = stays_no_cr b is_trailer.1.0 (cc)
+
+regroup : (l x r : List ℕ) → (((l ++ line_end) ++ x) ++ line_end) ++ r ≡ l ++ (line_end ++ ((x ++ line_end) ++ r))
+regroup l x r =
+    ap (λ (t : List ℕ). t ++ r) (append_assoc (l ++ line_end) x line_end)
+    ∙ append_assoc (l ++ line_end) (x ++ line_end) r ∙ append_assoc l line_end ((x ++ line_end) ++ r)
+
+one_section : (ls ms : List (List ℕ)) (r s : List ℕ) → AllByRecursion IsTrailer ls → AllByRecursion IsTrailer ms
+    → (trailer_texts ls ++ line_end) ++ r ≡ (trailer_texts ms ++ line_end) ++ s → r ≡ s
+one_section [] [] r s l_each m_each e = cc
+one_section [] (m ∷ ms) r s l_each m_each e =
+    absurd (no_line m r (line_end ++ ((trailer_texts ms ++ line_end) ++ s)) m_each.0 (e ∙ regroup m (trailer_texts ms) s))
+one_section (l ∷ ls) [] r s l_each m_each e =
+    absurd (no_line l s (line_end ++ ((trailer_texts ls ++ line_end) ++ r)) l_each.0 (sym e ∙ regroup l (trailer_texts ls) r))
+one_section (l ∷ ls) (m ∷ ms) r s l_each m_each e =
+    one_section ls ms r s l_each.1 m_each.1
+    (one_trailer l m ((trailer_texts ls ++ line_end) ++ r) ((trailer_texts ms ++ line_end) ++ s) l_each.0.1 m_each.0.1
+    (sym (regroup l (trailer_texts ls) r) ∙ e ∙ regroup m (trailer_texts ms) s))
+
+pub one_trailers : {used other : ℕ} {a b : List ℕ} (r s : List ℕ) → IsTrailers used a → IsTrailers other b → a ++ r ≡ b ++ s → r ≡ s
+one_trailers r s x y e =
+    one_section x.lines y.lines r s x.each y.each
+    (ap (λ (t : List ℕ). t ++ r) (sym x.text_is) ∙ e ∙ ap (λ (t : List ℕ). t ++ s) y.text_is)
+
+-- the line at the front of a text, and what follows it
+abbrev pub Fronted : ChunkLine → List ℕ → List ℕ → Type 0
+Fronted line behind text = text ≡ print_chunk_line line ++ behind
+
+followed : (line : ChunkLine) (behind text r : List ℕ) → Fronted line behind text → Fronted line (behind ++ r) (text ++ r)
+followed line behind text r e = ap (λ (t : List ℕ). t ++ r) e ∙ append_assoc (print_chunk_line line) behind r
+
+over_front : {used : ℕ} {text : List ℕ} (over : IsOverLine used text) → Fronted over.line [] text
+over_front over = over.text_is ∙ sym (append-nil (print_chunk_line over.line))
+
+chunk_front : (c : Chunk) (behind text : List ℕ) → text ≡ chunk_text c ++ behind → Fronted c.line ((c.bytes ++ line_end) ++ behind) text
+chunk_front c behind text e = e ∙ append_assoc (print_chunk_line c.line) (c.bytes ++ line_end) behind
+
+abbrev pub OneEnd : List ℕ → List ℕ → Ending → Ending → Type 0
+OneEnd r s e f = (r ≡ s) × (e ≡ f)
+
+-- both texts begin with the last line, or with a line whose size is too large
+last_end : (before a b r s : List ℕ) (e f : Ending) → IsLast a → e ≡ Whole before → a ++ r ≡ b ++ s → Opens before b f → OneEnd r s e f
+last_end before a b r s e f last whole same (at_last other other_whole fits) =
+    let lines = one_line last.line other.line (last.behind ++ r) (other.behind ++ s) last.is_line other.is_line
+        (sym (followed last.line last.behind a r last.text_is) ∙ same ∙ followed other.line other.behind b s other.text_is) in
+    (one_trailers r s last.trailers other.trailers lines.1, whole ∙ sym other_whole)
+last_end before a b r s e f last whole same (at_over over is_over fits) =
+    let lines = one_line last.line over.line (last.behind ++ r) s last.is_line over.is_line
+        (sym (followed last.line last.behind a r last.text_is) ∙ same ∙ followed over.line [] b s (over_front over)) in
+    absurd (omega (arith, over.over, last.zero, ap chunk_size lines.0, fits))
+last_end before a b r s e f last whole same (at_chunk c behind is_chunk text_is ends) =
+    let lines = one_line last.line c.line (last.behind ++ r) (((c.bytes ++ line_end) ++ behind) ++ s) last.is_line is_chunk.line
+        (sym (followed last.line last.behind a r last.text_is) ∙ same
+        ∙ followed c.line ((c.bytes ++ line_end) ++ behind) b s (chunk_front c behind b text_is)) in
+    absurd (omega (arith, is_chunk.some, is_chunk.size, last.zero, ap chunk_size lines.0))
+
+over_end : (before a b r s : List ℕ) (e f : Ending) → IsOverLine (length before) a → length before ≤ longest_body → e ≡ Over
+    → a ++ r ≡ b ++ s → Opens before b f → OneEnd r s e f
+over_end before a b r s e f over room is_over same (at_last last whole fits) =
+    let lines = one_line over.line last.line r (last.behind ++ s) over.is_line last.is_line
+        (sym (followed over.line [] a r (over_front over)) ∙ same ∙ followed last.line last.behind b s last.text_is) in
+    absurd (omega (arith, over.over, last.zero, ap chunk_size lines.0, fits))
+over_end before a b r s e f over room is_over same (at_over other other_over fits) =
+    let lines = one_line over.line other.line r s over.is_line other.is_line
+        (sym (followed over.line [] a r (over_front over)) ∙ same ∙ followed other.line [] b s (over_front other)) in
+    (lines.1, is_over ∙ sym other_over)
+over_end before a b r s e f over room is_over same (at_chunk c behind is_chunk text_is ends) =
+    let lines = one_line over.line c.line r (((c.bytes ++ line_end) ++ behind) ++ s) over.is_line is_chunk.line
+        (sym (followed over.line [] a r (over_front over)) ∙ same
+        ∙ followed c.line ((c.bytes ++ line_end) ++ behind) b s (chunk_front c behind b text_is)) in
+    let fits : length (before ++ c.bytes) ≤ longest_body = chunk_fits ends in
+    absurd (omega (arith, over.over, is_chunk.size, ap chunk_size lines.0, fits, length-append before c.bytes))
+  where
+    chunk_fits : {start text : List ℕ} {ending : Ending} → EndsInChunks start text ending → length start ≤ longest_body
+    chunk_fits {start} h = omega (arith, h.fits, length-append start (chunk_bytes h.chunks))
+
+-- The first text begins with a chunk. What holds behind the chunk is passed on.
+chunk_end : (before a b r s tail : List ℕ) (e f : Ending) (c : Chunk) → IsChunk c → a ≡ chunk_text c ++ tail
+    → EndsInChunks (before ++ c.bytes) tail e → a ++ r ≡ b ++ s
+    → ((rest : List ℕ) → EndsInChunks (before ++ c.bytes) rest f → tail ++ r ≡ rest ++ s → OneEnd r s e f)
+    → Opens before b f → OneEnd r s e f
+chunk_end before a b r s tail e f c is_chunk text_is ends same next (at_last last whole fits) =
+    let back = last_end before b a s r f e last whole (sym same) (at_chunk c tail is_chunk text_is ends) in
+    (sym back.0, sym back.1)
+chunk_end before a b r s tail e f c is_chunk text_is ends same next (at_over over is_over fits) =
+    let back = over_end before b a s r f e over fits is_over (sym same) (at_chunk c tail is_chunk text_is ends) in
+    (sym back.0, sym back.1)
+chunk_end before a b r s tail e f c is_chunk text_is ends same next (at_chunk d rest d_is_chunk d_text d_ends) =
+    let lines = one_line c.line d.line (((c.bytes ++ line_end) ++ tail) ++ r) (((d.bytes ++ line_end) ++ rest) ++ s)
+        is_chunk.line d_is_chunk.line
+        (sym (followed c.line ((c.bytes ++ line_end) ++ tail) a r (chunk_front c tail a text_is)) ∙ same
+        ∙ followed d.line ((d.bytes ++ line_end) ++ rest) b s (chunk_front d rest b d_text)) in
+    let bytes = same_fronts c.bytes d.bytes (line_end ++ (tail ++ r)) (line_end ++ (rest ++ s))
+        (sym (three c.bytes tail r) ∙ lines.1 ∙ three d.bytes rest s)
+        (omega (arith, is_chunk.size, d_is_chunk.size, ap chunk_size lines.0)) in
+    next rest (subst (λ (t : List ℕ). EndsInChunks (before ++ t) rest f) (sym bytes.0) d_ends) (behind_end (tail ++ r) (rest ++ s) bytes.1)
+  where
+    three : (x y z : List ℕ) → ((x ++ line_end) ++ y) ++ z ≡ x ++ (line_end ++ (y ++ z))
+    three x y z = append_assoc (x ++ line_end) y z ∙ append_assoc x line_end (y ++ z)
+    behind_end : (x y : List ℕ) → line_end ++ x ≡ line_end ++ y → x ≡ y
+    behind_end x y e = cc
+
+one_end : (chunks : List Chunk) (before a b r s : List ℕ) (e f : Ending) (behind : List ℕ) → AllByRecursion IsChunk chunks
+    → length (before ++ chunk_bytes chunks) ≤ longest_body → EndsAs (before ++ chunk_bytes chunks) behind e
+    → a ≡ chunk_texts chunks ++ behind → EndsInChunks before b f → a ++ r ≡ b ++ s → OneEnd r s e f
+one_end [] before a b r s (Whole body) f behind each fits ends text_is y same =
+    last_end before a b r s (Whole body) f (subst IsLast (sym text_is) ends.0) (ap Whole (ends.1 ∙ append-nil before)) same (opened y)
+one_end [] before a b r s Over f behind each fits ends text_is y same =
+    let nil : before ++ [] ≡ before = append-nil before in
+    over_end before a b r s Over f
+    (subst (λ t. IsOverLine (length before) t) (sym text_is) (subst (λ (t : List ℕ). IsOverLine (length t) behind) nil ends))
+    (omega (arith, fits, ap length nil)) refl same (opened y)
+one_end (c ∷ chunks) before a b r s e f behind each fits ends text_is y same =
+    let nested : before ++ (c.bytes ++ chunk_bytes chunks) ≡ (before ++ c.bytes) ++ chunk_bytes chunks =
+    sym (append_assoc before c.bytes (chunk_bytes chunks)) in
+    let fits_behind = subst (λ (t : List ℕ). length t ≤ longest_body) nested fits in
+    let ends_behind = subst (λ t. EndsAs t behind e) nested ends in
+    chunk_end before a b r s (chunk_texts chunks ++ behind) e f c each.0
+    (text_is ∙ append_assoc (chunk_text c) (chunk_texts chunks) behind)
+    (record { chunks = chunks; behind = behind; each = each.1; fits = fits_behind; ends = ends_behind; text_is = refl })
+    same
+    (λ rest more rests. one_end chunks (before ++ c.bytes) (chunk_texts chunks ++ behind) rest r s e f behind each.1
+        fits_behind ends_behind refl more rests)
+    (opened y)
+
+-- ---- the laws
+
+-- Where two ends stand at the front of one text, they are one.
+pub one_reading : (form : BodyForm) (a b r s : List ℕ) (e f : Ending) → Ends form a e → Ends form b f → a ++ r ≡ b ++ s
+    → (a ≡ b) × (r ≡ s) × (e ≡ f)
+one_reading Empty a b r s e f x y same =
+    let fronts : a ≡ b = x.0 ∙ sym y.0 in
+    let nil = same_fronts a b r s same (ap length fronts) in
+    (fronts, nil.1, x.1 ∙ sym y.1)
+one_reading (Length n) a b r s e f x y same =
+    let cut = same_fronts a b r s same (x.0 ∙ sym y.0) in
+    (cut.0, cut.1, x.1 ∙ ap Whole cut.0 ∙ sym y.1)
+one_reading Chunked a b r s e f x y same =
+    let ends = one_end x.chunks [] a b r s e f x.behind x.each x.fits x.ends x.text_is y same in
+    (append_cancel_right a b s (ap (λ (t : List ℕ). a ++ t) (sym ends.0) ∙ same), ends.0, ends.1)
+
+-- A fault stays, whatever follows.
+pub fault_stays : (form : BodyForm) (text more : List ℕ) (fault : PayloadFault) → IsFault form text fault
+    → IsFault form (text ++ more) fault
+fault_stays form text more Malformed never =
+    λ after front rest ending e. never (more ++ after) front rest ending (sym (append_assoc text more after) ∙ e)
+fault_stays form text more TooLarge (front, rest, text_is, over) =
+    (front, rest ++ more, ap (λ (t : List ℕ). t ++ more) text_is ∙ append_assoc front rest more, over)
+fault_stays form text more NoMemory never = never
+
+-- A text with an end is no other: no end stands before a fault, and the end of a whole body is no fault.
+pub no_fault_at_body : (form : BodyForm) (front rest body : List ℕ) (fault : PayloadFault) → IsBody form front body
+    → IsFault form (front ++ rest) fault → ⊥
+no_fault_at_body form front rest body Malformed whole never =
+    never [] front rest (Whole body) (append-nil (front ++ rest)) whole
+no_fault_at_body form front rest body TooLarge whole (over, behind, text_is, is_over) =
+    let one = one_reading form front over rest behind (Whole body) Over whole is_over text_is in
+    let different : Whole body ≡ Over = one.2 in cc
+no_fault_at_body form front rest body NoMemory whole never = never
+
+-- One text has one fault.
+pub one_fault : (form : BodyForm) (text : List ℕ) (fault other : PayloadFault) → IsFault form text fault → IsFault form text other
+    → fault ≡ other
+one_fault form text Malformed Malformed x y = refl
+one_fault form text Malformed TooLarge x (front, rest, text_is, over) =
+    absurd (x [] front rest Over (append-nil text ∙ text_is) over)
+one_fault form text Malformed NoMemory x y = absurd y
+one_fault form text TooLarge Malformed (front, rest, text_is, over) y =
+    absurd (y [] front rest Over (append-nil text ∙ text_is) over)
+one_fault form text TooLarge TooLarge x y = refl
+one_fault form text TooLarge NoMemory x y = absurd y
+one_fault form text NoMemory other x y = absurd x
+
+-- What is partial has no fault, and no body stands at its front.
+pub no_fault_at_partial : (form : BodyForm) (text : List ℕ) (fault : PayloadFault) → IsPartial form text → IsFault form text fault → ⊥
+no_fault_at_partial form text Malformed partial never =
+    never partial.more (text ++ partial.more) [] partial.ending (sym (append-nil (text ++ partial.more))) partial.goes_on
+no_fault_at_partial form text TooLarge partial (front, rest, text_is, over) = partial.no_end front rest Over text_is over
+no_fault_at_partial form text NoMemory partial never = never
+
+pub no_body_at_partial : (form : BodyForm) (front rest body : List ℕ) → IsPartial form (front ++ rest) → IsBody form front body → ⊥
+no_body_at_partial form front rest body partial whole = partial.no_end front rest (Whole body) refl whole

@@ -1,0 +1,118 @@
+use Rattle.std.specs.Prelude.{ℕ, ◌≡◌, ◌+◌, ◌<◌, ◌≤◌, ◌==◌, ◌||◌, not, Bool, IsTrue, List, [], ◌∷◌, ◌++◌, length}
+use Rattle.std.specs.List.{flat_map, AllByRecursion}
+use Rattle.httparse.specs.Grammar.{ChunkLine, IsChunkLine, print_chunk_line, chunk_size}
+
+-- A body in chunks (RFC 9112, section 7.1). A line before a chunk is one to sixteen hexadecimal digits, then blanks, then
+-- optionally a semicolon and any bytes but CR and LF, then CR LF: `ChunkLine` is what such a line says.
+
+-- the most bytes of all chunks, of one line before a chunk, and of all trailer lines, their ends counted
+abbrev pub longest_body : ℕ
+longest_body = 8_388_608
+
+abbrev pub longest_line : ℕ
+longest_line = 256
+
+abbrev pub longest_trailers : ℕ
+longest_trailers = 16_384
+
+-- CR LF
+abbrev pub line_end : List ℕ
+line_end = 13 ∷ 10 ∷ []
+
+-- a line before a chunk, and it isn't too long
+pub record IsLine (line : ChunkLine) : Type 0 where
+  pub grammar : IsChunkLine line
+  pub short : length (print_chunk_line line) ≤ longest_line
+
+-- a chunk: the line before it, and its bytes
+pub record Chunk : Type 0 where
+  pub line : ChunkLine
+  pub bytes : List ℕ
+
+abbrev pub chunk_text : Chunk → List ℕ
+chunk_text chunk = print_chunk_line chunk.line ++ (chunk.bytes ++ line_end)
+
+-- A chunk has as many bytes as its line says, and it has some.
+pub record IsChunk (chunk : Chunk) : Type 0 where
+  pub line : IsLine chunk.line
+  pub size : chunk_size chunk.line ≡ length chunk.bytes
+  pub some : 0 < length chunk.bytes
+
+-- the texts of chunks, one after the other, and their bytes
+abbrev pub chunk_texts : List Chunk → List ℕ
+chunk_texts chunks = flat_map chunk_text chunks
+
+abbrev pub chunk_bytes : List Chunk → List ℕ
+chunk_bytes chunks = flat_map (λ chunk. chunk.bytes) chunks
+
+-- any byte but CR and LF
+abbrev pub stays_in_line : ℕ → Bool
+stays_in_line b = not (b == 13 || b == 10)
+
+abbrev pub StayInLine : List ℕ → Type 0
+StayInLine bytes = AllByRecursion (λ b. IsTrue (stays_in_line b)) bytes
+
+-- a trailer line without its end: it isn't empty
+abbrev pub IsTrailer : List ℕ → Type 0
+IsTrailer line = (0 < length line) × StayInLine line
+
+abbrev pub trailer_texts : List (List ℕ) → List ℕ
+trailer_texts lines = flat_map (λ line. line ++ line_end) lines
+
+-- The text is trailer lines and the empty line. Behind `used` bytes of trailer lines it isn't too long.
+pub record IsTrailers (used : ℕ) (text : List ℕ) : Type 0 where
+  pub lines : List (List ℕ)
+  pub each : AllByRecursion IsTrailer lines
+  pub fits : used + length (trailer_texts lines) ≤ longest_trailers
+  pub text_is : text ≡ trailer_texts lines ++ line_end
+
+-- what follows in a trailer line behind `used` bytes of trailer lines: the rest of it, its end, and the others
+pub record InTrailer (used : ℕ) (text : List ℕ) : Type 0 where
+  pub bytes : List ℕ
+  pub rest : List ℕ
+  pub stay : StayInLine bytes
+  pub others : IsTrailers (used + length bytes + 2) rest
+  pub text_is : text ≡ bytes ++ (line_end ++ rest)
+
+-- The text is the last line, whose size is 0, and the trailers.
+pub record IsLast (text : List ℕ) : Type 0 where
+  pub line : ChunkLine
+  pub behind : List ℕ
+  pub is_line : IsLine line
+  pub zero : chunk_size line ≡ 0
+  pub trailers : IsTrailers 0 behind
+  pub text_is : text ≡ print_chunk_line line ++ behind
+
+-- The text is a line whose size is too large behind `used` bytes of chunks.
+pub record IsOverLine (used : ℕ) (text : List ℕ) : Type 0 where
+  pub line : ChunkLine
+  pub is_line : IsLine line
+  pub over : longest_body < used + chunk_size line
+  pub text_is : text ≡ print_chunk_line line
+
+-- How a text ends: as a whole body that spells these bytes, or at a line whose size is too large.
+pub data Ending : Type 0 where
+  Whole : List ℕ → Ending
+  Over : Ending
+
+-- what stands behind chunks that spell these bytes
+abbrev pub EndsAs : List ℕ → List ℕ → Ending → Type 0
+EndsAs bytes text (Whole body) = IsLast text × (body ≡ bytes)
+EndsAs bytes text Over = IsOverLine (length bytes) text
+
+-- Behind chunks that spell the bytes before, the text is chunks and such an ending.
+pub record EndsInChunks (before text : List ℕ) (ending : Ending) : Type 0 where
+  pub chunks : List Chunk
+  pub behind : List ℕ
+  pub each : AllByRecursion IsChunk chunks
+  pub fits : length (before ++ chunk_bytes chunks) ≤ longest_body
+  pub ends : EndsAs (before ++ chunk_bytes chunks) behind ending
+  pub text_is : text ≡ chunk_texts chunks ++ behind
+
+-- what follows in a chunk of which `left` bytes are still to come, behind the bytes before: these, the end, and the rest
+pub record InChunk (left : ℕ) (before text : List ℕ) (ending : Ending) : Type 0 where
+  pub bytes : List ℕ
+  pub rest : List ℕ
+  pub size : length bytes ≡ left
+  pub ends : EndsInChunks (before ++ bytes) rest ending
+  pub text_is : text ≡ bytes ++ (line_end ++ rest)

@@ -1,0 +1,5 @@
+pub mod Bodies
+pub mod Chunks
+pub mod Held
+pub mod Lines
+pub mod Steps
