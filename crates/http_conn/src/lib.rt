@@ -1,0 +1,7 @@
+//! What a connection hears: the requests in the bytes that come, in whatever pieces (RFC 9112).
+#![tactic(auto)]
+
+mod conn;
+mod stage;
+
+pub use conn::Conn;
