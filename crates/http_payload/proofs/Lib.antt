@@ -1,6 +1,8 @@
 pub mod ByteSteps
 pub mod ChunkSteps
+pub mod Feeding
 pub mod Fronts
+pub mod Laws
 pub mod LineFacts
 pub mod LineLimits
 pub mod LineSteps

@@ -17,7 +17,7 @@ use Rattle.http_payload.proofs.LineFacts.{zero_line, zero_text, zero_is_line, op
 use Rattle.http_payload.proofs.TrailerSteps.{empty_line}
 use Rattle.http_payload.proofs.ByteSteps.{some_end}
 use Rattle.http_payload.proofs.ChunkSteps.{line_first, closed_last, closed_over, from_size}
-use Rattle.http_payload.proofs.Uniqueness.{one_reading}
+use Rattle.http_payload.proofs.Laws.{one_reading}
 
 -- a payload that read on stands for the longer text
 pub stands_on : {form : BodyForm} {old new : Held} {text bytes : List ℕ} → Stands form old text → Steps old bytes new

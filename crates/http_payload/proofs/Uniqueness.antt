@@ -1,4 +1,4 @@
--- A text has one reading.
+-- A text of chunks has one reading.
 use Rattle.std.proofs.Common.{◌≡◌, ◌≢◌, ℕ, ◌+◌, ◌-◌, ◌<◌, ◌≤◌, ◌⊎◌, Bool, true, false, IsTrue, List, [], ◌∷◌, ◌++◌, length, refl, sym, ap, ◌∙◌, subst, arith, length-append, append_assoc, append-nil, inl, inr}
 use Rattle.std.specs.List.{AllByRecursion}
 use Rattle.std.proofs.lemmas.List.{append_cancel_right}
@@ -126,7 +126,7 @@ chunk_end before a b r s tail e f c is_chunk text_is ends same next (at_chunk d 
     behind_end : (x y : List ℕ) → line_end ++ x ≡ line_end ++ y → x ≡ y
     behind_end x y e = cc
 
-one_end : (chunks : List Chunk) (before a b r s : List ℕ) (e f : Ending) (behind : List ℕ) → AllByRecursion IsChunk chunks
+pub one_end : (chunks : List Chunk) (before a b r s : List ℕ) (e f : Ending) (behind : List ℕ) → AllByRecursion IsChunk chunks
     → length (before ++ chunk_bytes chunks) ≤ longest_body → EndsAs (before ++ chunk_bytes chunks) behind e
     → a ≡ chunk_texts chunks ++ behind → EndsInChunks before b f → a ++ r ≡ b ++ s → OneEnd r s e f
 one_end [] before a b r s (Whole body) f behind each fits ends text_is y same =
@@ -148,61 +148,3 @@ one_end (c ∷ chunks) before a b r s e f behind each fits ends text_is y same =
     (λ rest more rests. one_end chunks (before ++ c.bytes) (chunk_texts chunks ++ behind) rest r s e f behind each.1
         fits_behind ends_behind refl more rests)
     (opened y)
-
--- ---- the laws
-
--- Where two ends stand at the front of one text, they are one.
-pub one_reading : (form : BodyForm) (a b r s : List ℕ) (e f : Ending) → Ends form a e → Ends form b f → a ++ r ≡ b ++ s
-    → (a ≡ b) × (r ≡ s) × (e ≡ f)
-one_reading Empty a b r s e f x y same =
-    let fronts : a ≡ b = x.0 ∙ sym y.0 in
-    let nil = same_fronts a b r s same (ap length fronts) in
-    (fronts, nil.1, x.1 ∙ sym y.1)
-one_reading (Length n) a b r s e f x y same =
-    let cut = same_fronts a b r s same (x.0 ∙ sym y.0) in
-    (cut.0, cut.1, x.1 ∙ ap Whole cut.0 ∙ sym y.1)
-one_reading Chunked a b r s e f x y same =
-    let ends = one_end x.chunks [] a b r s e f x.behind x.each x.fits x.ends x.text_is y same in
-    (append_cancel_right a b s (ap (λ (t : List ℕ). a ++ t) (sym ends.0) ∙ same), ends.0, ends.1)
-
--- A fault stays, whatever follows.
-pub fault_stays : (form : BodyForm) (text more : List ℕ) (fault : PayloadFault) → IsFault form text fault
-    → IsFault form (text ++ more) fault
-fault_stays form text more Malformed never =
-    λ after front rest ending e. never (more ++ after) front rest ending (sym (append_assoc text more after) ∙ e)
-fault_stays form text more TooLarge (front, rest, text_is, over) =
-    (front, rest ++ more, ap (λ (t : List ℕ). t ++ more) text_is ∙ append_assoc front rest more, over)
-fault_stays form text more NoMemory never = never
-
--- A text with an end is no other: no end stands before a fault, and the end of a whole body is no fault.
-pub no_fault_at_body : (form : BodyForm) (front rest body : List ℕ) (fault : PayloadFault) → IsBody form front body
-    → IsFault form (front ++ rest) fault → ⊥
-no_fault_at_body form front rest body Malformed whole never =
-    never [] front rest (Whole body) (append-nil (front ++ rest)) whole
-no_fault_at_body form front rest body TooLarge whole (over, behind, text_is, is_over) =
-    let one = one_reading form front over rest behind (Whole body) Over whole is_over text_is in
-    let different : Whole body ≡ Over = one.2 in cc
-no_fault_at_body form front rest body NoMemory whole never = never
-
--- One text has one fault.
-pub one_fault : (form : BodyForm) (text : List ℕ) (fault other : PayloadFault) → IsFault form text fault → IsFault form text other
-    → fault ≡ other
-one_fault form text Malformed Malformed x y = refl
-one_fault form text Malformed TooLarge x (front, rest, text_is, over) =
-    absurd (x [] front rest Over (append-nil text ∙ text_is) over)
-one_fault form text Malformed NoMemory x y = absurd y
-one_fault form text TooLarge Malformed (front, rest, text_is, over) y =
-    absurd (y [] front rest Over (append-nil text ∙ text_is) over)
-one_fault form text TooLarge TooLarge x y = refl
-one_fault form text TooLarge NoMemory x y = absurd y
-one_fault form text NoMemory other x y = absurd x
-
--- What is partial has no fault, and no body stands at its front.
-pub no_fault_at_partial : (form : BodyForm) (text : List ℕ) (fault : PayloadFault) → IsPartial form text → IsFault form text fault → ⊥
-no_fault_at_partial form text Malformed partial never =
-    never partial.more (text ++ partial.more) [] partial.ending (sym (append-nil (text ++ partial.more))) partial.goes_on
-no_fault_at_partial form text TooLarge partial (front, rest, text_is, over) = partial.no_end front rest Over text_is over
-no_fault_at_partial form text NoMemory partial never = never
-
-pub no_body_at_partial : (form : BodyForm) (front rest body : List ℕ) → IsPartial form (front ++ rest) → IsBody form front body → ⊥
-no_body_at_partial form front rest body partial whole = partial.no_end front rest (Whole body) refl whole
