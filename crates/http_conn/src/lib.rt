@@ -1,7 +1,6 @@
 //! What a connection hears: the requests in the bytes that come, in whatever pieces (RFC 9112).
 #![tactic(auto)]
 
-mod conn;
+mod head_step;
 mod stage;
-
-pub use conn::Conn;
+mod told;

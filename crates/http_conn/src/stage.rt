@@ -1,5 +1,9 @@
+ghost use Rattle.std.specs.Prelude.{◌≡◌, []};
+ghost use Rattle.http_head.specs.Search.{HasSeen};
+
 use http_head::{HeadSearch, RequestHead};
 use http_payload::Payload;
+use std::alloc::Global;
 
 /// A head that has not ended.
 #[derive(Debug, Drop)]
@@ -10,6 +14,21 @@ pub(crate) struct OpenHead {
     pub(crate) search: HeadSearch,
     /// How many requests were heard before.
     pub(crate) count: u64,
+}
+
+impl OpenHead {
+    /// A head of which nothing has come, behind so many requests.
+    pub(crate) fn new(alloc: Global, count: u64) -> OpenHead
+        ensures bytes { result.bytes.items ≡ [] }
+        ensures seen { HasSeen result.search [] }
+        ensures count { result.count ≡ count }
+    {
+        OpenHead {
+            bytes: Vec::new(alloc),
+            search: HeadSearch::new(),
+            count,
+        }
+    }
 }
 
 /// A request whose body has not ended.

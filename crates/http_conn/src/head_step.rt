@@ -1,0 +1,104 @@
+ghost use Rattle.std.specs.Prelude.{◌≡◌, ◌<◌, ◌≤◌, ◌++◌, ◌∷◌, [], length, take, IfOk, OnOk};
+ghost use Rattle.http_head.specs.Ends.{head_end};
+ghost use Rattle.http_head.specs.declared.ends.HeadEnd.TheVariants as end;
+ghost use Rattle.http_conn.specs.declared.stage.Stage.TheVariants as stage;
+ghost use Rattle.http_conn.specs.Held.{Goes, GoesBehind, GoesBehindHead, AwaitsBehindHead};
+
+use crate::stage::{OpenBody, OpenHead, Stage};
+use crate::told::{finish, refuse, tell_interim};
+use http_head::{
+    BodyForm, FramingFault, HEAD_LIMIT, HeadEnd, HeadFault, HeadSearch, RequestHead, blank_length, framing,
+    read_head,
+};
+use http_payload::Payload;
+use pod_base::{Heard, List, Mem, NoMemory};
+use std::alloc::Global;
+
+/// What stands behind a head whose body has that form. So many bytes of the request have come.
+fn await_body(
+    alloc: Global,
+    heard: &mut List<Heard>,
+    count: u64,
+    len: usize,
+    said: RequestHead,
+    form: BodyForm,
+) -> Mem<Stage>
+    ensures { IfOk result (λ new. AwaitsBehindHead count len said form heard.old.items new heard.new.items) }
+{
+    tell_interim(alloc, heard, &said, form)?;
+    let payload = Payload::new(alloc, form);
+    if payload.is_done() {
+        return finish(alloc, heard, count, said, payload.body());
+    }
+    Ok(Stage::Body(OpenBody {
+        said,
+        payload,
+        len,
+        count,
+    }))
+}
+
+/// What stands behind a head that says this.
+fn behind_head(
+    alloc: Global,
+    heard: &mut List<Heard>,
+    count: u64,
+    len: usize,
+    said: RequestHead,
+) -> Mem<Stage>
+    ensures { IfOk result (λ new. GoesBehindHead count len said heard.old.items new heard.new.items) }
+{
+    match framing(&said) {
+        Ok(form) => await_body(alloc, heard, count, len, said, form),
+        Err(FramingFault::Conflict) => refuse(alloc, heard, 400),
+        Err(FramingFault::Coding) => refuse(alloc, heard, 501),
+        Err(FramingFault::TooLarge) => refuse(alloc, heard, 413),
+    }
+}
+
+/// What stands behind a whole head.
+fn whole_head(alloc: Global, heard: &mut List<Heard>, count: u64, head: &[u8]) -> Mem<Stage>
+    requires { head_end head.now ≡ end.Whole (length head.now) }
+    ensures { IfOk result (λ new. GoesBehind count head.now heard.old.items new heard.new.items) }
+{
+    match read_head(alloc, head) {
+        Ok(said) => {
+            let len = head.len() - blank_length(head);
+            behind_head(alloc, heard, count, len, said)
+        }
+        Err(HeadFault::TooMany) => refuse(alloc, heard, 431),
+        Err(HeadFault::Malformed) => refuse(alloc, heard, 400),
+        Err(HeadFault::Host) => refuse(alloc, heard, 400),
+        Err(HeadFault::NoMemory) => Err(NoMemory),
+    }
+}
+
+/// Reads on in a head of which nothing has come: how many bytes are read, and what stands behind them.
+fn fresh_head(
+    alloc: Global,
+    heard: &mut List<Heard>,
+    mut begun: OpenHead,
+    bytes: &[u8],
+) -> Mem<(usize, Stage)>
+    requires none { begun.bytes.items ≡ [] }
+    requires some { 0 < length bytes.now }
+    ensures taken { IfOk result (λ r. (0 < r.0) × (r.0 ≤ length bytes.now)) }
+    ensures goes { IfOk result (λ r. Goes (stage.Head begun) heard.old.items (take r.0 bytes.now) r.1 heard.new.items) }
+{
+    let mut search = HeadSearch::new();
+    match search.look(bytes) {
+        HeadEnd::Whole(len) => {
+            let next = whole_head(alloc, heard, begun.count, &bytes[..len])?;
+            Ok((len, next))
+        }
+        HeadEnd::TooLong => {
+            let next = refuse(alloc, heard, 431)?;
+            Ok((bytes.len(), next))
+        }
+        HeadEnd::NotYet => {
+            begun.bytes.extend_from_slice(bytes)?;
+            begun.search = search;
+            Ok((bytes.len(), Stage::Head(begun)))
+        }
+    }
+}
