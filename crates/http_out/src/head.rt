@@ -10,7 +10,7 @@ use pod_base::{Body, Bytes, Fields, Mem, Moment, Response, moment_of};
 use std::alloc::Global;
 
 /// The date of a moment, as HTTP writes it (RFC 9110, section 5.6.7).
-fn date_of(moment: Moment) -> [u8; 29]
+pub(crate) fn date_of(moment: Moment) -> [u8; 29]
     ensures { IsDateOf moment.0 result }
 {
     let date = HttpDate::from_unix_secs(moment_of(moment.0).0).unwrap();
@@ -35,7 +35,7 @@ fn add_field(alloc: Global, text: &mut Bytes, name: &[u8], value: &[u8]) -> Mem<
 }
 
 /// The status as a code.
-fn code_of(status: u16) -> StatusCode
+pub(crate) fn code_of(status: u16) -> StatusCode
     requires { (100 ≤ status) × (status < 600) }
     ensures { result ≡ status }
 {
@@ -44,7 +44,7 @@ fn code_of(status: u16) -> StatusCode
 
 /// The standard phrase of a status, where it has one.
 #[tactic(auto, unfolding(crate::specs::Text::phrase_of))]
-fn phrase_of(code: &StatusCode) -> &'static str
+pub(crate) fn phrase_of(code: &StatusCode) -> &'static str
     ensures { result.now ≡ phrase_of code.now }
 {
     code.canonical_reason().unwrap_or("")
@@ -73,7 +73,7 @@ fn add_fields(alloc: Global, text: &mut Bytes, fields: &Fields) -> Mem<()>
 }
 
 /// The length that a response tells of its body.
-fn told_length(body: &Body) -> u64
+pub(crate) fn told_length(body: &Body) -> u64
     ensures { result ≡ body_length body.now }
 {
     match body {

@@ -3,9 +3,12 @@
 
 mod fixed;
 mod head;
+mod out;
+mod place;
 
 pub use fixed::{disk_text, interim, memory_text};
 pub use head::bytes_of;
+pub use out::Out;
 
 #[cfg(test)]
 mod tests;

@@ -1,11 +1,11 @@
 -- The steps over one byte.
-use Rattle.std.proofs.Common.{◌≡◌, ◌≢◌, ℕ, ◌+◌, ◌<◌, ◌≤◌, Bool, true, false, IsTrue, List, [], ◌∷◌, ◌++◌, length, refl, sym, ap, ◌∙◌, subst, arith, length-append, append_assoc, append-nil, Option, Some, None, IfSome, IfNone, inl, inr}
+use Rattle.std.proofs.Common.{◌≡◌, ◌≢◌, ℕ, ◌+◌, ◌<◌, ◌≤◌, List, [], ◌∷◌, ◌++◌, length, refl, sym, ap, ◌∙◌, subst, arith, append-nil, Option, Some, None, IfSome, IfNone, inl, inr}
 use Rattle.std.proofs.lemmas.Bool.{cases_eq}
 use Rattle.http_payload.specs.declared.stage.Stage.{Stage}
 use Rattle.http_payload.specs.declared.stage.Stage.TheVariants.{Rest, Line, Chunk, ChunkEnd, Trailers, Trailer, TrailerEnd, LastEnd}
-use Rattle.http_payload.specs.Chunks.{Ending, Whole, line_end, longest_trailers, trailer_texts, IsTrailers, InTrailer, InChunk, EndsInChunks}
-use Rattle.http_payload.specs.Held.{Held, held, Left, IsOpenLine, IsSoundAt}
-use Rattle.http_payload.specs.Steps.{Steps, Never, TakesByte}
+use Rattle.http_payload.specs.Chunks.{Ending, Whole, line_end, longest_trailers, trailer_texts, IsTrailers, InTrailer, EndsInChunks}
+use Rattle.http_payload.specs.Held.{Held, held, Left, IsOpenLine}
+use Rattle.http_payload.specs.Steps.{Never, TakesByte}
 use Rattle.http_payload.proofs.LineFacts.{open_at_first}
 use Rattle.http_payload.proofs.TrailerSteps.{stays, behind_cr, empty_line, no_lf, in_line, from_line, in_trailer, from_trailer, trailer_ends, trailer_ended, no_lf_inside, has_room}
 

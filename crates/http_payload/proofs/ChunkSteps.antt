@@ -1,17 +1,15 @@
 -- The line before a chunk and the chunk, read in pieces.
-use Rattle.std.proofs.Common.{◌≡◌, ◌≢◌, ℕ, ◌+◌, ◌-◌, ◌<◌, ◌≤◌, Bool, true, false, IsTrue, List, [], ◌∷◌, ◌++◌, length, take, drop, min, refl, sym, ap, ◌∙◌, subst, arith, length-append, append_assoc, append-nil, Option, Some, None, inl, inr}
+use Rattle.std.proofs.Common.{◌≡◌, ℕ, ◌+◌, ◌-◌, ◌<◌, ◌≤◌, List, [], ◌∷◌, ◌++◌, length, take, drop, refl, sym, ap, ◌∙◌, subst, arith, length-append, append_assoc, append-nil}
 use Rattle.std.proofs.lemmas.List.{take-append-drop}
 use Rattle.std.specs.List.{AllByRecursion}
 use Rattle.httparse.specs.Grammar.{ChunkLine, print_chunk_line, chunk_size}
 use Rattle.httparse.proofs.ChunkLemmas.{chunk_line_unique}
-use Rattle.http_payload.specs.declared.stage.Stage.{Stage}
 use Rattle.http_payload.specs.declared.stage.Stage.TheVariants.{Rest, Line, Chunk as InTheChunk, Trailers}
 use Rattle.http_payload.specs.Chunks.{longest_body, line_end, IsLine, Chunk, chunk_text, IsChunk, chunk_texts, chunk_bytes, IsTrailers, IsLast, IsOverLine, Ending, Whole, Over, EndsAs, EndsInChunks, InChunk}
-use Rattle.http_payload.specs.Held.{held, Left, IsOpenLine}
+use Rattle.http_payload.specs.Held.{held}
 use Rattle.http_payload.specs.Lines.{NeverLine, IsLineOf}
 use Rattle.http_payload.specs.Steps.{Steps, Never, Passes}
-use Rattle.http_payload.proofs.Fronts.{fronts, same_fronts}
-use Rattle.http_payload.proofs.LineFacts.{length-print_chunk_line}
+use Rattle.http_payload.proofs.Fronts.{fronts}
 
 -- one line stands at the front of a text
 pub one_line : (l k : ChunkLine) (r q : List ℕ) → IsLine l → IsLine k
@@ -127,7 +125,7 @@ behind_zero {before} {rest} {ending} line is_line zero h = by_case (opened h)
         absurd (omega (arith, over.over, ap chunk_size same.0, zero, fits))
     by_case (at_chunk c after is_chunk text_is ends) =
         let same = one_line line c.line rest ((c.bytes ++ line_end) ++ after) is_line is_chunk.line
-            (text_is ∙ append_assoc (print_chunk_line c.line) (c.bytes ++ line_end) after) in
+        (text_is ∙ append_assoc (print_chunk_line c.line) (c.bytes ++ line_end) after) in
         absurd (omega (arith, is_chunk.some, is_chunk.size, ap chunk_size same.0, zero))
 
 -- behind a line of another size that fits stands the chunk
@@ -145,7 +143,7 @@ behind_size {before} {rest} {ending} line is_line some room h = by_case (opened 
         absurd (omega (arith, over.over, ap chunk_size same.0, room))
     by_case (at_chunk c after is_chunk text_is ends) =
         let same = one_line line c.line rest ((c.bytes ++ line_end) ++ after) is_line is_chunk.line
-            (text_is ∙ append_assoc (print_chunk_line c.line) (c.bytes ++ line_end) after) in
+        (text_is ∙ append_assoc (print_chunk_line c.line) (c.bytes ++ line_end) after) in
         record {
           bytes = c.bytes;
           rest = after;
@@ -244,9 +242,12 @@ size_line_step line body bytes size l some room =
 -- a line whose size is too large
 pub over_line_passes : (line body bytes : List ℕ) (taken size : ℕ) → IsLineOf (line ++ take taken bytes) size
     → longest_body < length body + size → length body ≤ longest_body → Passes (held Line line body) bytes
-over_line_passes line body bytes taken size l over fits =
-    (take taken bytes, drop taken bytes, sym (take-append-drop taken bytes),
-        closed_over (record { line = l.line; is_line = l.is_line; over = omega (arith, over, l.size_is); text_is = l.text_is }) fits)
+over_line_passes line body bytes taken size l over fits = (
+  take taken bytes,
+  drop taken bytes,
+  sym (take-append-drop taken bytes),
+  closed_over (record { line = l.line; is_line = l.is_line; over = omega (arith, over, l.size_is); text_is = l.text_is }) fits,
+)
 
 -- where no line goes on so, no body does
 pub never_line : (line body bytes : List ℕ) → NeverLine (line ++ bytes) → Never (held Line line body) bytes

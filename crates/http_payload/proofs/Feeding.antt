@@ -1,5 +1,5 @@
 -- What each answer of a feed says, and that no other comes.
-use Rattle.std.proofs.Common.{◌≡◌, ◌≢◌, ℕ, ◌+◌, ◌-◌, ◌<◌, ◌≤◌, ◌⊎◌, Bool, true, false, IsTrue, List, [], ◌∷◌, ◌++◌, length, take, drop, refl, sym, ap, ◌∙◌, subst, arith, length-append, append_assoc, append-nil, inl, inr, None, Some, Option, Result, Ok, Err, IfSome}
+use Rattle.std.proofs.Common.{◌≡◌, ◌≢◌, ℕ, ◌-◌, ◌≤◌, Bool, true, false, IsTrue, List, ◌++◌, length, take, drop, refl, sym, ap, ◌∙◌, subst, arith, length-append, append_assoc, inl, inr, None, Option, Result, Ok, Err, IfSome}
 use Rattle.std.proofs.lemmas.List.{take-append-drop, length-take-le, take_all}
 use Rattle.http_head.specs.declared.form.BodyForm.{BodyForm}
 use Rattle.http_payload.specs.declared.fault.PayloadFault.{PayloadFault}
@@ -9,9 +9,9 @@ use Rattle.http_payload.specs.declared.stage.Stage.{Stage}
 use Rattle.http_payload.specs.declared.stage.Stage.TheVariants.{Rest, Line, Chunk, ChunkEnd, Trailers, Trailer, TrailerEnd, LastEnd, Failed}
 use Rattle.http_payload.specs.Chunks.{Whole}
 use Rattle.http_payload.specs.Bodies.{IsBody, IsFault, IsPartial, Tells}
-use Rattle.http_payload.specs.Held.{Held, held, IsSound, Stands, IsDone, fault_of, fault_at}
-use Rattle.http_payload.proofs.Standing.{body_of, partial_of}
-use Rattle.http_payload.proofs.Laws.{one_reading, no_fault_at_body, one_fault, no_fault_at_partial, no_body_at_partial}
+use Rattle.http_payload.specs.Held.{Held, held, IsSound, Stands, IsDone, fault_at}
+use Rattle.http_payload.proofs.Standing.{partial_of}
+use Rattle.http_payload.proofs.LawLemmas.{one_reading, no_fault_at_body, one_fault, no_fault_at_partial, no_body_at_partial}
 
 abbrev pub fed : ℕ → Bool → Fed
 fed taken done = record { taken = taken; done = done }
@@ -34,7 +34,7 @@ pub whole_told : (form : BodyForm) (text piece : List ℕ) (taken : ℕ) (done :
     → Tells {A = Fed} (Ok (fed taken done)) (Ok (fed (length front - length text) true))
 whole_told form text piece taken true spelled within whole partial front rest body e is_body =
     let one = one_reading form (text ++ take taken piece) front (drop taken piece) rest (Whole spelled) (Whole body) (whole refl) is_body
-        (whole_piece text piece taken ∙ e) in
+    (whole_piece text piece taken ∙ e) in
     let size : taken ≡ length front - length text =
     omega (arith, ap length one.0, length-append text (take taken piece), length-take-le taken piece within) in
     inl (ap (λ n. Ok (fed n true)) size)

@@ -2,7 +2,7 @@ pub mod ByteSteps
 pub mod ChunkSteps
 pub mod Feeding
 pub mod Fronts
-pub mod Laws
+pub mod LawLemmas
 pub mod LineFacts
 pub mod LineLimits
 pub mod LineSteps

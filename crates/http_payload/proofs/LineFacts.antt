@@ -1,7 +1,7 @@
 -- The line before a chunk: its beginnings, and its limit.
-use Rattle.std.proofs.Common.{◌≡◌, ◌≢◌, ℕ, ◌+◌, ◌<◌, ◌≤◌, Bool, true, false, IsTrue, List, [], ◌∷◌, ◌++◌, length, refl, sym, ap, ◌∙◌, subst, arith, length-append, append_assoc, append-nil, Option, Some, None}
+use Rattle.std.proofs.Common.{◌≡◌, ◌≤◌, IsTrue, [], ◌∷◌, ◌++◌, length, refl, sym, ap, arith, length-append, None}
 use Rattle.std.proofs.lemmas.List.Elements.{All-nil, All-cons}
-use Rattle.httparse.specs.Grammar.{ChunkLine, IsChunkLine, print_chunk_line, print_extension, print_end, crlf, chunk_size, is_ows}
+use Rattle.httparse.specs.Grammar.{ChunkLine, IsChunkLine, print_chunk_line, print_extension, print_end, crlf, is_ows}
 use Rattle.std.specs.Char.{is_ascii_hexdigit}
 use Rattle.http_payload.specs.Chunks.{IsLine}
 use Rattle.http_payload.specs.Held.{IsOpenLine}
@@ -13,8 +13,13 @@ length-print_chunk_line line grammar =
     let digits = line.digits in
     let pad = line.pad in
     let extension = print_extension line.extension in
-    omega (arith, grammar.digits.0, length-append ((digits ++ pad) ++ extension) (print_end crlf),
-        length-append (digits ++ pad) extension, length-append digits pad)
+    omega (
+      arith,
+      grammar.digits.0,
+      length-append ((digits ++ pad) ++ extension) (print_end crlf),
+      length-append (digits ++ pad) extension,
+      length-append digits pad,
+    )
 
 -- the line of size 0
 abbrev pub zero_line : ChunkLine

@@ -1,15 +1,15 @@
 -- The limit of a line before a chunk: which beginnings can still end within it.
-use Rattle.std.proofs.Common.{◌≡◌, ◌≢◌, ℕ, ◌+◌, ◌-◌, ◌<◌, ◌≤◌, ◌⊎◌, Bool, true, false, IsTrue, List, [], ◌∷◌, ◌++◌, length, get_or, take, drop, refl, sym, ap, ◌∙◌, subst, arith, length-append, append_assoc, append-nil, Option, Some, None, inl, inr}
+use Rattle.std.proofs.Common.{◌≡◌, ◌≢◌, ℕ, ◌+◌, ◌<◌, ◌≤◌, IsTrue, List, [], ◌∷◌, ◌++◌, length, get_or, refl, sym, ap, ◌∙◌, subst, arith, length-append, append_assoc, append-nil, Option, Some, None, inl, inr}
 use Rattle.std.specs.List.{All}
 use Rattle.std.specs.Char.{is_ascii_hexdigit}
-use Rattle.std.proofs.lemmas.Bool.{cases_lt, cases_eq}
+use Rattle.std.proofs.lemmas.Bool.{cases_lt}
 use Rattle.std.proofs.lemmas.Bool.Decides.{nat_tests}
 use Rattle.std.proofs.lemmas.List.{get_or_append_left}
 use Rattle.std.proofs.lemmas.List.Elements.{All-nil, All-cons, All-append, All-weaker, All-get_or}
 use Rattle.std.proofs.Math.Seq.{get_or-append_seam}
-use Rattle.httparse.specs.Grammar.{ChunkLine, IsChunkLine, print_chunk_line, print_extension, print_end, crlf, is_ows, is_extension_byte, HasNoChunkLine, IsExtension, ReadsChunkLine}
+use Rattle.httparse.specs.Grammar.{ChunkLine, IsChunkLine, print_chunk_line, print_extension, is_ows, is_extension_byte, HasNoChunkLine, IsExtension, ReadsChunkLine}
 use Rattle.httparse.proofs.ChunkLemmas.{chunk_line_unique}
-use Rattle.http_payload.specs.Chunks.{IsLine, longest_line}
+use Rattle.http_payload.specs.Chunks.{longest_line}
 use Rattle.http_payload.specs.Held.{IsOpenLine}
 use Rattle.http_payload.specs.Lines.{CanEnd, NeverLine}
 use Rattle.http_payload.proofs.Fronts.{fronts, All-front}
@@ -54,39 +54,43 @@ in_pad : (digits pad : List ℕ) (extension : Option (List ℕ)) (text more : Li
 in_pad digits pad extension text more g e =
     elim (cases_lt (length pad) (length text)) [
       | inl longer ↦
-        let cut = fronts pad text (print_extension extension) more e (omega arith) in
-        subst (λ (t : List ℕ). IsCore (digits ++ t)) (sym cut.1) (in_extension digits pad extension cut.0 more g cut.2)
+          let cut = fronts pad text (print_extension extension) more e (omega arith) in
+          subst (λ (t : List ℕ). IsCore (digits ++ t)) (sym cut.1) (in_extension digits pad extension cut.0 more g cut.2)
       | inr shorter ↦
-        let cut = fronts text pad more (print_extension extension) (sym e) shorter in
-        record {
-          line = record { digits = digits; pad = text; extension = None };
-          grammar = record {
-            digits = g.digits;
-            pad = All-front (λ b. IsTrue (is_ows b)) text cut.0 (subst (All (λ b. IsTrue (is_ows b))) cut.1 g.pad);
-            extension = tt;
-          };
-          text_is = ap (λ (t : List ℕ). digits ++ t) (sym (append-nil text));
-        }
+          let cut = fronts text pad more (print_extension extension) (sym e) shorter in
+          record {
+            line = record { digits = digits; pad = text; extension = None };
+            grammar = record {
+              digits = g.digits;
+              pad = All-front (λ b. IsTrue (is_ows b)) text cut.0 (subst (All (λ b. IsTrue (is_ows b))) cut.1 g.pad);
+              extension = tt;
+            };
+            text_is = ap (λ (t : List ℕ). digits ++ t) (sym (append-nil text));
+          }
     ]
 
 pub front_is_core : (l : ChunkLine) (text more : List ℕ) → IsChunkLine l → 0 < length text → core l ≡ text ++ more → IsCore text
 front_is_core l text more g some e =
     elim (cases_lt (length l.digits) (length text)) [
       | inl longer ↦
-        let cut = fronts l.digits text (l.pad ++ print_extension l.extension) more e (omega arith) in
-        subst IsCore (sym cut.1) (in_pad l.digits l.pad l.extension cut.0 more g cut.2)
+          let cut = fronts l.digits text (l.pad ++ print_extension l.extension) more e (omega arith) in
+          subst IsCore (sym cut.1) (in_pad l.digits l.pad l.extension cut.0 more g cut.2)
       | inr shorter ↦
-        let cut = fronts text l.digits more (l.pad ++ print_extension l.extension) (sym e) shorter in
-        record {
-          line = record { digits = text; pad = []; extension = None };
-          grammar = record {
-            digits = (some, omega (arith, shorter, g.digits.1), All-front (λ b. IsTrue (is_ascii_hexdigit b)) text cut.0
-                (subst (All (λ b. IsTrue (is_ascii_hexdigit b))) cut.1 g.digits.2));
-            pad = All-nil (λ b. IsTrue (is_ows b));
-            extension = tt;
-          };
-          text_is = sym (append-nil text);
-        }
+          let cut = fronts text l.digits more (l.pad ++ print_extension l.extension) (sym e) shorter in
+          record {
+            line = record { digits = text; pad = []; extension = None };
+            grammar = record {
+              digits = (
+                some,
+                omega (arith, shorter, g.digits.1),
+                All-front (λ b. IsTrue (is_ascii_hexdigit b)) text cut.0
+                    (subst (All (λ b. IsTrue (is_ascii_hexdigit b))) cut.1 g.digits.2),
+              );
+              pad = All-nil (λ b. IsTrue (is_ows b));
+              extension = tt;
+            };
+            text_is = sym (append-nil text);
+          }
     ]
 
 -- no CR stands in a line before its end
@@ -166,19 +170,23 @@ pub never_open : (text : List ℕ) → HasNoChunkLine text → (CanEnd text → 
 never_open text none full more rest line is_line e =
     elim (cases_lt (length text) (length (print_chunk_line line))) [
       | inr longer ↦
-        let cut = fronts (print_chunk_line line) text rest more (sym e) longer in
-        none line cut.0 (is_line.grammar, cut.1)
+          let cut = fronts (print_chunk_line line) text rest more (sym e) longer in
+          none line cut.0 (is_line.grammar, cut.1)
       | inl shorter ↦
-        let cut = fronts text (print_chunk_line line) more rest e (omega arith) in
-        let long : 255 ≤ length text = not_short text full in
-        let sizes : length (print_chunk_line line) ≡ length text + length cut.0 = ap length cut.1 ∙ length-append text cut.0 in
-        let one : length cut.0 ≡ 1 = omega (arith, sizes, long, shorter, is_line.short) in
-        full (inr (omega (arith, sizes, one, long, is_line.short), last text cut.0 line one (sym cut.1 ∙ print_chunk_line-core line)
-        (omega (arith, sizes, one, long, is_line.short))))
+          let cut = fronts text (print_chunk_line line) more rest e (omega arith) in
+          let long : 255 ≤ length text = not_short text full in
+          let sizes : length (print_chunk_line line) ≡ length text + length cut.0 = ap length cut.1 ∙ length-append text cut.0 in
+          let one : length cut.0 ≡ 1 = omega (arith, sizes, long, shorter, is_line.short) in
+          full (inr (
+            omega (arith, sizes, one, long, is_line.short),
+            last text cut.0 line one (sym cut.1 ∙ print_chunk_line-core line)
+                (omega (arith, sizes, one, long, is_line.short)),
+          ))
     ]
   where
     not_short : (t : List ℕ) → (CanEnd t → ⊥) → 255 ≤ length t
     not_short t never = elim (cases_lt (length t) 255) [ inl less ↦ absurd (never (inl less)) | inr longer ↦ longer ]
+
     last : (t m : List ℕ) (l : ChunkLine) → length m ≡ 1 → t ++ m ≡ core l ++ (13 ∷ 10 ∷ []) → length t ≡ 255 → get_or t 254 0 ≡ 13
     last t m l one e size =
         let sum : length t + length m ≡ length (core l) + 2 =

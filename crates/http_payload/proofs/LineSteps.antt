@@ -1,14 +1,13 @@
 -- Reading on in the line before a chunk.
-use Rattle.std.proofs.Common.{◌≡◌, ℕ, ◌+◌, ◌-◌, ◌<◌, ◌≤◌, List, [], ◌∷◌, ◌++◌, length, take, drop, refl, sym, ap, ◌∙◌, subst, arith, length-append, append_assoc, append-nil, inl, inr}
+use Rattle.std.proofs.Common.{◌≡◌, ℕ, ◌+◌, ◌-◌, ◌<◌, ◌≤◌, List, ◌++◌, length, take, drop, sym, ap, ◌∙◌, arith, length-append, append_assoc, inl, inr}
 use Rattle.std.proofs.lemmas.Bool.{cases_lt}
 use Rattle.std.proofs.Math.Seq.{take-append_seam}
 use Rattle.std.proofs.lemmas.List.{take-append-drop, length-take-le}
-use Rattle.httparse.specs.Grammar.{ChunkLine, print_chunk_line}
+use Rattle.httparse.specs.Grammar.{print_chunk_line}
 use Rattle.http_payload.specs.declared.fault.PayloadFault.{PayloadFault}
 use Rattle.http_payload.specs.declared.fault.PayloadFault.TheVariants.{Malformed, TooLarge, NoMemory}
-use Rattle.http_payload.specs.Chunks.{IsLine}
 use Rattle.http_payload.specs.Held.{IsOpenLine}
-use Rattle.http_payload.specs.Lines.{NeverLine, LineFault, IsLineOf, BeginsWithLine}
+use Rattle.http_payload.specs.Lines.{LineFault, IsLineOf, BeginsWithLine}
 use Rattle.http_payload.proofs.Fronts.{fronts}
 use Rattle.http_payload.proofs.LineFacts.{length-print_chunk_line}
 
@@ -40,9 +39,9 @@ kept_line old bytes n len size is_open begins fits =
     let past : length old < len = elim (cases_lt (length old) len) [
       | inl past ↦ past
       | inr short ↦
-        let cut = fronts (print_chunk_line begins.line.line) old (drop len text) (take n bytes) (sym whole)
-            (omega (arith, short, printed, ap length begins.line.text_is)) in
-        absurd (is_open.none begins.line.line cut.0 begins.line.is_line cut.1)
+          let cut = fronts (print_chunk_line begins.line.line) old (drop len text) (take n bytes) (sym whole)
+          (omega (arith, short, printed, ap length begins.line.text_is)) in
+          absurd (is_open.none begins.line.line cut.0 begins.line.is_line cut.1)
     ] in
     let cut = fronts old (take len text) (take n bytes) (drop len text) (sym (take-append-drop len text)) (omega (arith, past, printed)) in
     let more : length cut.0 ≡ len - length old = omega (arith, printed, ap length cut.1, length-append old cut.0) in
@@ -64,7 +63,11 @@ kept_line old bytes n len size is_open begins fits =
 -- a line has some bytes
 pub some_line : (text : List ℕ) (len size : ℕ) → BeginsWithLine text len size → (0 < len) × (len ≤ length text)
 some_line text len size begins = (
-  omega (arith, length-take-le len text begins.within, ap length begins.line.text_is,
-      length-print_chunk_line begins.line.line begins.line.is_line.grammar),
+  omega (
+    arith,
+    length-take-le len text begins.within,
+    ap length begins.line.text_is,
+    length-print_chunk_line begins.line.line begins.line.is_line.grammar,
+  ),
   begins.within,
 )

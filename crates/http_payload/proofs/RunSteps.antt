@@ -1,5 +1,5 @@
 -- The steps of a run, from what its calls tell.
-use Rattle.std.proofs.Common.{◌≡◌, ◌≢◌, ℕ, ◌+◌, ◌-◌, ◌<◌, ◌≤◌, List, [], ◌∷◌, ◌++◌, length, take, drop, min, refl, sym, ap, ◌∙◌, subst, arith, length-append, append_assoc, append-nil, Result, Ok, Err, None}
+use Rattle.std.proofs.Common.{◌≡◌, ℕ, ◌+◌, ◌-◌, ◌<◌, ◌≤◌, List, [], ◌++◌, length, take, drop, min, refl, sym, ap, ◌∙◌, subst, arith, length-append, Ok, Err}
 use Rattle.std.proofs.lemmas.List.{take-append-drop, length-take-le, length-drop, take_all}
 use Rattle.std.proofs.Math.Seq.{take-append-add}
 use Rattle.http_payload.specs.declared.fault.PayloadFault.{PayloadFault}
@@ -66,7 +66,7 @@ chunk_advances left taken line body bytes new some some_bytes empty fits is_take
       some = omega arith;
       within = omega arith;
       steps = subst (λ k. Steps (held (Chunk left) line body) (take taken bytes) (held (Chunk (left - k)) line (body ++ take taken bytes)))
-        read (chunk_bytes_step left line body (take taken bytes) (omega arith));
+          read (chunk_bytes_step left line body (take taken bytes) (omega arith));
       sound = (empty, omega (arith, fits, read, length-append body (take taken bytes)));
       no_fault = refl;
     })

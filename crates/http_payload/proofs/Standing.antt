@@ -1,23 +1,23 @@
 -- What a payload's answers say of the texts that it stands for.
-use Rattle.std.proofs.Common.{◌≡◌, ◌≢◌, ℕ, ◌+◌, ◌-◌, ◌<◌, ◌≤◌, ◌⊎◌, Bool, true, false, IsTrue, List, [], ◌∷◌, ◌++◌, length, take, drop, zero, suc, refl, sym, ap, ◌∙◌, subst, arith, length-append, append_assoc, append-nil, inl, inr, None, Some, Option}
+use Rattle.std.proofs.Common.{◌≡◌, ◌≢◌, ℕ, ◌+◌, ◌≤◌, List, [], ◌∷◌, ◌++◌, length, zero, suc, refl, sym, ap, ◌∙◌, subst, arith, length-append, append_assoc, append-nil, inl, inr, None, Some}
 use Rattle.std.proofs.lemmas.Bool.{cases_lt, cases_eq}
-use Rattle.httparse.specs.Grammar.{ChunkLine, print_chunk_line, chunk_size}
+use Rattle.httparse.specs.Grammar.{chunk_size}
 use Rattle.http_head.specs.declared.form.BodyForm.{BodyForm}
 use Rattle.http_head.specs.declared.form.BodyForm.TheVariants.{Empty, Length, Chunked}
 use Rattle.http_payload.specs.declared.fault.PayloadFault.{PayloadFault}
 use Rattle.http_payload.specs.declared.fault.PayloadFault.TheVariants.{Malformed, TooLarge, NoMemory}
 use Rattle.http_payload.specs.declared.stage.Stage.{Stage}
 use Rattle.http_payload.specs.declared.stage.Stage.TheVariants.{Rest, Line, Chunk, ChunkEnd, Trailers, Trailer, TrailerEnd, LastEnd, Failed}
-use Rattle.http_payload.specs.Chunks.{longest_body, longest_trailers, line_end, trailer_texts, IsLast, IsOverLine, Ending, Whole, Over, EndsInChunks, InChunk, InTrailer, IsTrailers}
+use Rattle.http_payload.specs.Chunks.{longest_body, line_end, trailer_texts, Ending, Whole, Over, EndsInChunks}
 use Rattle.http_payload.specs.Bodies.{Ends, IsBody, HasNoEnd, IsFault, IsPartial}
 use Rattle.http_payload.specs.Held.{Held, held, Left, LeftAt, IsSound, IsSoundAt, IsOpenLine, Stands, IsDone, fault_of, fault_at, first_stage}
-use Rattle.http_payload.specs.Steps.{Steps, Never, Passes, Blocks}
+use Rattle.http_payload.specs.Steps.{Steps, Blocks}
 use Rattle.http_payload.proofs.Fronts.{fronts}
 use Rattle.http_payload.proofs.LineFacts.{zero_line, zero_text, zero_is_line, open_at_first}
 use Rattle.http_payload.proofs.TrailerSteps.{empty_line}
 use Rattle.http_payload.proofs.ByteSteps.{some_end}
 use Rattle.http_payload.proofs.ChunkSteps.{line_first, closed_last, closed_over, from_size}
-use Rattle.http_payload.proofs.Laws.{one_reading}
+use Rattle.http_payload.proofs.LawLemmas.{one_reading}
 
 -- a payload that read on stands for the longer text
 pub stands_on : {form : BodyForm} {old new : Held} {text bytes : List ℕ} → Stands form old text → Steps old bytes new
@@ -76,33 +76,33 @@ line_goes_on : (line body : List ℕ) → IsOpenLine line → length body ≤ lo
 line_goes_on line body is_open fits =
     elim (cases_eq (chunk_size is_open.line) 0) [
       | inl none ↦ record {
-          more = is_open.more ++ line_end;
-          ending = Whole body;
-          left = closed_last (record {
-            line = is_open.line;
-            behind = line_end;
-            is_line = is_open.is_line;
-            zero = none;
-            trailers = empty_line 0 (omega arith);
-            text_is = sym (append_assoc line is_open.more line_end) ∙ ap (λ (t : List ℕ). t ++ line_end) is_open.goes_on;
-          }) fits;
-        }
+        more = is_open.more ++ line_end;
+        ending = Whole body;
+        left = closed_last (record {
+          line = is_open.line;
+          behind = line_end;
+          is_line = is_open.is_line;
+          zero = none;
+          trailers = empty_line 0 (omega arith);
+          text_is = sym (append_assoc line is_open.more line_end) ∙ ap (λ (t : List ℕ). t ++ line_end) is_open.goes_on;
+        }) fits;
+      }
       | inr some ↦ elim (cases_lt longest_body (length body + chunk_size is_open.line)) [
-          | inl over ↦ record {
-              more = is_open.more;
-              ending = Over;
-              left = closed_over (record { line = is_open.line; is_line = is_open.is_line; over = over; text_is = is_open.goes_on }) fits;
-            }
-          | inr room ↦
+        | inl over ↦ record {
+          more = is_open.more;
+          ending = Over;
+          left = closed_over (record { line = is_open.line; is_line = is_open.is_line; over = over; text_is = is_open.goes_on }) fits;
+        }
+        | inr room ↦
             let chunk = chunk_goes_on (chunk_size is_open.line) [] body room in
             record {
               more = is_open.more ++ chunk.more;
               ending = chunk.ending;
               left = subst (λ t. EndsInChunks body t chunk.ending)
-                (ap (λ (t : List ℕ). t ++ chunk.more) (sym is_open.goes_on) ∙ append_assoc line is_open.more chunk.more)
-                (from_size is_open.line is_open.is_line (omega (arith, some)) chunk.left);
+                  (ap (λ (t : List ℕ). t ++ chunk.more) (sym is_open.goes_on) ∙ append_assoc line is_open.more chunk.more)
+                  (from_size is_open.line is_open.is_line (omega (arith, some)) chunk.left);
             }
-        ]
+      ]
     ]
 
 goes_on_at : (stage : Stage) (line body : List ℕ) → IsSoundAt stage line body → fault_at stage ≡ None → GoesOn (held stage line body)
@@ -152,7 +152,7 @@ no_end_before : (form : BodyForm) (h : Held) (text : List ℕ) → Stands form h
 no_end_before form h text stands sound open_now front rest ending text_is ends =
     let on = goes_on h sound stands.no_fault in
     let one = one_reading form front (text ++ on.more) (rest ++ on.more) [] ending on.ending ends (stands.ends on.more on.ending on.left)
-        (sym (append_assoc front rest on.more) ∙ ap (λ (t : List ℕ). t ++ on.more) (sym text_is) ∙ sym (append-nil (text ++ on.more))) in
+    (sym (append_assoc front rest on.more) ∙ ap (λ (t : List ℕ). t ++ on.more) (sym text_is) ∙ sym (append-nil (text ++ on.more))) in
     let nothing : on.more ≡ [] = tail_nothing rest on.more one.1 in
     open_now on.ending (subst (λ t. Left h t on.ending) nothing on.left)
   where
@@ -175,7 +175,7 @@ partial_of form h text stands sound not_done =
 pub body_of : (form : BodyForm) (h : Held) (text : List ℕ) → Stands form h text → IsDone h → IsBody form text h.body
 body_of form h text stands done =
     let left : Left h [] (Whole h.body) = subst (λ s. LeftAt s h.line h.body [] (Whole h.body)) (sym done)
-        (refl, ap Whole (sym (append-nil h.body))) in
+    (refl, ap Whole (sym (append-nil h.body))) in
     subst (λ t. Ends form t (Whole h.body)) (append-nil text) (stands.ends [] (Whole h.body) left)
 
 -- what blocks a payload is a fault of the text
@@ -184,15 +184,18 @@ pub fault_of_text : (form : BodyForm) (h : Held) (text bytes : List ℕ) (fault 
 fault_of_text form h text bytes Malformed stands sound not_done never memory =
     λ more front rest ending same ends. elim (cases_lt (length front) (length text)) [
       | inl shorter ↦
-        let cut = fronts front text rest (bytes ++ more) (sym same ∙ append_assoc text bytes more) (omega arith) in
-        no_end_before form h text stands sound (not_ended_at h.stage h.line h.body sound not_done) front cut.0 ending cut.1 ends
+          let cut = fronts front text rest (bytes ++ more) (sym same ∙ append_assoc text bytes more) (omega arith) in
+          no_end_before form h text stands sound (not_ended_at h.stage h.line h.body sound not_done) front cut.0 ending cut.1 ends
       | inr longer ↦
-        let cut = fronts text front (bytes ++ more) rest (sym (append_assoc text bytes more) ∙ same) longer in
-        never more cut.0 rest ending cut.2 (stands.left cut.0 ending (subst (λ t. Ends form t ending) cut.1 ends))
+          let cut = fronts text front (bytes ++ more) rest (sym (append_assoc text bytes more) ∙ same) longer in
+          never more cut.0 rest ending cut.2 (stands.left cut.0 ending (subst (λ t. Ends form t ending) cut.1 ends))
     ]
-fault_of_text form h text bytes TooLarge stands sound not_done passes memory =
-    (text ++ passes.0, passes.1, ap (λ (t : List ℕ). text ++ t) passes.2 ∙ sym (append_assoc text passes.0 passes.1),
-        stands.ends passes.0 Over passes.3)
+fault_of_text form h text bytes TooLarge stands sound not_done passes memory = (
+  text ++ passes.0,
+  passes.1,
+  ap (λ (t : List ℕ). text ++ t) passes.2 ∙ sym (append_assoc text passes.0 passes.1),
+  stands.ends passes.0 Over passes.3,
+)
 fault_of_text form h text bytes NoMemory stands sound not_done blocks memory = absurd (memory refl)
 
 -- a payload at the beginning of a body

@@ -1,5 +1,5 @@
 -- Trailer lines, read byte by byte.
-use Rattle.std.proofs.Common.{◌≡◌, ◌≢◌, ℕ, ◌+◌, ◌<◌, ◌≤◌, Bool, true, false, IsTrue, List, [], ◌∷◌, ◌++◌, length, refl, sym, ap, ◌∙◌, subst, arith, length-append, append_assoc, append-nil}
+use Rattle.std.proofs.Common.{◌≡◌, ◌≢◌, ℕ, ◌+◌, ◌≤◌, IsTrue, List, [], ◌∷◌, ◌++◌, length, refl, sym, ap, ◌∙◌, subst, arith, length-append, append_assoc}
 use Rattle.std.specs.List.{AllByRecursion}
 use Rattle.std.proofs.lemmas.Bool.Decides.{nat_tests}
 use Rattle.http_payload.specs.Chunks.{line_end, longest_trailers, stays_in_line, StayInLine, IsTrailer, trailer_texts, IsTrailers, InTrailer}
@@ -79,7 +79,7 @@ from_line used {b} {more} passes h =
       each = ((omega arith, (passes, h.stay)), h.others.each);
       fits = omega (arith, h.others.fits, length-append (bytes ++ line_end) texts, length-append bytes line_end);
       text_is = ap (λ (t : List ℕ). b ∷ t)
-        (h.text_is ∙ ap (λ (t : List ℕ). bytes ++ (line_end ++ t)) h.others.text_is ∙ sym regroup);
+          (h.text_is ∙ ap (λ (t : List ℕ). bytes ++ (line_end ++ t)) h.others.text_is ∙ sym regroup);
     }
 
 -- a byte in a trailer line that isn't its end

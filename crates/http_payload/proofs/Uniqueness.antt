@@ -1,18 +1,11 @@
 -- A text of chunks has one reading.
-use Rattle.std.proofs.Common.{◌≡◌, ◌≢◌, ℕ, ◌+◌, ◌-◌, ◌<◌, ◌≤◌, ◌⊎◌, Bool, true, false, IsTrue, List, [], ◌∷◌, ◌++◌, length, refl, sym, ap, ◌∙◌, subst, arith, length-append, append_assoc, append-nil, inl, inr}
+use Rattle.std.proofs.Common.{◌≡◌, ℕ, ◌≤◌, List, [], ◌∷◌, ◌++◌, length, refl, sym, ap, ◌∙◌, subst, arith, length-append, append_assoc, append-nil}
 use Rattle.std.specs.List.{AllByRecursion}
-use Rattle.std.proofs.lemmas.List.{append_cancel_right}
-use Rattle.std.proofs.lemmas.Bool.{cases_lt}
 use Rattle.httparse.specs.Grammar.{ChunkLine, print_chunk_line, chunk_size}
-use Rattle.http_head.specs.declared.form.BodyForm.{BodyForm}
-use Rattle.http_head.specs.declared.form.BodyForm.TheVariants.{Empty, Length, Chunked}
-use Rattle.http_payload.specs.declared.fault.PayloadFault.{PayloadFault}
-use Rattle.http_payload.specs.declared.fault.PayloadFault.TheVariants.{Malformed, TooLarge, NoMemory}
 use Rattle.http_payload.specs.Chunks.{longest_body, line_end, StayInLine, IsTrailer, trailer_texts, IsTrailers, Chunk, chunk_text, IsChunk, chunk_texts, chunk_bytes, IsLast, IsOverLine, Ending, Whole, Over, EndsAs, EndsInChunks}
-use Rattle.http_payload.specs.Bodies.{Ends, IsBody, HasNoEnd, IsFault, IsPartial}
 use Rattle.http_payload.proofs.Fronts.{same_fronts}
 use Rattle.http_payload.proofs.TrailerSteps.{stays_no_cr}
-use Rattle.http_payload.proofs.ChunkSteps.{one_line, Opens, at_last, at_over, at_chunk, opens_as, opened}
+use Rattle.http_payload.proofs.ChunkSteps.{one_line, Opens, at_last, at_over, at_chunk, opened}
 
 -- a line that has no CR ends at its first CR LF
 one_trailer : (l m x y : List ℕ) → StayInLine l → StayInLine m → l ++ (line_end ++ x) ≡ m ++ (line_end ++ y) → x ≡ y
@@ -68,32 +61,32 @@ OneEnd r s e f = (r ≡ s) × (e ≡ f)
 last_end : (before a b r s : List ℕ) (e f : Ending) → IsLast a → e ≡ Whole before → a ++ r ≡ b ++ s → Opens before b f → OneEnd r s e f
 last_end before a b r s e f last whole same (at_last other other_whole fits) =
     let lines = one_line last.line other.line (last.behind ++ r) (other.behind ++ s) last.is_line other.is_line
-        (sym (followed last.line last.behind a r last.text_is) ∙ same ∙ followed other.line other.behind b s other.text_is) in
+    (sym (followed last.line last.behind a r last.text_is) ∙ same ∙ followed other.line other.behind b s other.text_is) in
     (one_trailers r s last.trailers other.trailers lines.1, whole ∙ sym other_whole)
 last_end before a b r s e f last whole same (at_over over is_over fits) =
     let lines = one_line last.line over.line (last.behind ++ r) s last.is_line over.is_line
-        (sym (followed last.line last.behind a r last.text_is) ∙ same ∙ followed over.line [] b s (over_front over)) in
+    (sym (followed last.line last.behind a r last.text_is) ∙ same ∙ followed over.line [] b s (over_front over)) in
     absurd (omega (arith, over.over, last.zero, ap chunk_size lines.0, fits))
 last_end before a b r s e f last whole same (at_chunk c behind is_chunk text_is ends) =
     let lines = one_line last.line c.line (last.behind ++ r) (((c.bytes ++ line_end) ++ behind) ++ s) last.is_line is_chunk.line
-        (sym (followed last.line last.behind a r last.text_is) ∙ same
-        ∙ followed c.line ((c.bytes ++ line_end) ++ behind) b s (chunk_front c behind b text_is)) in
+    (sym (followed last.line last.behind a r last.text_is) ∙ same
+    ∙ followed c.line ((c.bytes ++ line_end) ++ behind) b s (chunk_front c behind b text_is)) in
     absurd (omega (arith, is_chunk.some, is_chunk.size, last.zero, ap chunk_size lines.0))
 
 over_end : (before a b r s : List ℕ) (e f : Ending) → IsOverLine (length before) a → length before ≤ longest_body → e ≡ Over
     → a ++ r ≡ b ++ s → Opens before b f → OneEnd r s e f
 over_end before a b r s e f over room is_over same (at_last last whole fits) =
     let lines = one_line over.line last.line r (last.behind ++ s) over.is_line last.is_line
-        (sym (followed over.line [] a r (over_front over)) ∙ same ∙ followed last.line last.behind b s last.text_is) in
+    (sym (followed over.line [] a r (over_front over)) ∙ same ∙ followed last.line last.behind b s last.text_is) in
     absurd (omega (arith, over.over, last.zero, ap chunk_size lines.0, fits))
 over_end before a b r s e f over room is_over same (at_over other other_over fits) =
     let lines = one_line over.line other.line r s over.is_line other.is_line
-        (sym (followed over.line [] a r (over_front over)) ∙ same ∙ followed other.line [] b s (over_front other)) in
+    (sym (followed over.line [] a r (over_front over)) ∙ same ∙ followed other.line [] b s (over_front other)) in
     (lines.1, is_over ∙ sym other_over)
 over_end before a b r s e f over room is_over same (at_chunk c behind is_chunk text_is ends) =
     let lines = one_line over.line c.line r (((c.bytes ++ line_end) ++ behind) ++ s) over.is_line is_chunk.line
-        (sym (followed over.line [] a r (over_front over)) ∙ same
-        ∙ followed c.line ((c.bytes ++ line_end) ++ behind) b s (chunk_front c behind b text_is)) in
+    (sym (followed over.line [] a r (over_front over)) ∙ same
+    ∙ followed c.line ((c.bytes ++ line_end) ++ behind) b s (chunk_front c behind b text_is)) in
     let fits : length (before ++ c.bytes) ≤ longest_body = chunk_fits ends in
     absurd (omega (arith, over.over, is_chunk.size, ap chunk_size lines.0, fits, length-append before c.bytes))
   where
@@ -113,16 +106,17 @@ chunk_end before a b r s tail e f c is_chunk text_is ends same next (at_over ove
     (sym back.0, sym back.1)
 chunk_end before a b r s tail e f c is_chunk text_is ends same next (at_chunk d rest d_is_chunk d_text d_ends) =
     let lines = one_line c.line d.line (((c.bytes ++ line_end) ++ tail) ++ r) (((d.bytes ++ line_end) ++ rest) ++ s)
-        is_chunk.line d_is_chunk.line
-        (sym (followed c.line ((c.bytes ++ line_end) ++ tail) a r (chunk_front c tail a text_is)) ∙ same
-        ∙ followed d.line ((d.bytes ++ line_end) ++ rest) b s (chunk_front d rest b d_text)) in
+    is_chunk.line d_is_chunk.line
+    (sym (followed c.line ((c.bytes ++ line_end) ++ tail) a r (chunk_front c tail a text_is)) ∙ same
+    ∙ followed d.line ((d.bytes ++ line_end) ++ rest) b s (chunk_front d rest b d_text)) in
     let bytes = same_fronts c.bytes d.bytes (line_end ++ (tail ++ r)) (line_end ++ (rest ++ s))
-        (sym (three c.bytes tail r) ∙ lines.1 ∙ three d.bytes rest s)
-        (omega (arith, is_chunk.size, d_is_chunk.size, ap chunk_size lines.0)) in
+    (sym (three c.bytes tail r) ∙ lines.1 ∙ three d.bytes rest s)
+    (omega (arith, is_chunk.size, d_is_chunk.size, ap chunk_size lines.0)) in
     next rest (subst (λ (t : List ℕ). EndsInChunks (before ++ t) rest f) (sym bytes.0) d_ends) (behind_end (tail ++ r) (rest ++ s) bytes.1)
   where
     three : (x y z : List ℕ) → ((x ++ line_end) ++ y) ++ z ≡ x ++ (line_end ++ (y ++ z))
     three x y z = append_assoc (x ++ line_end) y z ∙ append_assoc x line_end (y ++ z)
+
     behind_end : (x y : List ℕ) → line_end ++ x ≡ line_end ++ y → x ≡ y
     behind_end x y e = cc
 
@@ -146,5 +140,5 @@ one_end (c ∷ chunks) before a b r s e f behind each fits ends text_is y same =
     (record { chunks = chunks; behind = behind; each = each.1; fits = fits_behind; ends = ends_behind; text_is = refl })
     same
     (λ rest more rests. one_end chunks (before ++ c.bytes) (chunk_texts chunks ++ behind) rest r s e f behind each.1
-        fits_behind ends_behind refl more rests)
+    fits_behind ends_behind refl more rests)
     (opened y)

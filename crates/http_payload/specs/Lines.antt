@@ -1,4 +1,4 @@
-use Rattle.std.specs.Prelude.{ℕ, ◌≡◌, ◌+◌, ◌<◌, ◌≤◌, ◌⊎◌, List, [], ◌∷◌, ◌++◌, length, take, slice_index, Option, Some, None, ⊤}
+use Rattle.std.specs.Prelude.{ℕ, ◌≡◌, ◌<◌, ◌≤◌, ◌⊎◌, List, [], ◌++◌, length, take, slice_index, Option, Some, None, ⊤}
 use Rattle.httparse.specs.Grammar.{ChunkLine, print_chunk_line, chunk_size}
 use Rattle.http_payload.specs.declared.fault.PayloadFault.{PayloadFault}
 use Rattle.http_payload.specs.declared.fault.PayloadFault.TheVariants.{Malformed, TooLarge, NoMemory}

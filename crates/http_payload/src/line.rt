@@ -71,7 +71,10 @@ fn kept_line(line: &mut Vec<u8>, bytes: &[u8]) -> Result<(usize, Option<u64>), P
 }
 
 /// Reads on in the line before a chunk: how many bytes it takes, and its size where it ends.
-pub(crate) fn read_line(line: &mut Vec<u8>, bytes: &[u8]) -> Result<(usize, Option<u64>), PayloadFault>
+pub(crate) fn read_line(
+    line: &mut Vec<u8>,
+    bytes: &[u8],
+) -> Result<(usize, Option<u64>), PayloadFault>
     requires open { IsOpenLine line.old.items }
     requires some { 0 < length bytes.now }
     ensures taken { IfOk result (λ r. (0 < r.0) × (r.0 ≤ length bytes.now)) }

@@ -74,7 +74,12 @@ fn byte_step(stage: Stage, bytes: &[u8]) -> Result<Step, PayloadFault>
 }
 
 /// Reads some bytes at the front.
-fn advance(stage: Stage, line: &mut Vec<u8>, body: &mut Vec<u8>, bytes: &[u8]) -> Result<Step, PayloadFault>
+fn advance(
+    stage: Stage,
+    line: &mut Vec<u8>,
+    body: &mut Vec<u8>,
+    bytes: &[u8],
+) -> Result<Step, PayloadFault>
     requires some { 0 < length bytes.now }
     requires sound { IsSoundAt stage line.old.items body.old.items }
     requires not_done { stage ≢ Stage.Rest 0 }
@@ -86,11 +91,17 @@ fn advance(stage: Stage, line: &mut Vec<u8>, body: &mut Vec<u8>, bytes: &[u8]) -
     match stage {
         Stage::Rest(left) => {
             let taken = append_up_to(body, left, bytes)?;
-            Ok(Step { taken, stage: Stage::Rest(left - taken as u64) })
+            Ok(Step {
+                taken,
+                stage: Stage::Rest(left - taken as u64),
+            })
         }
         Stage::Chunk(left) if left > 0 => {
             let taken = append_up_to(body, left, bytes)?;
-            Ok(Step { taken, stage: Stage::Chunk(left - taken as u64) })
+            Ok(Step {
+                taken,
+                stage: Stage::Chunk(left - taken as u64),
+            })
         }
         Stage::Line => line_step(line, body.as_slice(), bytes),
         _ => byte_step(stage, bytes),
@@ -98,7 +109,12 @@ fn advance(stage: Stage, line: &mut Vec<u8>, body: &mut Vec<u8>, bytes: &[u8]) -
 }
 
 /// Reads a piece up to its end, or to the end of the body.
-pub(crate) fn run(stage: Stage, line: &mut Vec<u8>, body: &mut Vec<u8>, piece: &[u8]) -> Result<Step, PayloadFault>
+pub(crate) fn run(
+    stage: Stage,
+    line: &mut Vec<u8>,
+    body: &mut Vec<u8>,
+    piece: &[u8],
+) -> Result<Step, PayloadFault>
     requires sound { IsSoundAt stage line.old.items body.old.items }
     requires no_fault { fault_at stage ≡ None }
     ensures within { IfOk result (λ step. step.taken ≤ length piece.now) }

@@ -1,4 +1,4 @@
-use Rattle.std.proofs.Common.{◌≡◌, ◌+◌, ◌-◌, ◌≤◌, ◌++◌, List, ℕ, length, take, ◌∙◌, ap, sym, arith, subst, IfErr, min}
+use Rattle.std.proofs.Common.{◌≡◌, ◌-◌, ◌++◌, length, take, ◌∙◌, sym, arith, subst}
 use Rattle.std.proofs.lemmas.Result.{err_from_is_err_and}
 use Rattle.http_payload.specs.Lines.{LineFault, BeginsWithLine, IsLineOf}
 use Rattle.http_payload.proofs.LineSteps.{fault_wider, KeptLine, kept_line}
@@ -29,6 +29,8 @@ returns-in-Some-clause-taken c =
 pub returns-in-Some-clause-goes_on : goal.returns-in-Some-clause-goes_on
 returns-in-Some-clause-goes_on c =
     let l = line_is c in
-    let same : c.len-kept.result ≡ length c.args.line.now.items = omega (arith, c.len-kept.ensures) in
-    (subst (λ k. IsLineOf (c.args.line.now.items ++ take (c.in-Some.len - k) c.args.bytes.now) c.in-Some.size)
-        (sym same) l.line, c.clear.ensures.items)
+    let same : c.len-kept.result ≡ length c.args.line.now.items = omega (arith, c.len-kept.ensures) in (
+      subst (λ k. IsLineOf (c.args.line.now.items ++ take (c.in-Some.len - k) c.args.bytes.now) c.in-Some.size)
+          (sym same) l.line,
+      c.clear.ensures.items,
+    )

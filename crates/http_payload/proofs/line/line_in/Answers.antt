@@ -1,4 +1,4 @@
-use Rattle.std.proofs.Common.{◌∙◌, sym, arith, subst, IfSome}
+use Rattle.std.proofs.Common.{arith}
 use Rattle.http_payload.proofs.LineLimits.{open_line, never_open, too_long}
 use Rattle.http_payload.proofs.line.line_in.Goals as goal
 

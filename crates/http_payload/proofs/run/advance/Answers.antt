@@ -1,4 +1,4 @@
-use Rattle.std.proofs.Common.{◌≡◌, ◌-◌, List, ℕ, sym, subst}
+use Rattle.std.proofs.Common.{◌-◌, sym, subst}
 use Rattle.http_payload.specs.declared.stage.Stage.TheVariants.{Chunk}
 use Rattle.http_payload.specs.Held.{held, IsSoundAt}
 use Rattle.http_payload.specs.Steps.{Advances}
@@ -9,7 +9,7 @@ pub returns-in_ok-taken-in-Chunk-clause-ok : goal.returns-in_ok-taken-in-Chunk-c
 returns-in_ok-taken-in-Chunk-clause-ok c =
     let sound = subst (λ s. IsSoundAt s c.args.line.now.items c.args.body.now.items) c.in-Chunk.is c.requires.sound in
     subst (λ s. Advances (held s c.args.line.now.items c.args.body.now.items) c.args.bytes.now c.in_ok-taken-in-Chunk.taken
-        (held (Chunk (c.in-Chunk.left - c.in_ok-taken-in-Chunk.taken)) c.args.line.now.items c.append_up_to-in-Chunk.new.body.items))
+    (held (Chunk (c.in-Chunk.left - c.in_ok-taken-in-Chunk.taken)) c.args.line.now.items c.append_up_to-in-Chunk.new.body.items))
     (sym c.in-Chunk.is)
     (chunk_advances c.in-Chunk.left c.in_ok-taken-in-Chunk.taken c.args.line.now.items c.args.body.now.items c.args.bytes.now
     c.append_up_to-in-Chunk.new.body.items c.if-left-gt0.true c.requires.some sound.0 sound.1

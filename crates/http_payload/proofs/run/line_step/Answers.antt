@@ -1,6 +1,4 @@
-use Rattle.std.proofs.Common.{◌≡◌, ◌++◌, ◌∙◌, List, ℕ, Some, Ok, Err, take, length, ap, sym, subst}
 use Rattle.std.proofs.lemmas.Result.{err_from_is_err_and}
-use Rattle.http_payload.specs.Lines.{LineGoesOn}
 use Rattle.http_payload.proofs.RunSteps.{line_blocks, size_blocks, line_advances}
 use Rattle.http_payload.proofs.run.line_step.Goals as goal
 

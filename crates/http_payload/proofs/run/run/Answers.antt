@@ -1,4 +1,4 @@
-use Rattle.std.proofs.Common.{◌≡◌, ◌+◌, ◌++◌, ◌∙◌, List, ℕ, take, drop, length, refl, ap, sym, subst, arith, append_assoc}
+use Rattle.std.proofs.Common.{◌++◌, ◌∙◌, List, ℕ, take, drop, refl, ap, sym, subst, arith, append_assoc}
 use Rattle.std.proofs.lemmas.Result.{err_from_is_err_and}
 use Rattle.std.proofs.lemmas.List.{take-append-drop, length-drop}
 use Rattle.http_payload.specs.Bodies.{IsFault}
@@ -17,10 +17,10 @@ returns-in_err-step-clause-fault c =
     let fault = c.in_err-step.field-0.0 in
     let blocks = subst (λ t. Blocks before t fault) (rest_of piece taken) c.in_err-step.ensures.fault in
     rw (p.1, p.2) (λ memory form text stands.
-        subst (λ t. IsFault form t fault)
-        (append_assoc text (take taken piece) (drop taken piece) ∙ ap (λ (t : List ℕ). text ++ t) (take-append-drop taken piece))
-        (fault_of_text form before (text ++ take taken piece) (drop taken piece) fault (c.loop-taken.invariant.stands form text stands)
-        c.loop-taken.invariant.sound (c.if-not-is_end.ensures.no refl) blocks memory))
+    subst (λ t. IsFault form t fault)
+    (append_assoc text (take taken piece) (drop taken piece) ∙ ap (λ (t : List ℕ). text ++ t) (take-append-drop taken piece))
+    (fault_of_text form before (text ++ take taken piece) (drop taken piece) fault (c.loop-taken.invariant.stands form text stands)
+    c.loop-taken.invariant.sound (c.if-not-is_end.ensures.no refl) blocks memory))
 
 pub loop-taken-preserved : goal.loop-taken-preserved
 loop-taken-preserved c =

@@ -1,9 +1,8 @@
-use Rattle.std.proofs.Common.{◌≡◌, ◌+◌, List, ℕ, IfSome, IfNone, subst, sym}
-use Rattle.http_payload.specs.declared.stage.Stage.{Stage}
-use Rattle.http_payload.specs.declared.stage.Stage.TheVariants.{Rest, Line, Chunk, ChunkEnd, Trailers, Trailer, TrailerEnd, LastEnd}
+use Rattle.std.proofs.Common.{◌+◌, IfSome, IfNone, subst, sym}
+use Rattle.http_payload.specs.declared.stage.Stage.TheVariants.{Line, ChunkEnd, Trailers, Trailer, TrailerEnd, LastEnd}
 use Rattle.http_payload.specs.Held.{TakesBytes}
 use Rattle.http_payload.specs.Steps.{TakesByte}
-use Rattle.http_payload.proofs.ByteSteps.{takes_last_cr, takes_last_lf, takes_in_line, takes_in_trailer, takes_trailer_cr, takes_trailer_lf, takes_chunk_lf, takes_chunk_cr, RefusesByte, never_chunk, never_chunk_end, never_trailers, never_trailer, never_trailer_end, never_last_end, taken_if, refused_if, taken_in}
+use Rattle.http_payload.proofs.ByteSteps.{takes_last_cr, takes_in_line, takes_in_trailer, takes_trailer_cr, takes_chunk_lf, RefusesByte, never_trailers, never_trailer, taken_if, refused_if, taken_in}
 use Rattle.http_payload.proofs.stage.after_byte.Goals as goal
 
 pub returns-in-ChunkEnd-clause-some : goal.returns-in-ChunkEnd-clause-some

@@ -1,9 +1,9 @@
-use Rattle.std.proofs.Common.{◌≡◌, ◌+◌, ◌++◌, ◌∙◌, List, ℕ, take, drop, length, refl, ap, sym, subst, arith, append_assoc, None, IfSome, true, false, IsTrue, Ok, Err}
+use Rattle.std.proofs.Common.{◌≡◌, ◌++◌, ◌∙◌, List, ℕ, take, refl, ap, sym, subst, false, IsTrue}
 use Rattle.http_head.specs.declared.form.BodyForm.{BodyForm}
 use Rattle.http_payload.specs.Bodies.{IsBody, IsPartial}
-use Rattle.http_payload.specs.Held.{Held, held, Stands, IsDone, fault_of}
+use Rattle.http_payload.specs.Held.{Held, held, Stands, fault_of}
 use Rattle.http_payload.proofs.Standing.{body_of}
-use Rattle.http_payload.proofs.Feeding.{fed, partial_at, whole_told, partial_told, fault_told, Blames, whole_failed, partial_failed, fault_failed, no_fault_at, same_held, must_be_true, same_fed, nothing_again, no_truth}
+use Rattle.http_payload.proofs.Feeding.{partial_at, whole_told, partial_told, fault_told, Blames, whole_failed, partial_failed, fault_failed, no_fault_at, same_held, must_be_true, same_fed, nothing_again, no_truth}
 use Rattle.http_payload.proofs.payload.Payload.feed.Goals as goal
 
 -- what the payload holds after the run
@@ -51,8 +51,7 @@ returns-in-Ok c = record {
       (whole_after c form text stands) (partial_after c form text stands) is_fault;
   ended = λ done.
       let kept = c.in-Ok.ensures.done (ap (λ h. h.stage) c.self.view_is ∙ done) in
-      let stage = kept.1 ∙ sym (ap (λ h. h.stage) c.self.view_is ∙ done) in
-      (
+      let stage = kept.1 ∙ sym (ap (λ h. h.stage) c.self.view_is ∙ done) in (
         same_held stage kept.2 kept.3 ∙ c.self.view_is,
         same_fed kept.0 (must_be_true c.is_end.result (λ told. c.is_end.ensures.no told kept.1)),
       );

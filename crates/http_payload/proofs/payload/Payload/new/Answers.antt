@@ -1,4 +1,4 @@
-use Rattle.std.proofs.Common.{◌≡◌, ◌∙◌, List, [], ℕ, ap, sym, subst}
+use Rattle.std.proofs.Common.{◌∙◌, [], ap, sym, subst}
 use Rattle.http_payload.specs.Held.{held, IsSoundAt, first_stage}
 use Rattle.http_payload.proofs.Standing.{stands_first, sound_first}
 use Rattle.http_payload.proofs.payload.Payload.new.Goals as goal

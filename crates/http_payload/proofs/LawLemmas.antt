@@ -1,13 +1,13 @@
 -- A text has one reading: it is a whole body at one of its fronts, or at fault, or partial, and the first two stay so,
 -- whatever follows.
-use Rattle.std.proofs.Common.{◌≡◌, ◌≢◌, ℕ, ◌+◌, List, [], ◌∷◌, ◌++◌, length, refl, sym, ap, ◌∙◌, subst, arith, append_assoc, append-nil}
-use Rattle.std.proofs.lemmas.List.{append_cancel_right, append_cancel_left}
+use Rattle.std.proofs.Common.{◌≡◌, ◌≢◌, ℕ, List, [], ◌∷◌, ◌++◌, length, refl, sym, ap, ◌∙◌, subst, append_assoc, append-nil}
+use Rattle.std.proofs.lemmas.List.{append_cancel_right}
 use Rattle.http_head.specs.declared.form.BodyForm.{BodyForm}
 use Rattle.http_head.specs.declared.form.BodyForm.TheVariants.{Empty, Length, Chunked}
 use Rattle.http_payload.specs.declared.fault.PayloadFault.{PayloadFault}
 use Rattle.http_payload.specs.declared.fault.PayloadFault.TheVariants.{Malformed, TooLarge, NoMemory}
 use Rattle.http_payload.specs.Chunks.{Ending, Whole, Over}
-use Rattle.http_payload.specs.Bodies.{Ends, IsBody, HasNoEnd, IsFault, IsPartial}
+use Rattle.http_payload.specs.Bodies.{Ends, IsBody, IsFault, IsPartial}
 use Rattle.http_payload.proofs.Fronts.{same_fronts}
 use Rattle.http_payload.proofs.Uniqueness.{one_end}
 
@@ -73,7 +73,7 @@ pub partial_before : (form : BodyForm) (text more : List ℕ) (ending : Ending) 
 partial_before form text more ending ends some = record {
   no_end = λ front rest other text_is front_ends.
       let one = one_reading form front (text ++ more) (rest ++ more) [] other ending front_ends ends
-          (sym (append_assoc front rest more) ∙ ap (λ (t : List ℕ). t ++ more) (sym text_is) ∙ sym (append-nil (text ++ more))) in
+      (sym (append_assoc front rest more) ∙ ap (λ (t : List ℕ). t ++ more) (sym text_is) ∙ sym (append-nil (text ++ more))) in
       some (nothing_behind rest more one.1);
   more = more;
   ending = ending;

@@ -1,0 +1,40 @@
+-- What holds of all texts.
+use Rattle.std.specs.Prelude.{◌≡◌, ◌≢◌, ℕ, List, [], ◌++◌}
+use Rattle.http_head.specs.declared.form.BodyForm.{BodyForm}
+use Rattle.http_payload.specs.declared.fault.PayloadFault.{PayloadFault}
+use Rattle.http_payload.specs.Chunks.{Ending}
+use Rattle.http_payload.specs.Bodies.{Ends, IsBody, IsFault, IsPartial}
+
+-- Two ends at the front of one text are one, so a text has one body at most, and whole it stays, whatever follows.
+abbrev pub HasOneEnd : Type 0
+HasOneEnd = (form : BodyForm) (a b r s : List ℕ) (e f : Ending) → Ends form a e → Ends form b f → a ++ r ≡ b ++ s
+    → (a ≡ b) × (r ≡ s) × (e ≡ f)
+
+-- A fault stays, whatever follows.
+abbrev pub FaultStays : Type 0
+FaultStays = (form : BodyForm) (text more : List ℕ) (fault : PayloadFault) → IsFault form text fault
+    → IsFault form (text ++ more) fault
+
+-- A text has one fault at most.
+abbrev pub HasOneFault : Type 0
+HasOneFault = (form : BodyForm) (text : List ℕ) (fault other : PayloadFault) → IsFault form text fault → IsFault form text other
+    → fault ≡ other
+
+-- No fault stands in a text that has a body at its front.
+abbrev pub BodyHasNoFault : Type 0
+BodyHasNoFault = (form : BodyForm) (front rest body : List ℕ) (fault : PayloadFault) → IsBody form front body
+    → IsFault form (front ++ rest) fault → ⊥
+
+-- What is partial has no fault, and no body stands at its front.
+abbrev pub PartialHasNoFault : Type 0
+PartialHasNoFault = (form : BodyForm) (text : List ℕ) (fault : PayloadFault) → IsPartial form text → IsFault form text fault → ⊥
+
+abbrev pub PartialHasNoBody : Type 0
+PartialHasNoBody = (form : BodyForm) (front rest body : List ℕ) → IsPartial form (front ++ rest) → IsBody form front body → ⊥
+
+-- Each beginning of a body is partial but the body itself, and so is each beginning of what is partial.
+abbrev pub BodyBeginsPartial : Type 0
+BodyBeginsPartial = (form : BodyForm) (text more body : List ℕ) → IsBody form (text ++ more) body → more ≢ [] → IsPartial form text
+
+abbrev pub PartialBeginsPartial : Type 0
+PartialBeginsPartial = (form : BodyForm) (text more : List ℕ) → IsPartial form (text ++ more) → IsPartial form text
