@@ -1,7 +1,8 @@
 -- What was heard in a text is heard in a longer one, and a step more.
-use Rattle.std.proofs.Common.{◌≡◌, ◌⊎◌, inl, inr, ℕ, suc, ◌∙◌, ◌+◌, ◌-◌, ◌<◌, ◌≤◌, ◌||◌, Bool, true, false, cond, if◌then◌else◌, nat_le, List, [], ◌∷◌, ◌++◌, length, take, drop, Ok, Err, refl, sym, ap, subst, arith, append_assoc, length-append, length-drop}
+use Rattle.std.proofs.Common.{◌≡◌, ◌⊎◌, inl, inr, ℕ, suc, ◌∙◌, ◌+◌, ◌-◌, ◌<◌, ◌≤◌, ◌||◌, Bool, true, false, cond, if◌then◌else◌, nat_le, List, [], ◌∷◌, ◌++◌, length, take, drop, Result, Ok, Err, OnOk, IfOk, refl, sym, ap, subst, arith, append_assoc, length-append, length-drop}
 use Rattle.std.specs.List.{flat_map, AllByRecursion}
 use Rattle.std.proofs.lemmas.Grind.{flat_map-append}
+use Rattle.std.proofs.lemmas.Bool.{or_cases, or_parts}
 use Rattle.std.proofs.lemmas.Bool.Decides.{nat_tests}
 use Rattle.std.proofs.lemmas.List.{append-nil, drop-drop, drop-append-le, take-append-le, take_all}
 use Rattle.std.proofs.Math.Seq.{drop-length, take-length}
@@ -11,16 +12,22 @@ use Rattle.pod_base.specs.declared.heard.Heard.TheVariants as heard
 use Rattle.http_head.specs.declared.ends.HeadEnd.TheVariants.{Whole, NotYet, TooLong}
 use Rattle.http_head.specs.declared.head.RequestHead.{RequestHead}
 use Rattle.http_head.specs.declared.form.BodyForm.{BodyForm}
+use Rattle.http_head.specs.declared.framed.FramingFault.TheVariants as framing_fault
 use Rattle.http_head.specs.Ends.{blank_length, head_end}
 use Rattle.http_head.specs.Heads.{IsTooMany, IsMalformed, LacksHost, Says}
 use Rattle.http_head.specs.Framing.{framing}
+use Rattle.http_head.specs.Wishes.{closes, expects_continue}
+use Rattle.http_head.specs.Search.{HasSeen}
 use Rattle.http_payload.specs.declared.fault.PayloadFault.{PayloadFault}
 use Rattle.http_payload.specs.Bodies.{IsBody, IsFault, IsPartial as IsPartialBody}
-use Rattle.http_payload.proofs.Uniqueness.{fault_stays}
-use Rattle.http_conn.specs.Messages.{HasHead, IsFirst, Requests, IsBadHead, too_long, too_many, malformed, host, conflict, coding, too_large, IsBad, bad_head, bad_body, status_of, IsPartial, in_head, in_body, IsOpen, IsLast, Messages, unfinished, refused, ended, heard_of, heard_one, interim_of, with_body, rest_length, closes_behind, most_requests}
+use Rattle.http_payload.proofs.LawLemmas.{fault_stays}
+use Rattle.http_conn.specs.Messages.{HasHead, IsFirst, Requests, IsBadHead, too_long, too_many, malformed, host, conflict, coding, too_large, IsBad, bad_head, bad_body, status_of, IsPartial, in_head, in_body, IsOpen, IsLast, Messages, unfinished, refused, ended, heard_of, heard_one, interim_of, waits_for, with_body, rest_length, closes_behind, most_requests}
 use Rattle.http_conn.specs.declared.stage.Stage.{Stage}
 use Rattle.http_conn.specs.declared.stage.Stage.TheVariants.{Head, Body, Over, Failed}
-use Rattle.http_conn.specs.Held.{InHead, InBody, HasEnded, Stands, rest_of, ReadsTo}
+use Rattle.http_conn.specs.declared.stage.OpenHead.{OpenHead}
+use Rattle.http_conn.specs.declared.stage.OpenBody.{OpenBody}
+use Rattle.http_payload.specs.Held as payload
+use Rattle.http_conn.specs.Held.{InHead, InBody, HasEnded, Stands, rest_of, ReadsTo, Goes, GoesBehind, GoesBehindHead, AwaitsBehindHead, EndsRequest}
 use Rattle.http_conn.proofs.HeadEnds.{whole_stays, whole_there, long_stays}
 
 -- ---- longer texts
@@ -140,3 +147,153 @@ heard_snoc requests last before told is =
     sym (append_assoc before told one) ∙ ap (λ h. h ++ one) is ∙ append_assoc (heard_of requests) interim one
     ∙ ap (λ h. heard_of requests ++ h) (sym (append-nil (heard_one last)))
     ∙ sym (flat_map-append heard_one requests (last ∷ []))
+
+-- ---- the steps
+
+-- a whole request is told, and nothing more is heard
+pub finishes_over : (count : ℕ) (said : RequestHead) (body : List ℕ) (told new : List Heard) → (closes said.minor said.fields || nat_le 10_000 (count + 1)) ≡ true
+    → new ≡ told ++ heard.Request (with_body said body) ∷ [] → EndsRequest count said body told Over new
+finishes_over count said body told new ends new_is text before requests reads stays count_is is =
+    let last : Request = with_body said body in
+    let which : IsLast requests last =
+    elim (or_cases (closes said.minor said.fields) (nat_le 10_000 (count + 1)) ends) [
+      | inl closing ↦ inl closing
+      | inr many ↦ inr (let most : 10_000 ≤ count + 1 = grind (arith, nat_tests, many) in omega (arith, most, count_is, stays.few))
+    ] in
+    subst (HasEnded text) (sym (ap (λ h. before ++ h) new_is ∙ heard_snoc requests last before told is)) (last_ends text [] requests last reads stays which)
+
+-- a whole request is told, and a head is waited for
+pub finishes_head : (count : ℕ) (said : RequestHead) (body : List ℕ) (told new : List Heard) (begun : OpenHead) → (closes said.minor said.fields || nat_le 10_000 (count + 1)) ≡ false
+    → new ≡ told ++ heard.Request (with_body said body) ∷ [] → begun.bytes.items ≡ [] → HasSeen begun.search [] → begun.count ≡ count + 1
+    → EndsRequest count said body told (Head begun) new
+finishes_head count said body told new begun ends new_is none seen next text before requests reads stays count_is is =
+    let last : Request = with_body said body in
+    let parts = or_parts (closes said.minor said.fields) (nat_le 10_000 (count + 1)) ends in
+    let few : count + 1 < 10_000 = grind (arith, nat_tests, parts.1) in
+    record {
+      requests = requests ++ last ∷ [];
+      reads = subst (Requests text (requests ++ last ∷ [])) (sym none) reads;
+      stays = open_snoc requests last stays parts.0 (omega (arith, few, count_is));
+      count = omega (arith, next, count_is, length-append requests (last ∷ []));
+      is = ap (λ h. before ++ h) new_is ∙ heard_snoc requests last before told is;
+      not_yet = subst (λ b. head_end b ≡ NotYet) (sym none) refl;
+      seen = subst (HasSeen begun.search) (sym none) seen;
+    }
+
+waits_as : (said : RequestHead) (form : BodyForm) → framing said.minor said.fields ≡ Ok form
+    → interim_of said.minor said.fields ≡ (if expects_continue said.minor said.fields form then heard.Interim ∷ [] else [])
+waits_as said form framed = ap (λ f. if waits_for said.minor said.fields f then heard.Interim ∷ [] else []) framed
+
+told_interim : (before told interim new : List Heard) (requests : List Request) (said : RequestHead) (form : BodyForm) → framing said.minor said.fields ≡ Ok form
+    → new ≡ told ++ (if expects_continue said.minor said.fields form then heard.Interim ∷ [] else []) → before ++ told ≡ heard_of requests
+    → before ++ new ≡ heard_of requests ++ interim_of said.minor said.fields
+told_interim before told interim new requests said form framed new_is is =
+    let some : List Heard = if expects_continue said.minor said.fields form then heard.Interim ∷ [] else [] in
+    ap (λ h. before ++ h) new_is ∙ sym (append_assoc before told some) ∙ ap (λ h. h ++ some) is ∙ ap (λ h. heard_of requests ++ h) (sym (waits_as said form framed))
+
+whole_has_head : (left : List ℕ) (said : RequestHead) (form : BodyForm) → head_end left ≡ Whole (length left) → Says left said → framing said.minor said.fields ≡ Ok form
+    → HasHead left (length left) said form
+whole_has_head left said form ends says framed = record { ends = ends; says = subst (λ t. Says t said) (sym (take-length left)) says; framed = framed }
+
+-- a body that is empty is whole at once
+pub awaits_none : (count len : ℕ) (said : RequestHead) (form : BodyForm) (told interim hears : List Heard) (new : Stage) (body : List ℕ)
+    → interim ≡ told ++ (if expects_continue said.minor said.fields form then heard.Interim ∷ [] else []) → IsBody form [] body
+    → EndsRequest count said body interim new hears → AwaitsBehindHead count len said form told new hears
+awaits_none count len said form told interim hears new body interim_is is_body finishes left ends says framed len_is text before r =
+    let first : IsFirst left (with_body said body) (length left) = record {
+      head = length left;
+      said = said;
+      form = form;
+      begins = whole_has_head left said form ends says framed;
+      size = 0;
+      body = body;
+      is_body = is_body;
+      there = omega arith;
+      ends = omega arith;
+      is = refl;
+    } in
+    finishes text before r.requests (requests_snoc r.requests text left [] (with_body said body) (length left) r.reads first (drop-length left)) r.stays r.count_is
+    (told_interim before told interim interim r.requests said form framed interim_is r.is)
+
+-- a body that is waited for
+pub awaits_body : (count len : ℕ) (said : RequestHead) (form : BodyForm) (told new : List Heard) (begun : OpenBody)
+    → new ≡ told ++ (if expects_continue said.minor said.fields form then heard.Interim ∷ [] else []) → IsPartialBody form [] → payload.Stands form begun.payload []
+    → begun.said ≡ said → begun.len ≡ len → begun.count ≡ count → AwaitsBehindHead count len said form told (Body begun) new
+awaits_body count len said form told new begun new_is partial stands said_is len_same count_same left ends says framed len_is text before r =
+    let none : drop (length left) left ≡ [] = drop-length left in
+    record {
+      requests = r.requests;
+      left = left;
+      reads = r.reads;
+      stays = r.stays;
+      count = count_same ∙ r.count_is;
+      is = told_interim before told new new r.requests said form framed new_is r.is ∙ ap (λ (s : RequestHead). heard_of r.requests ++ interim_of s.minor s.fields) (sym said_is);
+      head = length left;
+      form = form;
+      there = omega arith;
+      begins = subst (λ s. HasHead left (length left) s form) (sym said_is) (whole_has_head left said form ends says framed);
+      body = subst (IsPartialBody form) (sym none) partial;
+      stands = subst (payload.Stands form begun.payload) (sym none) stands;
+      rest = len_same ∙ len_is;
+    }
+
+-- a head that is refused
+pub refuses_head : (count : ℕ) (left : List ℕ) (told new : List Heard) (status : ℕ) → IsBadHead left status → new ≡ told ++ heard.Bad status ∷ [] → GoesBehind count left told Over new
+refuses_head count left told new status bad new_is text before r =
+    refuses count left text before told [] new status r.requests r.reads r.stays (r.is ∙ sym (append-nil (heard_of r.requests))) (bad_head status bad) new_is
+
+-- what a refusal leaves
+pub if_refused : {E : Type 0} (P : Stage → Type 0) {T : Type 0} (result : Result Stage E) → (T → P Over) → OnOk result T → IfOk result (λ s. s ≡ Over) → IfOk result P
+if_refused P (Ok s) f told over = subst P (sym over) (f told)
+if_refused P (Err e) f told over = tt
+
+-- what was left in an open head is read
+pub head_goes : (begun : OpenHead) (bytes : List ℕ) (told new : List Heard) (next : Stage) → GoesBehind begun.count (begun.bytes.items ++ bytes) told next new → Goes (Head begun) told bytes next new
+head_goes begun bytes told new next goes text before s =
+    goes (text ++ bytes) before (record { requests = s.requests; reads = requests_stay s.requests text begun.bytes.items bytes s.reads; stays = s.stays; count_is = s.count; is = s.is })
+
+-- a head that has not ended goes on
+pub head_waits : (count : ℕ) (left : List ℕ) (told : List Heard) (begun : OpenHead) → begun.bytes.items ≡ left → head_end left ≡ NotYet → HasSeen begun.search left → begun.count ≡ count
+    → GoesBehind count left told (Head begun) told
+head_waits count left told begun bytes not_yet seen same text before r = record {
+  requests = r.requests;
+  reads = subst (Requests text r.requests) (sym bytes) r.reads;
+  stays = r.stays;
+  count = same ∙ r.count_is;
+  is = r.is;
+  not_yet = subst (λ b. head_end b ≡ NotYet) (sym bytes) not_yet;
+  seen = subst (HasSeen begun.search) (sym bytes) seen;
+}
+
+refuses_fault : (count len : ℕ) (said : RequestHead) (told new : List Heard) (status : ℕ)
+    → ((left : List ℕ) → head_end left ≡ Whole (length left) → Says (take (length left) left) said → IsBadHead left status)
+    → new ≡ told ++ heard.Bad status ∷ [] → GoesBehindHead count len said told Over new
+refuses_fault count len said told new status bad new_is left ends says len_is =
+    refuses_head count left told new status (bad left ends (subst (λ t. Says t said) (sym (take-length left)) says)) new_is
+
+pub refuses_conflict : (count len : ℕ) (said : RequestHead) (told new : List Heard) → framing said.minor said.fields ≡ Err framing_fault.Conflict → new ≡ told ++ heard.Bad 400 ∷ []
+    → GoesBehindHead count len said told Over new
+refuses_conflict count len said told new f = refuses_fault count len said told new 400 (λ left ends says. conflict (length left) said ends says f)
+
+pub refuses_coding : (count len : ℕ) (said : RequestHead) (told new : List Heard) → framing said.minor said.fields ≡ Err framing_fault.Coding → new ≡ told ++ heard.Bad 501 ∷ []
+    → GoesBehindHead count len said told Over new
+refuses_coding count len said told new f = refuses_fault count len said told new 501 (λ left ends says. coding (length left) said ends says f)
+
+pub refuses_large : (count len : ℕ) (said : RequestHead) (told new : List Heard) → framing said.minor said.fields ≡ Err framing_fault.TooLarge → new ≡ told ++ heard.Bad 413 ∷ []
+    → GoesBehindHead count len said told Over new
+refuses_large count len said told new f = refuses_fault count len said told new 413 (λ left ends says. too_large (length left) said ends says f)
+
+whole_of : (P : List ℕ → Type 0) (left : List ℕ) → P left → P (take (length left) left)
+whole_of P left p = subst P (sym (take-length left)) p
+
+pub refuses_many : (count : ℕ) (left : List ℕ) (told new : List Heard) → head_end left ≡ Whole (length left) → IsTooMany left → new ≡ told ++ heard.Bad 431 ∷ [] → GoesBehind count left told Over new
+refuses_many count left told new ends h = refuses_head count left told new 431 (too_many (length left) ends (whole_of IsTooMany left h))
+
+pub refuses_malformed : (count : ℕ) (left : List ℕ) (told new : List Heard) → head_end left ≡ Whole (length left) → IsMalformed left → new ≡ told ++ heard.Bad 400 ∷ [] → GoesBehind count left told Over new
+refuses_malformed count left told new ends h = refuses_head count left told new 400 (malformed (length left) ends (whole_of IsMalformed left h))
+
+pub refuses_host : (count : ℕ) (left : List ℕ) (told new : List Heard) → head_end left ≡ Whole (length left) → LacksHost left → new ≡ told ++ heard.Bad 400 ∷ [] → GoesBehind count left told Over new
+refuses_host count left told new ends h = refuses_head count left told new 400 (host (length left) ends (whole_of LacksHost left h))
+
+pub refuses_long : (count : ℕ) (left : List ℕ) (told new : List Heard) → head_end left ≡ TooLong → new ≡ told ++ heard.Bad 431 ∷ [] → GoesBehind count left told Over new
+refuses_long count left told new ends = refuses_head count left told new 431 (too_long ends)

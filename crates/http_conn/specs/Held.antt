@@ -1,4 +1,4 @@
-use Rattle.std.specs.Prelude.{◌≡◌, ℕ, ◌+◌, ◌<◌, ◌≤◌, List, [], ◌∷◌, ◌++◌, length, take, drop, Ok}
+use Rattle.std.specs.Prelude.{◌≡◌, ℕ, ◌+◌, ◌-◌, ◌*◌, ◌<◌, ◌≤◌, List, [], ◌∷◌, ◌++◌, length, take, drop, Ok}
 use Rattle.pod_base.specs.declared.field.Field.{Field}
 use Rattle.pod_base.specs.declared.request.Request.{Request}
 use Rattle.pod_base.specs.declared.heard.Heard.{Heard}
@@ -18,6 +18,25 @@ use Rattle.http_conn.specs.declared.stage.OpenHead.{OpenHead}
 use Rattle.http_conn.specs.declared.stage.OpenBody.{OpenBody}
 
 -- What a connection holds, and of which texts.
+
+-- what is true of each connection: the search of an open head has seen what has come of it, and found no end
+abbrev pub IsSound : Stage → Type 0
+IsSound (Head begun) = (head_end begun.bytes.items ≡ NotYet) × HasSeen begun.search begun.bytes.items
+IsSound (Body begun) = Unit {0}
+IsSound Over = Unit {0}
+IsSound Failed = Unit {0}
+
+-- a body that has ended needs no more bytes for a step
+abbrev pub weight : Stage → ℕ
+weight (Head begun) = 0
+weight (Body begun) = 1
+weight Over = 0
+weight Failed = 0
+
+-- so many of the bytes were read, and fewer steps are left
+pub record Moves (old : Stage) (len taken : ℕ) (new : Stage) : Type 0 where
+  pub within : taken ≤ len
+  pub fewer : 2 * (len - taken) + weight new < 2 * len + weight old
 
 -- It is between messages or in a head: the text is requests, and then what it holds.
 pub record InHead (begun : OpenHead) (text : List ℕ) (hears : List Heard) : Type 0 where

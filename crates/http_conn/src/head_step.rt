@@ -2,7 +2,7 @@ ghost use Rattle.std.specs.Prelude.{◌≡◌, ◌<◌, ◌≤◌, ◌++◌, ◌
 ghost use Rattle.http_head.specs.Ends.{head_end};
 ghost use Rattle.http_head.specs.declared.ends.HeadEnd.TheVariants as end;
 ghost use Rattle.http_conn.specs.declared.stage.Stage.TheVariants as stage;
-ghost use Rattle.http_conn.specs.Held.{Goes, GoesBehind, GoesBehindHead, AwaitsBehindHead};
+ghost use Rattle.http_conn.specs.Held.{Goes, GoesBehind, GoesBehindHead, AwaitsBehindHead, IsSound, Moves};
 
 use crate::stage::{OpenBody, OpenHead, Stage};
 use crate::told::{finish, refuse, tell_interim};
@@ -23,7 +23,8 @@ fn await_body(
     said: RequestHead,
     form: BodyForm,
 ) -> Mem<Stage>
-    ensures { IfOk result (λ new. AwaitsBehindHead count len said form heard.old.items new heard.new.items) }
+    ensures sound { IfOk result IsSound }
+    ensures goes { IfOk result (λ new. AwaitsBehindHead count len said form heard.old.items new heard.new.items) }
 {
     tell_interim(alloc, heard, &said, form)?;
     let payload = Payload::new(alloc, form);
@@ -46,7 +47,8 @@ fn behind_head(
     len: usize,
     said: RequestHead,
 ) -> Mem<Stage>
-    ensures { IfOk result (λ new. GoesBehindHead count len said heard.old.items new heard.new.items) }
+    ensures sound { IfOk result IsSound }
+    ensures goes { IfOk result (λ new. GoesBehindHead count len said heard.old.items new heard.new.items) }
 {
     match framing(&said) {
         Ok(form) => await_body(alloc, heard, count, len, said, form),
@@ -59,7 +61,8 @@ fn behind_head(
 /// What stands behind a whole head.
 fn whole_head(alloc: Global, heard: &mut List<Heard>, count: u64, head: &[u8]) -> Mem<Stage>
     requires { head_end head.now ≡ end.Whole (length head.now) }
-    ensures { IfOk result (λ new. GoesBehind count head.now heard.old.items new heard.new.items) }
+    ensures sound { IfOk result IsSound }
+    ensures goes { IfOk result (λ new. GoesBehind count head.now heard.old.items new heard.new.items) }
 {
     match read_head(alloc, head) {
         Ok(said) => {
@@ -77,18 +80,18 @@ fn whole_head(alloc: Global, heard: &mut List<Heard>, count: u64, head: &[u8]) -
 fn fresh_head(
     alloc: Global,
     heard: &mut List<Heard>,
-    mut begun: OpenHead,
+    count: u64,
     bytes: &[u8],
 ) -> Mem<(usize, Stage)>
-    requires none { begun.bytes.items ≡ [] }
-    requires some { 0 < length bytes.now }
+    requires { 0 < length bytes.now }
     ensures taken { IfOk result (λ r. (0 < r.0) × (r.0 ≤ length bytes.now)) }
-    ensures goes { IfOk result (λ r. Goes (stage.Head begun) heard.old.items (take r.0 bytes.now) r.1 heard.new.items) }
+    ensures sound { IfOk result (λ r. IsSound r.1) }
+    ensures goes { IfOk result (λ r. GoesBehind count (take r.0 bytes.now) heard.old.items r.1 heard.new.items) }
 {
     let mut search = HeadSearch::new();
     match search.look(bytes) {
         HeadEnd::Whole(len) => {
-            let next = whole_head(alloc, heard, begun.count, &bytes[..len])?;
+            let next = whole_head(alloc, heard, count, front(bytes, len))?;
             Ok((len, next))
         }
         HeadEnd::TooLong => {
@@ -96,9 +99,22 @@ fn fresh_head(
             Ok((bytes.len(), next))
         }
         HeadEnd::NotYet => {
-            begun.bytes.extend_from_slice(bytes)?;
-            begun.search = search;
-            Ok((bytes.len(), Stage::Head(begun)))
+            let bytes = Vec::from_slice(alloc, bytes)?;
+            let len = bytes.len();
+            let begun = OpenHead {
+                bytes,
+                search,
+                count,
+            };
+            Ok((len, Stage::Head(begun)))
         }
     }
+}
+
+/// The first so many bytes.
+fn front(bytes: &[u8], len: usize) -> &[u8]
+    requires { len ≤ length bytes.now }
+    ensures { result.now ≡ take len bytes.now }
+{
+    &bytes[..len]
 }

@@ -1,7 +1,7 @@
 ghost use Rattle.std.specs.Prelude.{◌≡◌, ◌+◌, ◌++◌, ◌∷◌, ◌||◌, nat_le, [], if◌then◌else◌, IfOk, OnOk};
 ghost use Rattle.pod_base.specs.declared.heard.Heard.TheVariants as hears;
 ghost use Rattle.http_head.specs.Wishes as wishes;
-ghost use Rattle.http_conn.specs.Held.{EndsRequest};
+ghost use Rattle.http_conn.specs.Held.{EndsRequest, IsSound, weight};
 
 use crate::stage::{OpenHead, Stage};
 use http_head::{BodyForm, RequestHead, closes, expects_continue};
@@ -24,7 +24,7 @@ fn tell(alloc: Global, heard: &mut List<Heard>, one: Heard) -> Mem<()>
 /// Tells that the bytes are no message. Nothing more is heard.
 pub(crate) fn refuse(alloc: Global, heard: &mut List<Heard>, status: u16) -> Mem<Stage>
     ensures told { OnOk result (heard.new.items ≡ heard.old.items ++ hears.Bad status ∷ []) }
-    ensures over { IfOk result (λ stage. stage ≡ Stage.Over) }
+    ensures over { IfOk result (λ new. new ≡ Stage.Over) }
 {
     tell(alloc, heard, Heard::Bad(status))?;
     Ok(Stage::Over)
@@ -62,7 +62,9 @@ pub(crate) fn finish(
     said: RequestHead,
     body: Bytes,
 ) -> Mem<Stage>
-    ensures { IfOk result (λ new. EndsRequest count said body heard.old.items new heard.new.items) }
+    ensures sound { IfOk result IsSound }
+    ensures no_body { IfOk result (λ new. weight new ≡ 0) }
+    ensures ends { IfOk result (λ new. EndsRequest count said body heard.old.items new heard.new.items) }
 {
     let last = is_last(count, &said);
     let request = Request {
