@@ -1,13 +1,14 @@
 -- A head's end stays where it is as the text goes on, and the head alone ends there too.
-use Rattle.std.proofs.Common.{◌≡◌, ℕ, zero, suc, ◌∙◌, ◌+◌, ◌-◌, ◌<◌, ◌≤◌, ◌==◌, ◌&&◌, Bool, true, false, cond, if◌then◌else◌, nat_lt, nat_le, List, [], ◌∷◌, ◌++◌, length, take, drop, Option, Some, None, refl, sym, ap, subst, arith, add-one, length-append, length-drop, min}
+use Rattle.std.proofs.Common.{◌≡◌, ℕ, zero, suc, ◌∙◌, ◌+◌, ◌-◌, ◌<◌, ◌≤◌, ◌==◌, ◌&&◌, Bool, true, false, cond, if◌then◌else◌, nat_lt, nat_le, List, [], ◌∷◌, ◌++◌, length, take, drop, Option, Some, None, refl, sym, ap, subst, arith, inl, inr, append_assoc, add-one, length-append, length-drop, min}
 use Rattle.std.specs.Option.{option_map}
+use Rattle.std.proofs.lemmas.Bool.{cases_lt}
 use Rattle.std.proofs.lemmas.Bool.Decides.{nat_tests}
 use Rattle.std.proofs.lemmas.List.{drop-drop, drop-append-le, take-append-le, take-take, take_all, drop-take, length-take-le, length-take, take-append-drop}
 use Rattle.http_head.specs.declared.ends.HeadEnd.{HeadEnd}
 use Rattle.http_head.specs.declared.ends.HeadEnd.TheVariants.{Whole, NotYet, TooLong}
 use Rattle.http_head.specs.Ends.{line_end, blank_length, end_behind, head_length, length_in, end_of, head_end}
 use Rattle.http_head.specs.Search.{begins_line}
-use Rattle.http_head.proofs.SearchLemmas.{blank-append, in_split, in_line}
+use Rattle.http_head.proofs.SearchLemmas.{blank-append, blank_none, in_split, in_line}
 
 append_none : (w : List ℕ) → w ++ [] ≡ w
 append_none [] = refl
@@ -164,7 +165,7 @@ blank_fits_on true y p q k h i = omega arith
 blank_fits_on false true p q k h i = omega arith
 blank_fits_on false false p q k h i = omega arith
 
-blank_fits : (w : List ℕ) → blank_length w ≤ length w
+pub blank_fits : (w : List ℕ) → blank_length w ≤ length w
 blank_fits [] = omega arith
 blank_fits (b ∷ []) = elim (b == 10) as (λ x. cond x 1 0 ≤ 1) [ true ↦ omega arith | false ↦ omega arith ]
 blank_fits (b ∷ c ∷ w) =
@@ -311,3 +312,52 @@ long_stays text more h =
     let both = end_long (length text) (length_in (take 16_384 text)) h in
     let stays = long_in 16_384 text more both.1 both.0 in
     ap (end_of (length (text ++ more))) stays.0 ∙ ap (λ t. if t then TooLong else NotYet) stays.1
+
+not_yet_cond : (t : Bool) → cond t TooLong NotYet ≡ NotYet → t ≡ false
+not_yet_cond true h = cc
+not_yet_cond false h = refl
+
+end_not_yet : (len : ℕ) (o : Option ℕ) → end_of len o ≡ NotYet → nat_le 16_384 len ≡ false
+end_not_yet len None h = not_yet_cond (nat_le 16_384 len) h
+end_not_yet len (Some m) h = cc
+
+-- A head that has not ended is short.
+pub not_yet_short : (text : List ℕ) → head_end text ≡ NotYet → length text < 16_384
+not_yet_short text h =
+    let few = end_not_yet (length text) (length_in (take 16_384 text)) h in
+    grind (arith, nat_tests, few)
+
+-- It ends behind what has come.
+pub ends_later : (text more : List ℕ) (n : ℕ) → head_end text ≡ NotYet → head_end (text ++ more) ≡ Whole n → length text < n
+ends_later text more n not_yet h =
+    elim (cases_lt (length text) n) [
+      | inl less ↦ less
+      | inr there ↦
+          let front : head_end (take n text) ≡ Whole n = subst (λ t. head_end t ≡ Whole n) (take-append-le n text more there) (whole_front (text ++ more) n h) in
+          let whole : head_end text ≡ Whole n = subst (λ t. head_end t ≡ Whole n) (take-append-drop n text) (whole_stays (take n text) (drop n text) n front) in
+          let never : NotYet ≡ Whole n = sym not_yet ∙ whole in
+          cc
+    ]
+
+blank_fixed : (w more : List ℕ) (n : ℕ) → length_in w ≡ Some n → blank_length (w ++ more) ≡ blank_length w
+blank_fixed w more n h =
+    let f = found w n h in
+    let k : ℕ = blank_length w in
+    let r : List ℕ = drop k w in
+    let fits = length_fits r f.size f.there in
+    let cut : drop k (w ++ more) ≡ r ++ more = drop-append-le k w more (blank_fits w) in
+    let none : blank_length (drop k (w ++ more)) ≡ 0 = ap blank_length cut ∙ blank_none r more (line_of_two r (omega (arith, fits))) (blank_behind w) in
+    omega (arith, blank-append w more, none)
+
+blank_in : (most : ℕ) (text more : List ℕ) (n : ℕ) → length_in (take most text) ≡ Some n → blank_length (text ++ more) ≡ blank_length text
+blank_in most text more n h =
+    let w : List ℕ = take most text in
+    let rest : List ℕ = drop most text in
+    let here : blank_length text ≡ blank_length w = subst (λ t. blank_length t ≡ blank_length w) (take-append-drop most text) (blank_fixed w rest n h) in
+    let longer : blank_length (text ++ more) ≡ blank_length w =
+    subst (λ t. blank_length (t ++ more) ≡ blank_length w) (take-append-drop most text) (ap blank_length (append_assoc w rest more) ∙ blank_fixed w (rest ++ more) n h) in
+    longer ∙ sym here
+
+-- The empty lines before a whole head stay as many.
+pub blank_stays : (text more : List ℕ) (n : ℕ) → head_end text ≡ Whole n → blank_length (text ++ more) ≡ blank_length text
+blank_stays text more n h = blank_in 16_384 text more n (end_whole (length text) (length_in (take 16_384 text)) n h)

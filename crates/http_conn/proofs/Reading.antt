@@ -5,7 +5,7 @@ use Rattle.std.proofs.lemmas.Grind.{flat_map-append}
 use Rattle.std.proofs.lemmas.Bool.{or_cases, or_parts}
 use Rattle.std.proofs.lemmas.Bool.Decides.{nat_tests}
 use Rattle.std.proofs.lemmas.List.{append-nil, drop-drop, drop-append-le, take-append-le, take_all}
-use Rattle.std.proofs.Math.Seq.{drop-length, take-length}
+use Rattle.std.proofs.Math.Seq.{drop-length, take-length, take-append-add}
 use Rattle.pod_base.specs.declared.request.Request.{Request}
 use Rattle.pod_base.specs.declared.heard.Heard.{Heard}
 use Rattle.pod_base.specs.declared.heard.Heard.TheVariants as heard
@@ -28,7 +28,7 @@ use Rattle.http_conn.specs.declared.stage.OpenHead.{OpenHead}
 use Rattle.http_conn.specs.declared.stage.OpenBody.{OpenBody}
 use Rattle.http_payload.specs.Held as payload
 use Rattle.http_conn.specs.Held.{InHead, InBody, HasEnded, Stands, rest_of, ReadsTo, Goes, GoesBehind, GoesBehindHead, AwaitsBehindHead, EndsRequest}
-use Rattle.http_conn.proofs.HeadEnds.{whole_stays, whole_there, long_stays}
+use Rattle.http_conn.proofs.HeadEnds.{whole_stays, whole_there, long_stays, blank_stays, blank_fits}
 
 -- ---- longer texts
 
@@ -297,3 +297,91 @@ refuses_host count left told new ends h = refuses_head count left told new 400 (
 
 pub refuses_long : (count : ℕ) (left : List ℕ) (told new : List Heard) → head_end left ≡ TooLong → new ≡ told ++ heard.Bad 431 ∷ [] → GoesBehind count left told Over new
 refuses_long count left told new ends = refuses_head count left told new 431 (too_long ends)
+
+-- ---- in a body
+
+-- what is left behind a head grows by the bytes
+body_grows : (begun : OpenBody) (text : List ℕ) (hears : List Heard) (s : InBody begun text hears) (bytes : List ℕ) → drop s.head (s.left ++ bytes) ≡ drop s.head s.left ++ bytes
+body_grows begun text hears s bytes = drop-append-le s.head s.left bytes s.there
+
+-- the body has ended
+pub body_ends : (begun : OpenBody) (front body : List ℕ) (told new : List Heard) (next : Stage)
+    → ((form : BodyForm) (text : List ℕ) → payload.Stands form begun.payload text → IsBody form (text ++ front) body)
+    → EndsRequest begun.count begun.said body told next new → Goes (Body begun) told front next new
+body_ends begun front body told new next whole finishes text before s =
+    let left : List ℕ = s.left ++ front in
+    let behind : List ℕ = drop s.head s.left ++ front in
+    let cut : drop s.head left ≡ behind = body_grows begun text (before ++ told) s front in
+    let size : ℕ = length behind in
+    let len : ℕ = s.head + size in
+    let all : len ≡ length left = omega (arith, s.there, length-append s.left front, length-append (drop s.head s.left) front, length-drop s.head s.left) in
+    let last : Request = with_body begun.said body in
+    let first : IsFirst left last len = record {
+      head = s.head;
+      said = begun.said;
+      form = s.form;
+      begins = head_stays s.left front s.head begun.said s.form s.begins;
+      size = size;
+      body = body;
+      is_body = subst (λ t. IsBody s.form t body) (sym (ap (take size) cut ∙ take-length behind)) (whole s.form (drop s.head s.left) s.stands);
+      there = omega (arith, all);
+      ends = refl;
+      is = refl;
+    } in
+    let none : drop len left ≡ [] = ap (λ n. drop n left) all ∙ drop-length left in
+    finishes (text ++ front) before s.requests (requests_snoc s.requests (text ++ front) left [] last len (requests_stay s.requests text s.left front s.reads) first none) s.stays s.count s.is
+
+-- the body goes on
+pub body_waits : (begun new : OpenBody) (bytes : List ℕ) (told : List Heard) → new.said ≡ begun.said → new.count ≡ begun.count → new.len ≡ begun.len + length bytes
+    → ((form : BodyForm) (text : List ℕ) → payload.Stands form begun.payload text → IsPartialBody form (text ++ bytes))
+    → ((form : BodyForm) (text : List ℕ) → payload.Stands form begun.payload text → payload.Stands form new.payload (text ++ bytes))
+    → Goes (Body begun) told bytes (Body new) told
+body_waits begun new bytes told said_is count_is len_is partial stands text before s =
+    let left : List ℕ = s.left ++ bytes in
+    let cut : drop s.head left ≡ drop s.head s.left ++ bytes = body_grows begun text (before ++ told) s bytes in
+    record {
+      requests = s.requests;
+      left = left;
+      reads = requests_stay s.requests text s.left bytes s.reads;
+      stays = s.stays;
+      count = count_is ∙ s.count;
+      is = s.is ∙ ap (λ (h : RequestHead). heard_of s.requests ++ interim_of h.minor h.fields) (sym said_is);
+      head = s.head;
+      form = s.form;
+      there = omega (arith, s.there, length-append s.left bytes);
+      begins = subst (λ h. HasHead left s.head h s.form) (sym said_is) (head_stays s.left bytes s.head begun.said s.form s.begins);
+      body = subst (IsPartialBody s.form) (sym cut) (partial s.form (drop s.head s.left) s.stands);
+      stands = subst (payload.Stands s.form new.payload) (sym cut) (stands s.form (drop s.head s.left) s.stands);
+      rest = omega (arith, len_is, s.rest, blank_stays s.left bytes s.head s.begins.ends, blank_fits s.left, length-append s.left bytes);
+    }
+
+-- the body is refused
+pub body_refused : (begun : OpenBody) (bytes : List ℕ) (told new : List Heard) (fault : PayloadFault)
+    → ((form : BodyForm) (text : List ℕ) → payload.Stands form begun.payload text → IsFault form (text ++ bytes) fault)
+    → new ≡ told ++ heard.Bad (status_of fault) ∷ [] → Goes (Body begun) told bytes Over new
+body_refused begun bytes told new fault bad new_is text before s =
+    let left : List ℕ = s.left ++ bytes in
+    let cut : drop s.head left ≡ drop s.head s.left ++ bytes = body_grows begun text (before ++ told) s bytes in
+    refuses begun.count left (text ++ bytes) before told (interim_of begun.said.minor begun.said.fields) new (status_of fault) s.requests
+    (requests_stay s.requests text s.left bytes s.reads) s.stays s.is
+    (bad_body s.head begun.said s.form fault (head_stays s.left bytes s.head begun.said s.form s.begins) (subst (λ t. IsFault s.form t fault) (sym cut) (bad s.form (drop s.head s.left) s.stands)))
+    new_is
+
+-- nothing more is heard
+pub over_goes : (bytes : List ℕ) (told : List Heard) → Goes Over told bytes Over told
+over_goes bytes told text before s more = subst (λ t. Messages t (before ++ told) 0) (sym (append_assoc text bytes more)) (s (bytes ++ more))
+
+-- one step after others
+pub goes_on : (old next new : Stage) (told then_told new_told : List Heard) (front bytes : List ℕ) → Goes old told front next then_told → Goes next then_told bytes new new_told
+    → Goes old told (front ++ bytes) new new_told
+goes_on old next new told then_told new_told front bytes a b text before s =
+    subst (λ t. Stands new t (before ++ new_told)) (append_assoc text front bytes) (b (text ++ front) before (a text before s))
+
+pub goes_nowhere : (stage : Stage) (told : List Heard) → Goes stage told [] stage told
+goes_nowhere stage told text before s = subst (λ t. Stands stage t (before ++ told)) (sym (append-nil text)) s
+
+-- the head with the bytes up to its end
+pub front_of_kept : (kept window : List ℕ) (n : ℕ) → length kept ≤ n → take n (kept ++ window) ≡ kept ++ take (n - length kept) window
+front_of_kept kept window n h =
+    let sum : n ≡ length kept + (n - length kept) = omega arith in
+    ap (λ k. take k (kept ++ window)) sum ∙ take-append-add kept window (n - length kept)

@@ -1,8 +1,8 @@
-ghost use Rattle.std.specs.Prelude.{◌≡◌, ◌<◌, ◌≤◌, ◌++◌, ◌∷◌, [], length, take, IfOk, OnOk};
+ghost use Rattle.std.specs.Prelude.{◌≡◌, ◌<◌, ◌≤◌, ◌++◌, ◌∷◌, [], length, take, min, IfOk};
 ghost use Rattle.http_head.specs.Ends.{head_end};
 ghost use Rattle.http_head.specs.declared.ends.HeadEnd.TheVariants as end;
 ghost use Rattle.http_conn.specs.declared.stage.Stage.TheVariants as stage;
-ghost use Rattle.http_conn.specs.Held.{Goes, GoesBehind, GoesBehindHead, AwaitsBehindHead, IsSound, Moves};
+ghost use Rattle.http_conn.specs.Held.{Goes, GoesBehind, GoesBehindHead, AwaitsBehindHead, IsSound};
 
 use crate::stage::{OpenBody, OpenHead, Stage};
 use crate::told::{finish, refuse, tell_interim};
@@ -117,4 +117,77 @@ fn front(bytes: &[u8], len: usize) -> &[u8]
     ensures { result.now ≡ take len bytes.now }
 {
     &bytes[..len]
+}
+
+/// At most so many bytes of the front.
+fn up_to(bytes: &[u8], most: usize) -> &[u8]
+    ensures bytes { result.now ≡ take most bytes.now }
+    ensures len { length result.now ≡ min most (length bytes.now) }
+{
+    if bytes.len() > most {
+        front(bytes, most)
+    } else {
+        bytes
+    }
+}
+
+/// Reads on in a head of which some bytes have come: how many more are read, and what stands behind them.
+fn kept_head(
+    alloc: Global,
+    heard: &mut List<Heard>,
+    begun: OpenHead,
+    bytes: &[u8],
+) -> Mem<(usize, Stage)>
+    requires some { 0 < length bytes.now }
+    requires sound { IsSound (stage.Head begun) }
+    ensures taken { IfOk result (λ r. (0 < r.0) × (r.0 ≤ length bytes.now)) }
+    ensures sound { IfOk result (λ r. IsSound r.1) }
+    ensures goes { IfOk result (λ r. GoesBehind begun.count (begun.bytes.items ++ take r.0 bytes.now) heard.old.items r.1 heard.new.items) }
+{
+    let OpenHead {
+        bytes: mut head,
+        mut search,
+        count,
+    } = begun;
+    let kept = head.len();
+    let window = up_to(bytes, HEAD_LIMIT.saturating_sub(kept));
+    head.extend_from_slice(window)?;
+    match search.look(head.as_slice()) {
+        HeadEnd::Whole(len) => {
+            let next = whole_head(alloc, heard, count, front(head.as_slice(), len))?;
+            Ok((len - kept, next))
+        }
+        HeadEnd::TooLong => {
+            let next = refuse(alloc, heard, 431)?;
+            Ok((window.len(), next))
+        }
+        HeadEnd::NotYet => {
+            let begun = OpenHead {
+                bytes: head,
+                search,
+                count,
+            };
+            Ok((window.len(), Stage::Head(begun)))
+        }
+    }
+}
+
+/// Reads on in a head: how many bytes are read, and where that ends.
+pub(crate) fn head_step(
+    alloc: Global,
+    heard: &mut List<Heard>,
+    begun: OpenHead,
+    bytes: &[u8],
+) -> Mem<(usize, Stage)>
+    requires some { 0 < length bytes.now }
+    requires sound { IsSound (stage.Head begun) }
+    ensures taken { IfOk result (λ r. (0 < r.0) × (r.0 ≤ length bytes.now)) }
+    ensures sound { IfOk result (λ r. IsSound r.1) }
+    ensures goes { IfOk result (λ r. Goes (stage.Head begun) heard.old.items (take r.0 bytes.now) r.1 heard.new.items) }
+{
+    if begun.bytes.is_empty() {
+        fresh_head(alloc, heard, begun.count, bytes)
+    } else {
+        kept_head(alloc, heard, begun, bytes)
+    }
 }

@@ -1,6 +1,11 @@
 //! What a connection hears: the requests in the bytes that come, in whatever pieces (RFC 9112).
 #![tactic(auto)]
 
+mod body_step;
+mod conn;
 mod head_step;
+mod run;
 mod stage;
 mod told;
+
+pub use conn::Conn;
