@@ -1,10 +1,9 @@
 -- A head's end stays where it is as the text goes on, and the head alone ends there too.
-use Rattle.std.proofs.Common.{◌≡◌, ℕ, zero, suc, ◌∙◌, ◌+◌, ◌-◌, ◌<◌, ◌≤◌, ◌==◌, ◌&&◌, Bool, true, false, cond, if◌then◌else◌, nat_lt, nat_le, List, [], ◌∷◌, ◌++◌, length, take, drop, Option, Some, None, refl, sym, ap, subst, arith, inl, inr, append_assoc, add-one, length-append, length-drop, min}
+use Rattle.std.proofs.Common.{◌≡◌, ℕ, zero, suc, ◌∙◌, ◌+◌, ◌<◌, ◌≤◌, ◌==◌, ◌&&◌, Bool, true, false, cond, if◌then◌else◌, nat_lt, nat_le, List, [], ◌∷◌, ◌++◌, length, take, drop, Option, Some, None, refl, sym, ap, subst, arith, inl, inr, append_assoc, add-one, length-append, length-drop, min}
 use Rattle.std.specs.Option.{option_map}
 use Rattle.std.proofs.lemmas.Bool.{cases_lt}
 use Rattle.std.proofs.lemmas.Bool.Decides.{nat_tests}
-use Rattle.std.proofs.lemmas.List.{drop-drop, drop-append-le, take-append-le, take-take, take_all, drop-take, length-take-le, length-take, take-append-drop}
-use Rattle.http_head.specs.declared.ends.HeadEnd.{HeadEnd}
+use Rattle.std.proofs.lemmas.List.{drop-append-le, take-append-le, take-take, take_all, drop-take, length-take-le, length-take, take-append-drop}
 use Rattle.http_head.specs.declared.ends.HeadEnd.TheVariants.{Whole, NotYet, TooLong}
 use Rattle.http_head.specs.Ends.{line_end, blank_length, end_behind, head_length, length_in, end_of, head_end}
 use Rattle.http_head.specs.Search.{begins_line}
@@ -130,9 +129,9 @@ length_fits (b ∷ w) n h =
 
 behind_front : (b : ℕ) (w : List ℕ) → 0 < end_behind (b ∷ w) → end_behind (b ∷ take (end_behind (b ∷ w)) w) ≡ end_behind (b ∷ w)
 behind_front b w some = elim (b == 10) as (λ x. 0 < cond x (line_end w) 0 → cond x (line_end (take (cond x (line_end w) 0) w)) 0 ≡ cond x (line_end w) 0) [
-    | true ↦ λ h. line_front w
-    | false ↦ λ h. refl
-    ] some
+  | true ↦ λ h. line_front w
+  | false ↦ λ h. refl
+] some
 
 none_in_front : (b : ℕ) (w : List ℕ) (m : ℕ) → end_behind (b ∷ w) ≡ 0 → end_behind (b ∷ take m w) ≡ 0
 none_in_front b w m none =

@@ -1,10 +1,10 @@
 -- What was heard in a text is heard in a longer one, and a step more.
-use Rattle.std.proofs.Common.{◌≡◌, ◌⊎◌, inl, inr, ℕ, suc, ◌∙◌, ◌+◌, ◌-◌, ◌<◌, ◌≤◌, ◌||◌, Bool, true, false, cond, if◌then◌else◌, nat_le, List, [], ◌∷◌, ◌++◌, length, take, drop, Result, Ok, Err, OnOk, IfOk, refl, sym, ap, subst, arith, append_assoc, length-append, length-drop}
-use Rattle.std.specs.List.{flat_map, AllByRecursion}
+use Rattle.std.proofs.Common.{◌≡◌, inl, inr, ℕ, ◌∙◌, ◌+◌, ◌-◌, ◌<◌, ◌≤◌, ◌||◌, true, false, if◌then◌else◌, nat_le, List, [], ◌∷◌, ◌++◌, length, take, drop, Result, Ok, Err, OnOk, IfOk, refl, sym, ap, subst, arith, append_assoc, length-append, length-drop}
+use Rattle.std.specs.List.{AllByRecursion}
 use Rattle.std.proofs.lemmas.Grind.{flat_map-append}
 use Rattle.std.proofs.lemmas.Bool.{or_cases, or_parts}
 use Rattle.std.proofs.lemmas.Bool.Decides.{nat_tests}
-use Rattle.std.proofs.lemmas.List.{append-nil, drop-drop, drop-append-le, take-append-le, take_all}
+use Rattle.std.proofs.lemmas.List.{append-nil, drop-append-le, take-append-le}
 use Rattle.std.proofs.Math.Seq.{drop-length, take-length, take-append-add}
 use Rattle.pod_base.specs.declared.request.Request.{Request}
 use Rattle.pod_base.specs.declared.heard.Heard.{Heard}
@@ -13,7 +13,7 @@ use Rattle.http_head.specs.declared.ends.HeadEnd.TheVariants.{Whole, NotYet, Too
 use Rattle.http_head.specs.declared.head.RequestHead.{RequestHead}
 use Rattle.http_head.specs.declared.form.BodyForm.{BodyForm}
 use Rattle.http_head.specs.declared.framed.FramingFault.TheVariants as framing_fault
-use Rattle.http_head.specs.Ends.{blank_length, head_end}
+use Rattle.http_head.specs.Ends.{head_end}
 use Rattle.http_head.specs.Heads.{IsTooMany, IsMalformed, LacksHost, Says}
 use Rattle.http_head.specs.Framing.{framing}
 use Rattle.http_head.specs.Wishes.{closes, expects_continue}
@@ -21,13 +21,13 @@ use Rattle.http_head.specs.Search.{HasSeen}
 use Rattle.http_payload.specs.declared.fault.PayloadFault.{PayloadFault}
 use Rattle.http_payload.specs.Bodies.{IsBody, IsFault, IsPartial as IsPartialBody}
 use Rattle.http_payload.proofs.LawLemmas.{fault_stays}
-use Rattle.http_conn.specs.Messages.{HasHead, IsFirst, Requests, IsBadHead, too_long, too_many, malformed, host, conflict, coding, too_large, IsBad, bad_head, bad_body, status_of, IsPartial, in_head, in_body, IsOpen, IsLast, Messages, unfinished, refused, ended, heard_of, heard_one, interim_of, waits_for, with_body, rest_length, closes_behind, most_requests}
+use Rattle.http_conn.specs.Messages.{HasHead, IsFirst, Requests, IsBadHead, too_long, too_many, malformed, host, conflict, coding, too_large, IsBad, bad_head, bad_body, status_of, in_head, in_body, IsOpen, IsLast, Messages, unfinished, refused, ended, heard_of, heard_one, interim_of, waits_for, with_body, rest_length, closes_behind, most_requests}
 use Rattle.http_conn.specs.declared.stage.Stage.{Stage}
 use Rattle.http_conn.specs.declared.stage.Stage.TheVariants.{Head, Body, Over, Failed}
 use Rattle.http_conn.specs.declared.stage.OpenHead.{OpenHead}
 use Rattle.http_conn.specs.declared.stage.OpenBody.{OpenBody}
 use Rattle.http_payload.specs.Held as payload
-use Rattle.http_conn.specs.Held.{InHead, InBody, HasEnded, Stands, rest_of, ReadsTo, Goes, GoesBehind, GoesBehindHead, AwaitsBehindHead, EndsRequest}
+use Rattle.http_conn.specs.Held.{InBody, HasEnded, Stands, rest_of, Goes, GoesBehind, GoesBehindHead, AwaitsBehindHead, EndsRequest}
 use Rattle.http_conn.proofs.HeadEnds.{whole_stays, whole_there, long_stays, blank_stays, blank_fits}
 
 -- ---- longer texts

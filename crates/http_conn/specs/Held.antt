@@ -1,8 +1,7 @@
-use Rattle.std.specs.Prelude.{◌≡◌, ℕ, ◌+◌, ◌-◌, ◌*◌, ◌<◌, ◌≤◌, List, [], ◌∷◌, ◌++◌, length, take, drop, Ok}
-use Rattle.pod_base.specs.declared.field.Field.{Field}
+use Rattle.std.specs.Prelude.{◌≡◌, ℕ, ◌+◌, ◌-◌, ◌*◌, ◌<◌, ◌≤◌, List, [], ◌∷◌, ◌++◌, length, drop, Ok}
 use Rattle.pod_base.specs.declared.request.Request.{Request}
 use Rattle.pod_base.specs.declared.heard.Heard.{Heard}
-use Rattle.http_head.specs.declared.ends.HeadEnd.TheVariants.{Whole, NotYet, TooLong}
+use Rattle.http_head.specs.declared.ends.HeadEnd.TheVariants.{Whole, NotYet}
 use Rattle.http_head.specs.declared.head.RequestHead.{RequestHead}
 use Rattle.http_head.specs.declared.form.BodyForm.{BodyForm}
 use Rattle.http_head.specs.Ends.{head_end}

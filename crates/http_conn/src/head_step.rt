@@ -7,8 +7,8 @@ ghost use Rattle.http_conn.specs.Held.{Goes, GoesBehind, GoesBehindHead, AwaitsB
 use crate::stage::{OpenBody, OpenHead, Stage};
 use crate::told::{finish, refuse, tell_interim};
 use http_head::{
-    BodyForm, FramingFault, HEAD_LIMIT, HeadEnd, HeadFault, HeadSearch, RequestHead, blank_length, framing,
-    read_head,
+    BodyForm, FramingFault, HEAD_LIMIT, HeadEnd, HeadFault, HeadSearch, RequestHead, blank_length,
+    framing, read_head,
 };
 use http_payload::Payload;
 use pod_base::{Heard, List, Mem, NoMemory};

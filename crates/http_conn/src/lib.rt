@@ -9,3 +9,6 @@ mod stage;
 mod told;
 
 pub use conn::Conn;
+
+#[cfg(test)]
+mod tests;

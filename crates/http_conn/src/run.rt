@@ -8,12 +8,7 @@ use pod_base::{Heard, List, Mem, NoMemory};
 use std::alloc::Global;
 
 /// Reads on: how many bytes are read, and where that ends.
-fn step(
-    alloc: Global,
-    heard: &mut List<Heard>,
-    stage: Stage,
-    bytes: &[u8],
-) -> Mem<(usize, Stage)>
+fn step(alloc: Global, heard: &mut List<Heard>, stage: Stage, bytes: &[u8]) -> Mem<(usize, Stage)>
     requires some { 0 < length bytes.now }
     requires sound { IsSound stage }
     ensures moves { IfOk result (λ r. Moves stage (length bytes.now) r.0 r.1) }

@@ -1,4 +1,4 @@
-use Rattle.std.proofs.Common.{◌≡◌, ◌≢◌, ℕ, ◌+◌, ◌++◌, List, length, take, refl, sym, ap, subst, ◌∙◌, arith}
+use Rattle.std.proofs.Common.{◌≡◌, ◌≢◌, ℕ, ◌++◌, List, length, take, refl, sym, ap, subst, ◌∙◌, arith}
 use Rattle.std.proofs.Math.Seq.{take-length}
 use Rattle.http_payload.specs.declared.fault.PayloadFault.TheVariants.{Malformed, TooLarge, NoMemory}
 use Rattle.http_payload.specs.Bodies.{IsBody}
@@ -28,8 +28,8 @@ returns-in-Ok-clause-goes c =
     let new : OpenBody = record { said = c.args.begun.said; payload = c.feed.new.self; len = c.in-Some.len; count = c.args.begun.count } in
     subst (λ front. Goes (Body c.args.begun) told front (Body new) told) (sym front_is)
     (body_waits c.args.begun new bytes told refl refl (omega (arith, all, c.in-Some.ensures))
-        (λ form text s. c.in-Ok.ensures.partial c.if-fed.false form text s)
-        (λ form text s. subst (λ front. payload.Stands form c.feed.new.self (text ++ front)) front_is (c.in-Ok.ensures.stands form text s)))
+    (λ form text s. c.in-Ok.ensures.partial c.if-fed.false form text s)
+    (λ form text s. subst (λ front. payload.Stands form c.feed.new.self (text ++ front)) front_is (c.in-Ok.ensures.stands form text s)))
 
 -- nothing makes a body of it
 pub returns-in-Err-Malformed-clause-goes : goal.returns-in-Err-Malformed-clause-goes
@@ -40,7 +40,7 @@ returns-in-Err-Malformed-clause-goes c =
     let other : Malformed ≢ NoMemory = λ e. cc in
     subst (λ front. Goes (Body c.args.begun) told front c.in_ok-next-in-Err-Malformed.next hears) (sym (take-length bytes))
     (subst (λ s. Goes (Body c.args.begun) told bytes s hears) (sym c.in_ok-next-in-Err-Malformed.ensures.over)
-        (body_refused c.args.begun bytes told hears Malformed ((rw c.in-Err-Malformed.field-0-is at c.in-Err-Malformed.ensures.fault) other) c.in_ok-next-in-Err-Malformed.ensures.told))
+    (body_refused c.args.begun bytes told hears Malformed ((rw c.in-Err-Malformed.field-0-is at c.in-Err-Malformed.ensures.fault) other) c.in_ok-next-in-Err-Malformed.ensures.told))
 
 -- it is too large
 pub returns-in-Err-TooLarge-clause-goes : goal.returns-in-Err-TooLarge-clause-goes
@@ -51,4 +51,4 @@ returns-in-Err-TooLarge-clause-goes c =
     let other : TooLarge ≢ NoMemory = λ e. cc in
     subst (λ front. Goes (Body c.args.begun) told front c.in_ok-next-in-Err-TooLarge.next hears) (sym (take-length bytes))
     (subst (λ s. Goes (Body c.args.begun) told bytes s hears) (sym c.in_ok-next-in-Err-TooLarge.ensures.over)
-        (body_refused c.args.begun bytes told hears TooLarge ((rw c.in-Err-TooLarge.field-0-is at c.in-Err-TooLarge.ensures.fault) other) c.in_ok-next-in-Err-TooLarge.ensures.told))
+    (body_refused c.args.begun bytes told hears TooLarge ((rw c.in-Err-TooLarge.field-0-is at c.in-Err-TooLarge.ensures.fault) other) c.in_ok-next-in-Err-TooLarge.ensures.told))

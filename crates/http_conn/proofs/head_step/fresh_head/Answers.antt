@@ -1,7 +1,7 @@
-use Rattle.std.proofs.Common.{◌≡◌, ℕ, List, length, take, refl, sym, ap, subst, ◌∙◌, arith}
+use Rattle.std.proofs.Common.{◌≡◌, ℕ, List, length, take, sym, ap, subst, ◌∙◌}
 use Rattle.std.proofs.lemmas.List.{length-take-le}
 use Rattle.std.proofs.Math.Seq.{take-length}
-use Rattle.http_head.specs.declared.ends.HeadEnd.TheVariants.{Whole, TooLong}
+use Rattle.http_head.specs.declared.ends.HeadEnd.TheVariants.{Whole}
 use Rattle.http_head.specs.Ends.{head_end}
 use Rattle.http_conn.specs.Held.{GoesBehind}
 use Rattle.http_conn.proofs.HeadEnds.{whole_front}
@@ -24,4 +24,4 @@ returns-in_ok-next-in-TooLong-clause-goes c =
     let all : take (length bytes) bytes ≡ bytes = take-length bytes in
     subst (λ left. GoesBehind c.args.count left told c.in_ok-next-in-TooLong.next c.refuse.new.heard.items) (sym all)
     (subst (λ s. GoesBehind c.args.count bytes told s c.refuse.new.heard.items) (sym c.in_ok-next-in-TooLong.ensures.over)
-        (refuses_long c.args.count bytes told c.refuse.new.heard.items (sym c.in-TooLong.ensures.exact) c.in_ok-next-in-TooLong.ensures.told))
+    (refuses_long c.args.count bytes told c.refuse.new.heard.items (sym c.in-TooLong.ensures.exact) c.in_ok-next-in-TooLong.ensures.told))

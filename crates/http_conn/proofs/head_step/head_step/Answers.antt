@@ -18,7 +18,7 @@ returns-then-is_empty-clause-goes c =
     let hears = c.fresh_head.new.heard.items in
     IfOk-weaker c.fresh_head.result _ _
     (λ r goes. head_goes c.args.begun (take r.0 c.args.bytes.now) told hears r.1
-        (subst (λ left. GoesBehind c.args.begun.count left told r.1 hears) (ap (λ kept. kept ++ take r.0 c.args.bytes.now) (sym none)) goes))
+    (subst (λ left. GoesBehind c.args.begun.count left told r.1 hears) (ap (λ kept. kept ++ take r.0 c.args.bytes.now) (sym none)) goes))
     c.fresh_head.ensures.goes
 
 pub returns-else-is_empty-clause-goes : goal.returns-else-is_empty-clause-goes

@@ -1,4 +1,4 @@
-use Rattle.std.proofs.Common.{◌≡◌, ℕ, ◌-◌, ◌<◌, ◌≤◌, ◌++◌, List, length, take, min, refl, sym, ap, subst, ◌∙◌, arith, length-append}
+use Rattle.std.proofs.Common.{◌≡◌, ℕ, ◌-◌, ◌≤◌, ◌++◌, List, length, take, min, refl, sym, ap, subst, ◌∙◌, arith, length-append}
 use Rattle.std.proofs.lemmas.List.{length-take-le, take-take, take_min}
 use Rattle.http_head.specs.declared.ends.HeadEnd.TheVariants.{Whole, NotYet, TooLong}
 use Rattle.http_head.specs.Ends.{head_end}
@@ -81,7 +81,7 @@ returns-in_ok-next-in-TooLong-clause-goes c =
     let cut = window_of b c.args.bytes.now w c.saturating_sub.result c.up_to-window.ensures.bytes c.up_to-window.ensures.len in
     subst (λ left. GoesBehind c.args.begun.count left told c.in_ok-next-in-TooLong.next hears) cut
     (subst (λ s. GoesBehind c.args.begun.count (b ++ w) told s hears) (sym c.in_ok-next-in-TooLong.ensures.over)
-        (refuses_long c.args.begun.count (b ++ w) told hears ends c.in_ok-next-in-TooLong.ensures.told))
+    (refuses_long c.args.begun.count (b ++ w) told hears ends c.in_ok-next-in-TooLong.ensures.told))
 
 -- it has not ended
 pub returns-in-NotYet-clause-taken : goal.returns-in-NotYet-clause-taken

@@ -1,4 +1,4 @@
-use Rattle.std.proofs.Common.{◌≡◌, ◌++◌, sym, subst, ◌∙◌}
+use Rattle.std.proofs.Common.{◌++◌, sym, subst, ◌∙◌}
 use Rattle.http_conn.specs.Held.{Stands}
 use Rattle.http_conn.proofs.Reading.{stands_messages}
 use Rattle.http_conn.proofs.conn.Conn.feed.Goals as goal

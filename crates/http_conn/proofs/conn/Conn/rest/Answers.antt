@@ -1,4 +1,4 @@
-use Rattle.std.proofs.Common.{List, ℕ, sym, ap, subst, ◌∙◌}
+use Rattle.std.proofs.Common.{sym, ap, subst, ◌∙◌}
 use Rattle.http_conn.specs.Messages.{Messages}
 use Rattle.http_conn.specs.Held.{rest_of}
 use Rattle.http_conn.proofs.Reading.{stands_messages}
