@@ -4,6 +4,7 @@
 mod body_step;
 mod conn;
 mod head_step;
+pub mod laws;
 mod run;
 mod stage;
 mod told;
