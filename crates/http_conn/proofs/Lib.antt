@@ -1,0 +1,3 @@
+pub mod HeadEnds
+pub mod Reading
+pub mod Readings

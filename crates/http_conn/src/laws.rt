@@ -1,0 +1,11 @@
+//! Laws of messages. Each is the contract of a function that does nothing.
+
+ghost use Rattle.std.specs.Prelude.{◌≡◌, List, ℕ};
+ghost use Rattle.pod_base.specs.declared.heard.Heard.{Heard};
+ghost use Rattle.http_conn.specs.Messages.{Messages};
+
+/// A text has one reading: one list of what is heard, and one rest.
+pub fn one_reading()
+    ensures { (text : List ℕ) (one other : List Heard) (rest left : ℕ) → Messages text one rest → Messages text other left
+        → (one ≡ other) × (rest ≡ left) }
+{}
