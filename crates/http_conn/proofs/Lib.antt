@@ -1,3 +1,4 @@
+pub mod Endings
 pub mod HeadEnds
 pub mod Reading
 pub mod Readings

@@ -1,5 +1,5 @@
 -- A text has one reading.
-use Rattle.std.proofs.Common.{◌≡◌, ◌⊎◌, inl, inr, true, false, ℕ, ◌+◌, ◌<◌, ◌≤◌, List, [], ◌∷◌, ◌++◌, length, take, drop, Result, Ok, Err, refl, sym, ap, ap₂, subst, ◌∙◌, arith, append_assoc, length-drop}
+use Rattle.std.proofs.Common.{◌≡◌, inl, inr, true, false, ℕ, ◌+◌, ◌<◌, ◌≤◌, List, [], ◌∷◌, ◌++◌, length, take, drop, Result, Ok, Err, refl, sym, ap, ap₂, subst, ◌∙◌, arith, append_assoc, length-drop}
 use Rattle.std.proofs.lemmas.List.{append-nil, take-append-drop, length-take-le}
 use Rattle.std.specs.List.{AllByRecursion}
 use Rattle.std.proofs.lemmas.Grind.{flat_map-append}
@@ -20,7 +20,7 @@ use Rattle.http_head.proofs.HeadsLemmas.{same_head}
 use Rattle.http_payload.specs.Chunks as chunks
 use Rattle.http_payload.specs.Bodies.{IsBody, IsFault, IsPartial as IsPartialBody}
 use Rattle.http_payload.proofs.LawLemmas.{one_reading, one_fault, no_fault_at_body, no_fault_at_partial, no_body_at_partial}
-use Rattle.http_conn.specs.Messages.{HasHead, IsFirst, Requests, IsBadHead, too_long, too_many, malformed, host, conflict, coding, too_large, IsBad, bad_head, bad_body, status_of, IsPartial, in_head, in_body, Messages, unfinished, refused, ended, heard_of, heard_one, interim_of, with_body, rest_length, closes_behind, most_requests}
+use Rattle.http_conn.specs.Messages.{HasHead, IsFirst, Requests, IsBadHead, too_long, too_many, malformed, host, conflict, coding, too_large, IsBad, bad_head, bad_body, status_of, IsPartial, in_head, in_body, Messages, unfinished, refused, ended, heard_of, heard_one, interim_of, with_body, rest_length, closes_behind, most_requests, IsEnd}
 
 length_of : HeadEnd → ℕ
 length_of (Whole n) = n
@@ -228,14 +228,14 @@ bad_one text _ _ _ _ (bad_body len said form fault h f) (bad_body m other g seco
     (ap (λ (s : RequestHead). interim_of s.minor s.fields) head.said, ap status_of (one_fault form (drop len text) fault second f same))
 
 -- A reading of a text behind n requests, one request after the other.
-data Reads : ℕ → List ℕ → List Heard → ℕ → Type 0 where
+pub data Reads : ℕ → List ℕ → List Heard → ℕ → Type 0 where
   partly : {n : ℕ} {text : List ℕ} (hears : List Heard) → IsPartial text hears → Reads n text hears (rest_length text)
   badly : {n : ℕ} {text : List ℕ} (hears : List Heard) (status : ℕ) → IsBad text hears status → Reads n text (hears ++ heard.Bad status ∷ []) 0
-  last : {n : ℕ} {text : List ℕ} (r : Request) (len : ℕ) → IsFirst text r len → (closes_behind r ≡ true) ⊎ (n + 1 ≡ most_requests) → Reads n text (heard_one r) 0
+  last : {n : ℕ} {text : List ℕ} (r : Request) (len : ℕ) → IsFirst text r len → IsEnd n r → Reads n text (heard_one r) 0
   next : {n : ℕ} {text : List ℕ} (r : Request) (len : ℕ) (hears : List Heard) (rest : ℕ) → IsFirst text r len → closes_behind r ≡ false → n + 1 < most_requests → Reads (n + 1) (drop len text) hears rest
       → Reads n text (heard_one r ++ hears) rest
 
-last_not_next : (n : ℕ) (r q : Request) → r ≡ q → (closes_behind r ≡ true) ⊎ (n + 1 ≡ most_requests) → closes_behind q ≡ false → n + 1 < most_requests → ⊥
+last_not_next : (n : ℕ) (r q : Request) → r ≡ q → IsEnd n r → closes_behind q ≡ false → n + 1 < most_requests → ⊥
 last_not_next n r q same (inl closing) stays few =
     let never : true ≡ false = sym closing ∙ ap closes_behind same ∙ stays in
     cc
@@ -285,7 +285,8 @@ split (q ∷ requests) text rest r h =
     let others = split requests (drop h.0 text) rest r h.2 in
     record { left = others.left; len = others.len; reads = (h.0, h.1, others.reads); first = others.first }
 
-reads_of : (text : List ℕ) (hears : List Heard) (rest : ℕ) → Messages text hears rest → Reads 0 text hears rest
+-- what Messages says is such a reading
+pub reads_of : (text : List ℕ) (hears : List Heard) (rest : ℕ) → Messages text hears rest → Reads 0 text hears rest
 reads_of text _ _ (unfinished requests left hears reads stays p) =
     reads_behind requests 0 text left hears (rest_length left) reads stays.stays (omega (arith, stays.few)) (partly hears p)
 reads_of text _ _ (refused requests left hears status reads stays b) =
@@ -295,7 +296,7 @@ reads_of text _ _ (ended requests r left reads stays which) =
     let all : heard_of requests ++ heard_one r ≡ heard_of (requests ++ r ∷ []) = ap (λ h. heard_of requests ++ h) (sym (append-nil (heard_one r))) ∙ sym (flat_map-append heard_one requests (r ∷ [])) in
     let count : length requests ≡ 0 + length requests = omega arith in
     subst (λ h. Reads 0 text h 0) all
-    (reads_behind requests 0 text parts.left (heard_one r) 0 parts.reads stays.stays (omega (arith, stays.few)) (last r parts.len parts.first (subst (λ i. (closes_behind r ≡ true) ⊎ (i + 1 ≡ most_requests)) count which)))
+    (reads_behind requests 0 text parts.left (heard_one r) 0 parts.reads stays.stays (omega (arith, stays.few)) (last r parts.len parts.first (subst (λ i. IsEnd i r) count which)))
 
 -- A text has one reading.
 pub messages_one : (text : List ℕ) (one other : List Heard) (rest left : ℕ) → Messages text one rest → Messages text other left → (one ≡ other) × (rest ≡ left)
