@@ -32,7 +32,7 @@ use Rattle.http_conn.proofs.HeadEnds.{whole_stays, whole_there, long_stays, blan
 
 -- ---- longer texts
 
-head_stays : (text more : List ℕ) (len : ℕ) (said : RequestHead) (form : BodyForm) → HasHead text len said form → HasHead (text ++ more) len said form
+pub head_stays : (text more : List ℕ) (len : ℕ) (said : RequestHead) (form : BodyForm) → HasHead text len said form → HasHead (text ++ more) len said form
 head_stays text more len said form h =
     let there = whole_there text len h.ends in
     record {

@@ -132,24 +132,27 @@ read_not_bad text len said form _ h (long e) = let never : Whole len ≡ TooLong
 read_not_bad text len said form _ h (whole m s e k) =
     framed_not_found (take len text) said form s h.says h.framed (subst (λ i. Finding (take i text) s) (sym (same_length text len m h.ends e)) k)
 
+pub head_not_bad : (text : List ℕ) (len : ℕ) (said : RequestHead) (form : BodyForm) (status : ℕ) → HasHead text len said form → IsBadHead text status → ⊥
+head_not_bad text len said form status h b = read_not_bad text len said form status h (bad_of text status b)
+
 not_yet_not_bad : (text : List ℕ) (status : ℕ) → head_end text ≡ NotYet → BadHead text status → ⊥
 not_yet_not_bad text _ e (long f) = cc
 not_yet_not_bad text _ e (whole m s f k) = cc
 
 -- a text begins with one head
-record OneHead (n m : ℕ) (a b : RequestHead) (f g : BodyForm) : Type 0 where
-  len : n ≡ m
-  said : a ≡ b
-  form : f ≡ g
+pub record OneHead (n m : ℕ) (a b : RequestHead) (f g : BodyForm) : Type 0 where
+  pub len : n ≡ m
+  pub said : a ≡ b
+  pub form : f ≡ g
 
-one_head : (text : List ℕ) (n m : ℕ) (a b : RequestHead) (f g : BodyForm) → HasHead text n a f → HasHead text m b g → OneHead n m a b f g
+pub one_head : (text : List ℕ) (n m : ℕ) (a b : RequestHead) (f g : BodyForm) → HasHead text n a f → HasHead text m b g → OneHead n m a b f g
 one_head text n m a b f g x y =
     let len = same_length text n m x.ends y.ends in
     let says : Says (take n text) b = subst (λ i. Says (take i text) b) (sym len) y.says in
     let form : Ok f ≡ Ok g = framed_once (take n text) a b (Ok f) (Ok g) x.says says x.framed y.framed in
     record { len = len; said = same_said (take n text) a b x.says says; form = cc }
 
-not_yet_no_head : (text : List ℕ) (n : ℕ) (a : RequestHead) (f : BodyForm) → head_end text ≡ NotYet → HasHead text n a f → ⊥
+pub not_yet_no_head : (text : List ℕ) (n : ℕ) (a : RequestHead) (f : BodyForm) → head_end text ≡ NotYet → HasHead text n a f → ⊥
 not_yet_no_head text n a f e x = let never : NotYet ≡ Whole n = sym e ∙ x.ends in cc
 
 -- a body is one, and so is its size
@@ -171,7 +174,7 @@ one_body form text n m a b n_there m_there x y =
       same = ap body_of one.2;
     }
 
-first_one : (text : List ℕ) (r q : Request) (n m : ℕ) → IsFirst text r n → IsFirst text q m → (r ≡ q) × (n ≡ m)
+pub first_one : (text : List ℕ) (r q : Request) (n m : ℕ) → IsFirst text r n → IsFirst text q m → (r ≡ q) × (n ≡ m)
 first_one text r q n m x y =
     let head = one_head text x.head y.head x.said y.said x.form y.form x.begins y.begins in
     let behind : List ℕ = drop x.head text in
@@ -183,7 +186,7 @@ first_one text r q n m x y =
     (x.is ∙ ap₂ with_body head.said body.same ∙ sym y.is, omega (arith, x.ends, y.ends, head.len, body.size))
 
 -- the first of these stands, and the text isn't partial
-partial_not_first : (text : List ℕ) (hears : List Heard) (r : Request) (n : ℕ) → IsPartial text hears → IsFirst text r n → ⊥
+pub partial_not_first : (text : List ℕ) (hears : List Heard) (r : Request) (n : ℕ) → IsPartial text hears → IsFirst text r n → ⊥
 partial_not_first text _ r n (in_head e) x = not_yet_no_head text x.head x.said x.form e x.begins
 partial_not_first text _ r n (in_body len said form h p) x =
     let head = one_head text len x.head said x.said form x.form h x.begins in
@@ -192,8 +195,8 @@ partial_not_first text _ r n (in_body len said form h p) x =
     subst (λ f. IsBody f (take x.size behind) x.body) (sym head.form) (subst (λ i. IsBody x.form (take x.size (drop i text)) x.body) (sym head.len) x.is_body) in
     no_body_at_partial form (take x.size behind) (drop x.size behind) x.body (subst (IsPartialBody form) (sym (take-append-drop x.size behind)) p) body
 
-bad_not_first : (text : List ℕ) (hears : List Heard) (status : ℕ) (r : Request) (n : ℕ) → IsBad text hears status → IsFirst text r n → ⊥
-bad_not_first text _ _ r n (bad_head status b) x = read_not_bad text x.head x.said x.form status x.begins (bad_of text status b)
+pub bad_not_first : (text : List ℕ) (hears : List Heard) (status : ℕ) (r : Request) (n : ℕ) → IsBad text hears status → IsFirst text r n → ⊥
+bad_not_first text _ _ r n (bad_head status b) x = head_not_bad text x.head x.said x.form status x.begins b
 bad_not_first text _ _ r n (bad_body len said form fault h f) x =
     let head = one_head text len x.head said x.said form x.form h x.begins in
     let behind : List ℕ = drop len text in
@@ -204,7 +207,7 @@ bad_not_first text _ _ r n (bad_body len said form fault h f) x =
 partial_not_bad : (text : List ℕ) (a b : List Heard) (status : ℕ) → IsPartial text a → IsBad text b status → ⊥
 partial_not_bad text _ _ _ (in_head e) (bad_head status b) = not_yet_not_bad text status e (bad_of text status b)
 partial_not_bad text _ _ _ (in_head e) (bad_body len said form fault h f) = not_yet_no_head text len said form e h
-partial_not_bad text _ _ _ (in_body len said form h p) (bad_head status b) = read_not_bad text len said form status h (bad_of text status b)
+partial_not_bad text _ _ _ (in_body len said form h p) (bad_head status b) = head_not_bad text len said form status h b
 partial_not_bad text _ _ _ (in_body len said form h p) (bad_body m other g fault k f) =
     let head = one_head text len m said other form g h k in
     no_fault_at_partial form (drop len text) fault p
@@ -220,8 +223,8 @@ partial_one text _ _ (in_body len said form h p) (in_body m other g k q) =
 
 bad_one : (text : List ℕ) (a b : List Heard) (s t : ℕ) → IsBad text a s → IsBad text b t → (a ≡ b) × (s ≡ t)
 bad_one text _ _ _ _ (bad_head s x) (bad_head t y) = (refl, one_bad text s t (bad_of text s x) (bad_of text t y))
-bad_one text _ _ _ _ (bad_head s x) (bad_body m other g fault k f) = absurd (read_not_bad text m other g s k (bad_of text s x))
-bad_one text _ _ _ _ (bad_body len said form fault h f) (bad_head t y) = absurd (read_not_bad text len said form t h (bad_of text t y))
+bad_one text _ _ _ _ (bad_head s x) (bad_body m other g fault k f) = absurd (head_not_bad text m other g s k x)
+bad_one text _ _ _ _ (bad_body len said form fault h f) (bad_head t y) = absurd (head_not_bad text len said form t h y)
 bad_one text _ _ _ _ (bad_body len said form fault h f) (bad_body m other g second k e) =
     let head = one_head text len m said other form g h k in
     let same : IsFault form (drop len text) second = subst (λ x. IsFault x (drop len text) second) (sym head.form) (subst (λ i. IsFault g (drop i text) second) (sym head.len) e) in
@@ -235,13 +238,13 @@ pub data Reads : ℕ → List ℕ → List Heard → ℕ → Type 0 where
   next : {n : ℕ} {text : List ℕ} (r : Request) (len : ℕ) (hears : List Heard) (rest : ℕ) → IsFirst text r len → closes_behind r ≡ false → n + 1 < most_requests → Reads (n + 1) (drop len text) hears rest
       → Reads n text (heard_one r ++ hears) rest
 
-last_not_next : (n : ℕ) (r q : Request) → r ≡ q → IsEnd n r → closes_behind q ≡ false → n + 1 < most_requests → ⊥
+pub last_not_next : (n : ℕ) (r q : Request) → r ≡ q → IsEnd n r → closes_behind q ≡ false → n + 1 < most_requests → ⊥
 last_not_next n r q same (inl closing) stays few =
     let never : true ≡ false = sym closing ∙ ap closes_behind same ∙ stays in
     cc
 last_not_next n r q same (inr full) stays few = omega (arith, full, few)
 
-reads_one : (n : ℕ) (text : List ℕ) (a b : List Heard) (k l : ℕ) → Reads n text a k → Reads n text b l → (a ≡ b) × (k ≡ l)
+pub reads_one : (n : ℕ) (text : List ℕ) (a b : List Heard) (k l : ℕ) → Reads n text a k → Reads n text b l → (a ≡ b) × (k ≡ l)
 reads_one n text _ _ _ _ (partly a x) (partly b y) = (partial_one text a b x y, refl)
 reads_one n text _ _ _ _ (partly a x) (badly b t y) = absurd (partial_not_bad text a b t x y)
 reads_one n text _ _ _ _ (partly a x) (last q m y w) = absurd (partial_not_first text a q m x y)

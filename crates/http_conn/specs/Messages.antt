@@ -135,10 +135,13 @@ StaysOpen count (heard.Interim ∷ hears) = StaysOpen count hears
 StaysOpen count (heard.Request request ∷ hears) = (IsEnd count request → ⊥) × StaysOpen (count + 1) hears
 StaysOpen count (heard.Bad status ∷ hears) = ⊥
 
--- what is heard first in the text
+-- what is heard first in the text: what is heard in a front of it begins so
 pub record FirstHeard (text : List ℕ) (hears : List Heard) : Type 0 where
+  pub front : List ℕ
+  pub behind : List ℕ
+  pub cut : front ++ behind ≡ text
   pub all : List Heard
   pub rest : ℕ
-  pub messages : Messages text all rest
+  pub messages : Messages front all rest
   pub more : List Heard
   pub is : all ≡ hears ++ more
