@@ -3,7 +3,6 @@ use Rattle.std.proofs.Common.{◌≡◌, inl, inr, true, false, ℕ, ◌+◌, �
 use Rattle.std.proofs.lemmas.List.{append-nil, take-append-drop, length-take-le}
 use Rattle.std.specs.List.{AllByRecursion}
 use Rattle.std.proofs.lemmas.Grind.{flat_map-append}
-use Rattle.httparse.specs.Grammar as grammar
 use Rattle.pod_base.specs.declared.request.Request.{Request}
 use Rattle.pod_base.specs.declared.heard.Heard.{Heard}
 use Rattle.pod_base.specs.declared.heard.Heard.TheVariants as heard
@@ -14,9 +13,9 @@ use Rattle.http_head.specs.declared.form.BodyForm.{BodyForm}
 use Rattle.http_head.specs.declared.framed.FramingFault.{FramingFault}
 use Rattle.http_head.specs.declared.framed.FramingFault.TheVariants as framing_fault
 use Rattle.http_head.specs.Ends.{head_end}
-use Rattle.http_head.specs.Heads.{IsTooMany, IsMalformed, LacksHost, Says, host_count, lines_of, head_of}
+use Rattle.http_head.specs.Heads.{IsTooMany, IsMalformed, LacksHost, Says}
 use Rattle.http_head.specs.Framing.{framing}
-use Rattle.http_head.proofs.HeadsLemmas.{same_head}
+use Rattle.http_head.proofs.HeadsLemmas.{same_said, lacks_says}
 use Rattle.http_payload.specs.Chunks as chunks
 use Rattle.http_payload.specs.Bodies.{IsBody, IsFault, IsPartial as IsPartialBody}
 use Rattle.http_payload.proofs.LawLemmas.{one_reading, one_fault, no_fault_at_body, no_fault_at_partial, no_body_at_partial}
@@ -32,10 +31,6 @@ same_length : (text : List ℕ) (n m : ℕ) → head_end text ≡ Whole n → he
 unfolding length_of
 same_length text n m x y = ap length_of (sym x ∙ y)
 
--- a head says one thing
-same_said : (head : List ℕ) (a b : RequestHead) → Says head a → Says head b → a ≡ b
-same_said head a b x y = x.is ∙ ap head_of (same_head head x.parts y.parts x.whole y.whole) ∙ sym y.is
-
 -- why a whole head is bad, and the status
 data Finding (head : List ℕ) : ℕ → Type 0 where
   many : IsTooMany head → Finding head 431
@@ -50,11 +45,6 @@ many_says head said h s = omega (arith, h, s.lines)
 
 bad_says : (head : List ℕ) (said : RequestHead) → IsMalformed head → Says head said → ⊥
 bad_says head said h s = h.never s.parts s.whole
-
-lacks_says : (head : List ℕ) (said : RequestHead) → LacksHost head → Says head said → ⊥
-lacks_says head said h s =
-    let same : h.parts ≡ s.parts = same_head head h.parts s.parts h.whole s.whole in
-    h.hosts (ap (λ (p : grammar.RequestHead). host_count (lines_of p)) same ∙ s.hosts (sym (ap (λ (p : grammar.RequestHead). p.minor) same) ∙ h.minor))
 
 framed_once : (head : List ℕ) (a b : RequestHead) (r s : Result BodyForm FramingFault) → Says head a → Says head b → framing a.minor a.fields ≡ r → framing b.minor b.fields ≡ s → r ≡ s
 framed_once head a b r s x y f g = sym f ∙ ap (λ (h : RequestHead). framing h.minor h.fields) (same_said head a b x y) ∙ g
