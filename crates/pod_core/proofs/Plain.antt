@@ -8,7 +8,6 @@ use Rattle.pod_base.specs.declared.moment.Stamp.{Stamp}
 use Rattle.pod_base.specs.declared.request.Request.{Request}
 use Rattle.pod_base.specs.declared.response.Response.{Response}
 use Rattle.pod_core.specs.declared.document.Document.{Document}
-use Rattle.pod_core.specs.declared.entry.Entry.{Entry}
 use Rattle.pod_core.specs.declared.reply.Replied.{Replied}
 use Rattle.pod_core.specs.Paths.{is_member_path}
 use Rattle.pod_core.specs.Types.{is_graph, type_of}

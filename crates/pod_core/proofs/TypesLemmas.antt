@@ -1,9 +1,8 @@
 -- A type is text and stays within a line, trimmed too; and what a request tells of it.
-use Rattle.std.proofs.Common.{◌≡◌, ℕ, zero, suc, ◌<◌, ◌≤◌, ◌==◌, nat_le, Bool, true, false, ◌&&◌, List, [], ◌∷◌, ◌++◌, length, reverse, map, Option, Some, None, if◌then◌else◌, refl, sym, ap, arith, ◌∙◌, lit<, codes}
+use Rattle.std.proofs.Common.{◌≡◌, ℕ, zero, suc, ◌<◌, ◌≤◌, ◌==◌, nat_le, Bool, true, false, List, [], ◌∷◌, length, reverse, map, Option, Some, None, if◌then◌else◌, refl, sym, ap, arith, ◌∙◌, lit<, codes}
 use Rattle.std.specs.List.{list_all, filter, find, count_by}
 use Rattle.std.specs.Option.{option_map}
 use Rattle.std.specs.Str.{IsAscii, IsUtf8}
-use Rattle.std.proofs.Math.Bool.{and_comm}
 use Rattle.std.proofs.lemmas.Str.{IsUtf8-from_ascii}
 use Rattle.std.proofs.lemmas.Bool.{and_parts, and_from}
 use Rattle.std.proofs.lemmas.Bool.Decides.{nat_tests}
@@ -13,7 +12,7 @@ use Rattle.std.proofs.lemmas.List.Sums.{length-filter}
 use Rattle.http_out.specs.Text.{stays_in_line}
 use Rattle.pod_base.specs.declared.field.Field.{Field}
 use Rattle.pod_base.specs.Fields.{is_named}
-use Rattle.pod_core.specs.Types.{is_printable, is_type, IsType, tells_type, is_blank, skip_blanks, trimmed, told_types, told_type, untold_type, type_by, type_of}
+use Rattle.pod_core.specs.Types.{is_printable, is_type, IsType, tells_type, is_blank, skip_blanks, trimmed, told_type, untold_type, type_by, type_of}
 
 printable_is_ascii : (b : ℕ) → is_printable b ≡ true → b < 128
 printable_is_ascii b h = grind (arith, nat_tests)

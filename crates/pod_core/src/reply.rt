@@ -66,7 +66,14 @@ fn written(alloc: Global, pod: &Pod, path: &str) -> Mem<Response>
 }
 
 /// What a PUT puts at its target.
-fn entry(alloc: Global, request: &Request, path: &str, ctype: ContentType, seq: u64, stamp: Stamp) -> Mem<Entry>
+fn entry(
+    alloc: Global,
+    request: &Request,
+    path: &str,
+    ctype: ContentType,
+    seq: u64,
+    stamp: Stamp,
+) -> Mem<Entry>
     ensures { IfOk result (λ e. e ≡ reply.entry_at path.now request.now.body ctype seq stamp) }
 {
     let path = Text::of(alloc, path)?;
@@ -84,7 +91,14 @@ fn entry(alloc: Global, request: &Request, path: &str, ctype: ContentType, seq: 
 }
 
 /// The reply to a PUT, by the type of its body.
-fn put(alloc: Global, pod: &Pod, request: &Request, path: &str, seq: u64, stamp: Stamp) -> Mem<Replied>
+fn put(
+    alloc: Global,
+    pod: &Pod,
+    request: &Request,
+    path: &str,
+    seq: u64,
+    stamp: Stamp,
+) -> Mem<Replied>
     requires long { 1 ≤ length path.now }
     requires target { path.now ≡ request.now.target }
     ensures { IfOk result (λ r. r ≡ reply.put_of pod.now request.now seq stamp (types.type_of request.now.fields request.now.body)) }
@@ -104,7 +118,14 @@ fn put(alloc: Global, pod: &Pod, request: &Request, path: &str, seq: u64, stamp:
 }
 
 /// The reply at a path of the pod, by the method.
-fn reply_at(alloc: Global, pod: &Pod, request: &Request, path: &str, seq: u64, stamp: Stamp) -> Mem<Replied>
+fn reply_at(
+    alloc: Global,
+    pod: &Pod,
+    request: &Request,
+    path: &str,
+    seq: u64,
+    stamp: Stamp,
+) -> Mem<Replied>
     requires long { 1 ≤ length path.now }
     requires target { path.now ≡ request.now.target }
     ensures reply { IfOk result (λ r. r ≡ reply.reply_at pod.now request.now seq stamp request.now.method) }

@@ -1,4 +1,4 @@
-use Rattle.std.proofs.Common.{ℕ, ◌≤◌, ◌<◌, sym, ap, ◌∙◌, subst}
+use Rattle.std.proofs.Common.{◌≤◌, ◌<◌, sym, ap, ◌∙◌, subst}
 use Rattle.pod_core.specs.declared.reply.Replied.{Replied}
 use Rattle.pod_base.specs.declared.response.Response.{Response}
 use Rattle.pod_core.specs.Reply.{sent_to}

@@ -1,7 +1,5 @@
-use Rattle.std.proofs.Common.{◌≡◌, true, sym, ap, ◌∙◌, subst, IsTrue, is_some}
-use Rattle.std.specs.List.{list_all}
-use Rattle.http_out.specs.Text.{stays_in_line}
-use Rattle.pod_core.specs.Paths.{is_member_path, uri_of}
+use Rattle.std.proofs.Common.{◌≡◌, true, sym, ap, ◌∙◌, is_some}
+use Rattle.pod_core.specs.Paths.{is_member_path}
 use Rattle.pod_core.proofs.PathsLemmas.{uri_stays}
 use Rattle.pod_core.proofs.reply.whole_reply.Goals as goal
 
