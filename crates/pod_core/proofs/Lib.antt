@@ -1,3 +1,4 @@
-pub mod LinesLemmas
 pub mod PathsLemmas
+pub mod Plain
 pub mod RowsLemmas
+pub mod TypesLemmas

@@ -1,3 +1,4 @@
 pub mod Paths
-pub mod State
 pub mod Reply
+pub mod State
+pub mod Types

@@ -16,11 +16,12 @@ pub record State : Type 0 where
   pub owner : List ℕ
   pub rows : Rows
 
--- a document is told from another by its bytes and its moment
+-- a document is told from another by its bytes, its type and its moment
 abbrev pub document_code : Coded Document
 document_code =
-    code_by (List ℕ × ℕ) (coded× (coded_list coded_ℕ) coded_ℕ) (λ d. (d.bytes, d.modified.0))
-    (λ p. record { bytes = p.0; modified = record { 0 = p.1 } }) (λ _. refl)
+    code_by (List ℕ × (List ℕ × ℕ)) (coded× (coded_list coded_ℕ) (coded× (coded_list coded_ℕ) coded_ℕ))
+    (λ d. (d.bytes, (d.ctype, d.modified.0)))
+    (λ p. record { bytes = p.0; ctype = p.1.0; modified = record { 0 = p.1.1 } }) (λ _. refl)
 
 abbrev pub state_code : Coded State
 state_code =

@@ -1,14 +1,17 @@
-ghost use Rattle.std.specs.Prelude.{◌≡◌, ◌≤◌, ◌<◌, ◌++◌, ◌∷◌, [], length, IfOk, IsTrue};
+ghost use Rattle.std.specs.Prelude.{◌≡◌, ◌≤◌, ◌<◌, length, IfOk, IsTrue};
 ghost use Rattle.std.specs.List.{list_all};
 ghost use Rattle.http_out.specs.Text.{stays_in_line, AreFieldLines};
 ghost use Rattle.pod_core.specs.Paths.{uri_of};
 ghost use Rattle.pod_core.specs.Reply as reply;
+ghost use Rattle.pod_core.specs.Types as types;
 
+use crate::content_type::ContentType;
 use crate::document::Document;
 use crate::entry::Entry;
 use crate::path::member_path;
 use crate::pod::Pod;
-use pod_base::{Body, Bytes, Field, Fields, Mem, Method, Request, Response, Stamp, Text};
+use crate::response::{created, refusal, replaced, sent_to, shown};
+use pod_base::{Mem, Method, Request, Response, Stamp, Text};
 use std::alloc::Global;
 
 /// The reply to a request: a response, and an entry where the request changes the pod.
@@ -28,133 +31,22 @@ pub fn is_change(method: Method) -> bool
     )
 }
 
-/// A field of a response.
-fn field(alloc: Global, name: &str, value: Bytes) -> Mem<Field>
-    ensures { IfOk result (λ f. f ≡ reply.field name.now value) }
+/// A refusal, which changes nothing.
+fn refused(alloc: Global, status: u16, word: &[u8]) -> Mem<Replied>
+    ensures { IfOk result (λ r. r ≡ reply.refused status word.now) }
 {
-    let name = Text::of(alloc, name)?;
-    Ok(Field { name, value })
-}
-
-/// Two texts, one after the other.
-fn joined(alloc: Global, front: &[u8], back: &[u8]) -> Mem<Bytes>
-    ensures { IfOk result (λ bytes. bytes ≡ front.now ++ back.now) }
-{
-    let mut bytes = Bytes::of(alloc, front)?;
-    bytes.append(alloc, back)?;
-    Ok(bytes)
-}
-
-/// The URI of a path, which begins with a slash.
-fn uri(alloc: Global, base: &str, path: &[u8]) -> Mem<Bytes>
-    requires { 1 ≤ length path.now }
-    ensures { IfOk result (λ bytes. bytes ≡ uri_of base.now path.now) }
-{
-    joined(alloc, base.as_bytes(), &path[1..])
-}
-
-/// Where the access list of a path stands.
-fn acl_link(alloc: Global, base: &str, path: &[u8]) -> Mem<Field>
-    requires { 1 ≤ length path.now }
-    ensures { IfOk result (λ f. f ≡ reply.acl_link base.now path.now) }
-{
-    let uri = uri(alloc, base, path)?;
-    let mut value = joined(alloc, b"<", uri.as_slice())?;
-    value.append(alloc, b".acl>; rel=\"acl\"")?;
-    field(alloc, "Link", value)
-}
-
-/// A refusal, which tells its word in a body of `text/plain`.
-pub fn refusal(alloc: Global, status: u16, word: &[u8]) -> Mem<Response>
-    ensures { IfOk result (λ r. r ≡ reply.refusal status word.now) }
-{
-    let text = Bytes::of(alloc, b"text/plain")?;
-    let ctype = field(alloc, "Content-Type", text)?;
-    let mut fields = Fields::new(alloc);
-    fields.add(alloc, ctype)?;
-    let body = Body::Whole(joined(alloc, word, b"\n")?);
-    Ok(Response {
-        status,
-        fields,
-        body,
-    })
-}
-
-/// A document is shown.
-fn shown(alloc: Global, base: &str, path: &[u8], document: &Document) -> Mem<Response>
-    requires { 1 ≤ length path.now }
-    ensures { IfOk result (λ r. r ≡ reply.shown base.now path.now document.now) }
-{
-    let octets = Bytes::of(alloc, b"application/octet-stream")?;
-    let ctype = field(alloc, "Content-Type", octets)?;
-    let link = acl_link(alloc, base, path)?;
-    let fields = two(alloc, ctype, link)?;
-    let body = Body::Whole(document.bytes.copy(alloc)?);
-    Ok(Response {
-        status: 200,
-        fields,
-        body,
-    })
-}
-
-/// A document was made.
-fn created(alloc: Global, base: &str, path: &[u8]) -> Mem<Response>
-    requires { 1 ≤ length path.now }
-    ensures { IfOk result (λ r. r ≡ reply.created base.now path.now) }
-{
-    let uri = uri(alloc, base, path)?;
-    let location = field(alloc, "Location", uri)?;
-    let link = acl_link(alloc, base, path)?;
-    let fields = two(alloc, location, link)?;
-    Ok(Response {
-        status: 201,
-        fields,
-        body: Body::Absent,
-    })
-}
-
-/// A document was replaced.
-fn replaced(alloc: Global) -> Response
-    ensures { result ≡ reply.replaced }
-{
-    Response {
-        status: 204,
-        fields: Fields::new(alloc),
-        body: Body::Absent,
-    }
-}
-
-/// Two fields.
-fn two(alloc: Global, first: Field, second: Field) -> Mem<Fields>
-    ensures { IfOk result (λ fields. fields ≡ first ∷ second ∷ []) }
-{
-    let mut fields = Fields::new(alloc);
-    fields.add(alloc, first)?;
-    fields.add(alloc, second)?;
-    Ok(fields)
-}
-
-/// What a PUT puts at its target.
-fn entry(alloc: Global, path: &str, body: &Bytes, seq: u64, stamp: Stamp) -> Mem<Entry>
-    ensures { IfOk result (λ e. e ≡ reply.entry_at path.now body.now seq stamp) }
-{
-    let path = Text::of(alloc, path)?;
-    let bytes = body.copy(alloc)?;
-    Ok(Entry {
-        seq,
-        stamp,
-        path,
-        document: Document {
-            bytes,
-            modified: stamp.moment,
-        },
+    let response = refusal(alloc, status, word)?;
+    Ok(Replied {
+        response,
+        entry: None,
     })
 }
 
 /// The response to a GET.
 fn read(alloc: Global, pod: &Pod, path: &str) -> Mem<Response>
     requires { 1 ≤ length path.now }
-    ensures { IfOk result (λ r. r ≡ reply.read_at pod.now path.now) }
+    ensures response { IfOk result (λ r. r ≡ reply.read_at pod.now path.now) }
+    ensures lines { IsTrue (list_all stays_in_line (uri_of pod.now.base path.now)) → IfOk result (λ r. AreFieldLines r.fields) }
 {
     match pod.find(path) {
         Some(document) => shown(alloc, pod.base(), path.as_bytes(), document),
@@ -173,36 +65,111 @@ fn written(alloc: Global, pod: &Pod, path: &str) -> Mem<Response>
     }
 }
 
-/// The reply to a request.
-fn reply_to(alloc: Global, pod: &Pod, request: &Request, seq: u64, stamp: Stamp) -> Mem<Replied>
-    ensures { IfOk result (λ r. r ≡ reply.reply_of pod.now request.now seq stamp) }
+/// What a PUT puts at its target.
+fn entry(
+    alloc: Global,
+    request: &Request,
+    path: &str,
+    ctype: ContentType,
+    seq: u64,
+    stamp: Stamp,
+) -> Mem<Entry>
+    ensures { IfOk result (λ e. e ≡ reply.entry_at path.now request.now.body ctype seq stamp) }
 {
-    let mut entry_made = None;
-    let response = match (member_path(request.target.as_slice()), request.method) {
-        (None, _) => refusal(alloc, 400, b"path")?,
-        (Some(path), Method::Get) => read(alloc, pod, path)?,
-        (Some(path), Method::Put) => {
-            entry_made = Some(entry(alloc, path, &request.body, seq, stamp)?);
-            written(alloc, pod, path)?
-        }
-        (Some(_path), _) => refusal(alloc, 501, b"method")?,
+    let path = Text::of(alloc, path)?;
+    let bytes = request.body.copy(alloc)?;
+    Ok(Entry {
+        seq,
+        stamp,
+        path,
+        document: Document {
+            bytes,
+            ctype,
+            modified: stamp.moment,
+        },
+    })
+}
+
+/// The reply to a PUT, by the type of its body.
+fn put(
+    alloc: Global,
+    pod: &Pod,
+    request: &Request,
+    path: &str,
+    seq: u64,
+    stamp: Stamp,
+) -> Mem<Replied>
+    requires long { 1 ≤ length path.now }
+    requires target { path.now ≡ request.now.target }
+    ensures { IfOk result (λ r. r ≡ reply.put_of pod.now request.now seq stamp (types.type_of request.now.fields request.now.body)) }
+{
+    let Some(ctype) = ContentType::read(alloc, &request.fields, request.body.as_slice())? else {
+        return refused(alloc, 400, b"no-type");
     };
+    if ctype.is_graph() {
+        return refused(alloc, 415, b"type");
+    }
+    let entry = entry(alloc, request, path, ctype, seq, stamp)?;
+    let response = written(alloc, pod, path)?;
     Ok(Replied {
         response,
-        entry: entry_made,
+        entry: Some(entry),
     })
+}
+
+/// The reply at a path of the pod, by the method.
+fn reply_at(
+    alloc: Global,
+    pod: &Pod,
+    request: &Request,
+    path: &str,
+    seq: u64,
+    stamp: Stamp,
+) -> Mem<Replied>
+    requires long { 1 ≤ length path.now }
+    requires target { path.now ≡ request.now.target }
+    ensures reply { IfOk result (λ r. r ≡ reply.reply_at pod.now request.now seq stamp request.now.method) }
+    ensures lines { IsTrue (list_all stays_in_line (uri_of pod.now.base path.now)) → IfOk result (λ r. AreFieldLines r.response.fields) }
+{
+    match request.method {
+        Method::Get | Method::Head => {
+            let response = read(alloc, pod, path)?;
+            Ok(Replied {
+                response,
+                entry: None,
+            })
+        }
+        Method::Put => put(alloc, pod, request, path, seq, stamp),
+        _ => refused(alloc, 501, b"method"),
+    }
+}
+
+/// The reply to a request, its body still whole.
+fn whole_reply(alloc: Global, pod: &Pod, request: &Request, seq: u64, stamp: Stamp) -> Mem<Replied>
+    ensures reply { IfOk result (λ r. r ≡ reply.whole_reply pod.now request.now seq stamp) }
+    ensures lines { IsTrue (list_all stays_in_line pod.now.base) → IfOk result (λ r. AreFieldLines r.response.fields) }
+{
+    match member_path(request.target.as_slice()) {
+        Some(path) => reply_at(alloc, pod, request, path, seq, stamp),
+        None => refused(alloc, 400, b"path"),
+    }
 }
 
 /// The one reply of a pod to a request. Its entry, where it has one, gets that number and that stamp.
 ///
-/// A target that is no path of this pod is 400 `path`, a method other than GET and PUT is 501 `method`, and
-/// a GET of no document is 404 `missing`, in this order. Else a GET is 200, and a PUT is 201 where there was
-/// no document, and 204 where there was one.
+/// The refusals, in this order: a target that is no path of this pod is 400 `path`; a method other than GET, HEAD and PUT
+/// is 501 `method`; a PUT without a type is 400 `no-type`, and one of a type of graphs is 415 `type`; a GET or HEAD
+/// of no document is 404 `missing`. Else a GET or HEAD is 200, and a PUT is 201 where there was no document, and 204
+/// where there was one. What answers a HEAD tells the length of its body in place of the bytes.
 pub fn answer(alloc: Global, pod: &Pod, request: &Request, seq: u64, stamp: Stamp) -> Mem<Replied>
     ensures reply { IfOk result (λ r. r ≡ reply.reply_of pod.now request.now seq stamp) }
     // It has a status, and no field breaks its line, so no request can write a head of its own.
     ensures status { IfOk result (λ r. (200 ≤ r.response.status) × (r.response.status < 600)) }
     ensures lines { IsTrue (list_all stays_in_line pod.now.base) → IfOk result (λ r. AreFieldLines r.response.fields) }
 {
-    reply_to(alloc, pod, request, seq, stamp)
+    let whole = whole_reply(alloc, pod, request, seq, stamp)?;
+    Ok(Replied {
+        response: sent_to(request.method, whole.response),
+        entry: whole.entry,
+    })
 }
