@@ -1,6 +1,6 @@
 -- What the parts of a renewal leave.
-use Rattle.std.proofs.Common.{◌≡◌, ◌≢◌, inl, inr, ⊎_elim, ℕ, ◌+◌, ◌≤◌, ◌^◌, List, Option, [], ◌∷◌, ◌++◌, length, take, drop, get_or, false, refl, sym, ◌∙◌, ap, subst, arith, append_assoc, take-append-drop}
-use Rattle.std.proofs.lemmas.List.{drop_at, drop_more, append-nil, length-take-le}
+use Rattle.std.proofs.Common.{◌≡◌, ◌≢◌, inl, inr, ⊎_elim, ℕ, ◌+◌, ◌≤◌, ◌^◌, List, Option, [], ◌∷◌, ◌++◌, length, take, drop, get_or, false, refl, sym, ◌∙◌, ap, subst, arith, append_assoc, length-append, take-append-drop}
+use Rattle.std.proofs.lemmas.List.{take_at, drop_at, drop_more, append-nil, length-take-le}
 use Rattle.pod_io.specs.Told.{IfTold}
 use Rattle.pod_disk.specs.Disk.{Each, Torn, LeavesOnly, overwritten}
 use Rattle.pod_disk.proofs.Moments.{both, weaker, joined}
@@ -46,9 +46,27 @@ over_told images content at bytes P Q told makes over c now =
     let from = over c now in
     subst Q (sym from.2) (makes from.0 (told from.0 from.1))
 
--- head and gate, written at the front
-pub front_over : (head front b : List ℕ) (gate : ℕ) → front ≡ head ++ gate ∷ [] → (rest : List ℕ) × (overwritten 0 front b ≡ head ++ (gate ∷ rest))
-front_over head front b gate is = (drop (0 + length front) b, ap (λ (l : List ℕ). l ++ drop (0 + length front) b) is ∙ append_assoc head (gate ∷ []) (drop (0 + length front) b))
+-- a front, and a record behind it, in one piece
+pub one_piece : (head front framed all : List ℕ) (gate : ℕ) → all ≡ front ++ framed → front ≡ head ++ gate ∷ [] → all ≡ head ++ (gate ∷ framed)
+one_piece head front framed all gate is front_is = is ∙ ap (λ (l : List ℕ). l ++ framed) front_is ∙ append_assoc head (gate ∷ []) framed
+
+pub length_piece : (head framed all : List ℕ) (gate : ℕ) → length head ≡ 16 → all ≡ head ++ (gate ∷ framed) → length all ≡ 17 + length framed
+length_piece head framed all gate whole is = omega (arith, ap length is, length-append head (gate ∷ framed), whole)
+
+-- where it is written at the front of a disk, all of it stands there
+pub piece_over : (content : Option (List ℕ)) (head framed all c : List ℕ) (gate : ℕ) → all ≡ head ++ (gate ∷ framed) → IsOver content 0 all c → IsGated head gate framed c
+piece_over content head framed all c gate is over =
+    let rest = drop (0 + length all) over.0 in
+    (rest, over.2 ∙ ap (λ (l : List ℕ). l ++ rest) is ∙ append_assoc head (gate ∷ framed) rest)
+
+-- where its head and its record are written apart, with a closed gate between them, too
+pub piece_apart : (images : List ℕ → Type 0) (head framed all : List ℕ) → length head ≡ 16 → all ≡ head ++ (0 ∷ framed)
+    → Each images (IsGated (take 16 all) 0 (drop 17 all)) → Each images (IsGated head 0 framed)
+piece_apart images head framed all whole is gated =
+    let head_is : take 16 all ≡ head = ap (λ (l : List ℕ). take 16 l) is ∙ take_at head (0 ∷ framed) 16 whole in
+    let framed_is : drop 17 all ≡ framed =
+    ap (λ (l : List ℕ). drop 17 l) (is ∙ sym (append_assoc head (0 ∷ []) framed)) ∙ drop_at (head ++ 0 ∷ []) framed 17 (omega (arith, length-append head (0 ∷ []), whole)) in
+    subst (λ (l : List ℕ). Each images (IsGated head 0 l)) framed_is (subst (λ (l : List ℕ). Each images (IsGated l 0 (drop 17 all))) head_is gated)
 
 module _ {D : Type 0} (image : D → List ℕ → Type 0) (moment : D → ℕ) (left_since : D → ℕ → List ℕ → Type 0) where
   -- a head written before a closed first gate

@@ -3,6 +3,7 @@ pub mod Heads
 pub mod Images
 pub mod Laws
 pub mod Held
+pub mod Parts
 pub mod Gates
 pub mod Resting
 pub mod Reading

@@ -1,41 +1,35 @@
 ghost use Rattle.std.specs.Prelude.{◌≡◌, ◌<◌, ◌^◌, length, IfOk};
 ghost use Rattle.journal_log.specs.Frames.{framed_of};
 
+use crate::written::Written;
 use pod_base::Mem;
 use std::alloc::Global;
 use std::marker::Model;
 
-/// A record as it is written: its length as eight bytes, its body, and a closed gate. Contracts see its body.
+/// A record as it is written: its length as eight bytes, its body, and a closed gate. In front of them it has room for a
+/// head and a first gate, so that a first record can go out with these in one write. Contracts see its body.
 #[derive(Drop)]
 pub struct Framed {
-    bytes: Vec<u8>,
+    pub(crate) written: Written,
 }
 
 impl Model for Framed {
-    ghost use Rattle.std.specs.Prelude.{◌≡◌, ◌<◌, ◌^◌, List, ℕ, length};
+    ghost use Rattle.std.specs.Prelude.{List, ℕ};
     ghost use Rattle.std.specs.Coded.{coded_list, coded_ℕ};
-    ghost use Rattle.journal_log.specs.Frames.{framed_of};
-    ghost use Rattle.journal_log.specs.Resting.{body_of};
 
     ghost Value = { List ℕ };
 
     ghost coded = { coded_list coded_ℕ };
 
-    ghost view = { λ f. body_of f.bytes.items };
-
-    ghost invariant = { λ f. (f.bytes.items ≡ framed_of (body_of f.bytes.items)) × (length f.bytes.items < 2 ^ 63) };
+    ghost view = { λ f. f.written.body };
 }
 
 /// Prepares a record with this body.
 pub fn frame(alloc: Global, body: &[u8]) -> Mem<Framed>
     ensures { IfOk result (λ framed. framed ≡ body.now) }
 {
-    let mut bytes = Vec::new(alloc);
-    bytes.reserve(body.len() + 9)?;
-    bytes.extend_from_slice(&(body.len() as u64).to_be_bytes())?;
-    bytes.extend_from_slice(body)?;
-    bytes.push(0)?;
-    Ok(Framed { bytes })
+    let written = Written::of(alloc, body)?;
+    Ok(Framed { written })
 }
 
 impl Framed {
@@ -44,6 +38,6 @@ impl Framed {
         ensures framed { result.now ≡ framed_of self.now }
         ensures short { length self.now < 2 ^ 63 }
     {
-        &self.bytes
+        self.written.framed()
     }
 }

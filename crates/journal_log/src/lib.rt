@@ -16,6 +16,7 @@ mod scan;
 mod walk;
 mod window;
 mod writes;
+mod written;
 
 pub use fault::{DiskFault, OpenFault, RenewFault, Side};
 pub use framed::{Framed, frame};
