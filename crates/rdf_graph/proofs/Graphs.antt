@@ -1,5 +1,5 @@
 -- What an insert, a removal and a sort leave of a graph.
-use Rattle.std.proofs.Common.{ℕ, ◌≡◌, ◌⊎◌, List, [], Some, refl, sym, subst, inl, ⊎_elim}
+use Rattle.std.proofs.Common.{ℕ, ◌≡◌, List, [], Some, refl, sym, subst, inl, ⊎_elim}
 use Rattle.std.specs.Prelude.{slice_get}
 use Rattle.std.specs.List.{All, Contains, insert, remove, dedup}
 use Rattle.std.specs.List.Sorted.{IsSorted, IsPermutation}

@@ -1,5 +1,5 @@
 -- Labels that conditions share, and the groups that they make.
-use Rattle.std.proofs.Common.{ℕ, zero, suc, ◌+◌, ◌<◌, ◌≡◌, ◌⊎◌, List, [], ◌∷◌, ◌++◌, Bool, true, false, cond, None, Some, refl, sym, ap, ◌∙◌, subst, inl, inr, ⊎_elim, length, take, drop, get_or, set, arith, eqb}
+use Rattle.std.proofs.Common.{ℕ, zero, suc, ◌+◌, ◌<◌, ◌≡◌, List, [], ◌∷◌, ◌++◌, Bool, true, false, cond, None, Some, refl, sym, ap, ◌∙◌, subst, inl, inr, ⊎_elim, length, take, drop, get_or, set, arith, eqb}
 use Rattle.std.specs.Prelude.{slice_get, map, option_map}
 use Rattle.std.specs.List.{Contains, All}
 use Rattle.std.proofs.lemmas.Bool.{cases_order, eq-eqb}

@@ -7,6 +7,7 @@ pub mod Legible
 pub mod Members
 pub mod Merging
 pub mod Patching
+pub mod Ranking
 pub mod Solving
 pub mod Sorted
 pub mod Spans

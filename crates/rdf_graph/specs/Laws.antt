@@ -1,5 +1,5 @@
 -- What follows from the definitions.
-use Rattle.std.specs.Prelude.{ℕ, List, [], ◌≡◌, ◌≢◌, All, Contains}
+use Rattle.std.specs.Prelude.{List, [], ◌≡◌, ◌≢◌, All, Contains}
 use Rattle.std.specs.declared.cmp.Ordering.TheVariants.{Less, Equal, Greater}
 use Rattle.rdf_graph.specs.Change.{IsChanged}
 use Rattle.rdf_graph.specs.Graph.{IsGraph, SameSet, graph_text}

@@ -1,4 +1,5 @@
 pub mod Change
+pub mod Compare
 pub mod Graph
 pub mod Groups
 pub mod Laws

@@ -1,5 +1,5 @@
 -- `==` of terms is equality.
-use Rattle.std.proofs.Common.{◌≡◌, true, false, refl, sym, ap}
+use Rattle.std.proofs.Common.{◌≡◌, refl, sym, ap}
 use Rattle.std.specs.Bool.{Decides, one_answer}
 use Rattle.std.specs.Cmp.{IsEquivalence}
 use Rattle.std.proofs.lemmas.Bool.{and_parts, and_from, false≢true}

@@ -1,5 +1,4 @@
 -- The order of triples is total, and triples that it does not tell apart are equal.
-use Rattle.std.proofs.Common.{ℕ, refl}
 use Rattle.std.proofs.lemmas.Cmp.{on_total, then_total, nat_list_cmp_total}
 use Rattle.std.specs.Cmp.{IsTotalOrder}
 use Rattle.rdf_graph.specs.Term.{text}

@@ -4,6 +4,7 @@
 mod bind;
 mod bound;
 mod change;
+mod compare;
 mod graph;
 mod groups;
 mod laws;

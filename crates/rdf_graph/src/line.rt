@@ -1,9 +1,8 @@
 //! The line of a triple, byte by byte.
 ghost use Rattle.std.specs.Prelude.{◌≡◌};
-ghost use Rattle.std.specs.Ordering.{nat_cmp};
-ghost use Rattle.std.specs.Cmp.Lexicographic.{slice_cmp};
 ghost use Rattle.rdf_graph.specs.Triple.{line, opening, begins_cmp};
 ghost use Rattle.rdf_graph.specs.Line.{line_rest};
+ghost use Rattle.rdf_graph.specs.Compare.{from_predicate, from_object};
 
 use crate::term::{Term, Written};
 use crate::triple::Triple;
@@ -103,11 +102,24 @@ impl Triple {
         }
     }
 
-    /// The byte order of the triples' lines.
-    pub fn cmp_line(&self, other: &Triple) -> Ordering
-        ensures { result ≡ slice_cmp nat_cmp (line self.now) (line other.now) }
+    /// The bytes of the triple's line from its predicate on.
+    pub(crate) fn line_from_predicate(&self) -> Line<'_>
+        ensures { line_rest result ≡ from_predicate self.now }
     {
-        self.line().cmp(other.line())
+        Line {
+            now: self.p.written(),
+            then: Then::Object(self),
+        }
+    }
+
+    /// The bytes of the triple's line from its object on.
+    pub(crate) fn line_from_object(&self) -> Line<'_>
+        ensures { line_rest result ≡ from_object self.now }
+    {
+        Line {
+            now: self.o.written(),
+            then: Then::Stop,
+        }
     }
 
     /// Where the triple's line stands against those of a subject.

@@ -1,7 +1,5 @@
 //! Terms and their texts.
 ghost use Rattle.std.specs.Prelude.{◌≡◌, ◌∷◌, IsTrue, ◌↔◌, IfOk, ℕ, List, ◌++◌};
-ghost use Rattle.std.specs.Ordering.{nat_cmp};
-ghost use Rattle.std.specs.Cmp.Lexicographic.{slice_cmp};
 ghost use Rattle.rdf_graph.specs.Term.{text, escaped_byte, term_eq, IsIri, IsLiteral};
 ghost use Rattle.std.specs.Cmp.{partial_equiv_from_equiv};
 ghost use Rattle.rdf_graph.specs.TermLaws.{term_eq_laws};
@@ -10,7 +8,6 @@ ghost use Rattle.rdf_graph.specs.Written.{written_rest};
 use iri_ref::Iri;
 use pod_base::{Mem, NoMemory, Text};
 use std::alloc::Global;
-use std::cmp::Ordering;
 
 /// The IRI of the datatype that a literal's text leaves out.
 const XSD_STRING: &str = "http://www.w3.org/2001/XMLSchema#string";
@@ -120,13 +117,6 @@ impl Term {
                 Ok(Term::Tagged { lexical, lang })
             }
         }
-    }
-
-    /// The byte order of the terms' texts.
-    pub fn cmp_text(&self, other: &Term) -> Ordering
-        ensures { result ≡ slice_cmp nat_cmp (text self.now) (text other.now) }
-    {
-        self.written().cmp(other.written())
     }
 
     /// Whether the term is an IRI.

@@ -287,6 +287,39 @@ fn lines_stand_in_byte_order(rt: HostRuntime) -> Result<(), Fail> {
     Ok(())
 }
 
+/// Where one IRI or label begins another, the byte behind the shorter one decides, or what follows that byte.
+#[test]
+fn a_term_that_begins_another_has_its_place(rt: HostRuntime) -> Result<(), Fail> {
+    let alloc = rt.alloc();
+    let iris: [Row<'_>; 4] = [
+        ["<ab", "<p", "'x"],
+        ["<a", "<p", "'x"],
+        ["<a1", "<p/q", "'x"],
+        ["<a-", "<p", "'x"],
+    ];
+    assert!(rt;
+        have_text(
+            alloc,
+            &iris,
+            b"<http://e.example/a-> <http://e.example/p> \"x\" .\n<http://e.example/a1> <http://e.example/p/q> \"x\" .\n<http://e.example/a> <http://e.example/p> \"x\" .\n<http://e.example/ab> <http://e.example/p> \"x\" .\n"
+        )?
+    );
+    let labels: [Row<'_>; 4] = [
+        ["_b", "<p", "<o"],
+        ["_b c", "<p", "<o"],
+        ["_b-", "<p", "<o"],
+        ["_b-", "<p/q", "<o"],
+    ];
+    assert!(rt;
+        have_text(
+            alloc,
+            &labels,
+            b"_:b <http://e.example/p> <http://e.example/o> .\n_:b c <http://e.example/p> <http://e.example/o> .\n_:b- <http://e.example/p/q> <http://e.example/o> .\n_:b- <http://e.example/p> <http://e.example/o> .\n"
+        )?
+    );
+    Ok(())
+}
+
 fn numbered_iri(alloc: Global, kind: &str, number: usize) -> Result<Iri, Fail> {
     let text = format!(in alloc; "http://e.example/{kind}{number}")?;
     Ok(Iri::read(alloc, text.as_str())?)

@@ -1,4 +1,4 @@
-use Rattle.std.proofs.Common.{◌<◌, ◌+◌, ◌∙◌, ap, sym, subst, true, false, arith, length, refl}
+use Rattle.std.proofs.Common.{◌<◌, ◌+◌, ◌∙◌, ap, sym, subst, arith, length}
 use Rattle.std.proofs.lemmas.Bool.{true≢false}
 use Rattle.rdf_graph.specs.Place.{ComesFirst}
 use Rattle.rdf_graph.proofs.Merging.{IsMerging, merging_none, step_added, step_passed, step_skipped, step_kept, merged}

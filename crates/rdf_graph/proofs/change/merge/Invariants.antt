@@ -1,4 +1,4 @@
-use Rattle.std.proofs.Common.{◌+◌, ◌-◌, ◌≤◌, ℕ, length}
+use Rattle.std.proofs.Common.{◌+◌, ◌-◌, ◌≤◌, length}
 use Rattle.rdf_graph.proofs.Merging.{IsMerging}
 use Rattle.rdf_graph.proofs.change.merge.Given as goal
 

@@ -1,4 +1,4 @@
-use Rattle.std.proofs.Common.{◌≡◌, ◌∙◌, ◌<◌, ◌≤◌, ◌+◌, ap, sym, subst, length, map, set, true, false, take, arith, Some, None, cond, refl}
+use Rattle.std.proofs.Common.{◌≡◌, ◌∙◌, ◌<◌, ◌≤◌, ◌+◌, ap, sym, subst, length, map, set, true, false, take, arith, Some, None, cond}
 use Rattle.std.proofs.lemmas.List.{length-map, length-set, take_all}
 use Rattle.rdf_graph.specs.Search.{IsTheOne, IsPartial, Tells, pairs_of, bind_pattern}
 use Rattle.rdf_graph.specs.Pattern.{Extends, slot_term, value_of}
