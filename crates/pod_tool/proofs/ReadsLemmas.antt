@@ -4,7 +4,7 @@ use Rattle.std.specs.Option.{option_map}
 use Rattle.std.proofs.Math.Seq.{take-append_seam, length-take-le}
 use Rattle.std.proofs.lemmas.List.{take-append-drop}
 use Rattle.pod_io.specs.Told.{IfTold, IsRead}
-use Rattle.pod_tool.specs.Collected.{Reads}
+use Rattle.pod_tool.specs.Reads.{Reads}
 
 -- the front of the slice has that many bytes of the rest
 front_is : (rest old piece : List ℕ) (count : ℕ) → IsRead rest count old piece → take count piece ≡ take count rest

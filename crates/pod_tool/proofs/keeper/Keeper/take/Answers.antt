@@ -21,7 +21,8 @@ returns-clause-taken g c =
       clock = now;
       given = c.clock_moment-now.ensures;
       later = c.moment_at-moment.ensures ∙ ap (later old.last.0) c.is_change.ensures;
-      text = c.in_ok-bytes.ensures.2 ∙ ap (λ (r : Replied). response_text r.response moment.date false) is;
+      text = c.in_ok-bytes.ensures.2 ∙ ap (λ (r : Replied). response_text r.response moment.date c.args.closes) is
+          ∙ ap (response_text replied.response moment.date) c.requires.closes;
       pod = c.in_ok-carry_out.ensures.pod ∙ ap (λ (r : Replied). option_map_or (apply old.pod) r.entry old.pod) is;
       next = c.in_ok-carry_out.ensures.next ∙ ap (λ (r : Replied). old.next + length (option_to_list r.entry)) is;
       last = c.in_ok-carry_out.ensures.last ∙ ap (λ (r : Replied). if is_some r.entry then moment.seconds else old.last.0) is;
