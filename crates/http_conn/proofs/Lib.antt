@@ -1,3 +1,5 @@
+pub mod Endings
+pub mod Growing
 pub mod HeadEnds
 pub mod Reading
 pub mod Readings

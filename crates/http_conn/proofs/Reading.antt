@@ -21,7 +21,7 @@ use Rattle.http_head.specs.Search.{HasSeen}
 use Rattle.http_payload.specs.declared.fault.PayloadFault.{PayloadFault}
 use Rattle.http_payload.specs.Bodies.{IsBody, IsFault, IsPartial as IsPartialBody}
 use Rattle.http_payload.proofs.LawLemmas.{fault_stays}
-use Rattle.http_conn.specs.Messages.{HasHead, IsFirst, Requests, IsBadHead, too_long, too_many, malformed, host, conflict, coding, too_large, IsBad, bad_head, bad_body, status_of, in_head, in_body, IsOpen, IsLast, Messages, unfinished, refused, ended, heard_of, heard_one, interim_of, waits_for, with_body, rest_length, closes_behind, most_requests}
+use Rattle.http_conn.specs.Messages.{HasHead, IsFirst, Requests, IsBadHead, too_long, too_many, malformed, host, conflict, coding, too_large, IsBad, bad_head, bad_body, status_of, in_head, in_body, IsEnd, IsOpen, Messages, unfinished, refused, ended, heard_of, heard_one, interim_of, waits_for, with_body, rest_length, closes_behind, most_requests}
 use Rattle.http_conn.specs.declared.stage.Stage.{Stage}
 use Rattle.http_conn.specs.declared.stage.Stage.TheVariants.{Head, Body, Over, Failed}
 use Rattle.http_conn.specs.declared.stage.OpenHead.{OpenHead}
@@ -32,7 +32,7 @@ use Rattle.http_conn.proofs.HeadEnds.{whole_stays, whole_there, long_stays, blan
 
 -- ---- longer texts
 
-head_stays : (text more : List ℕ) (len : ℕ) (said : RequestHead) (form : BodyForm) → HasHead text len said form → HasHead (text ++ more) len said form
+pub head_stays : (text more : List ℕ) (len : ℕ) (said : RequestHead) (form : BodyForm) → HasHead text len said form → HasHead (text ++ more) len said form
 head_stays text more len said form h =
     let there = whole_there text len h.ends in
     record {
@@ -99,7 +99,7 @@ refused_ends text left requests hears status reads stays bad more =
     refused requests (left ++ more) hears status (requests_stay requests text left more reads) stays (bad_stays left more hears status bad)
 
 -- the last request ends what is heard
-pub last_ends : (text left : List ℕ) (requests : List Request) (last : Request) → Requests text (requests ++ last ∷ []) left → IsOpen requests → IsLast requests last
+pub last_ends : (text left : List ℕ) (requests : List Request) (last : Request) → Requests text (requests ++ last ∷ []) left → IsOpen requests → IsEnd (length requests) last
     → HasEnded text (heard_of (requests ++ last ∷ []))
 last_ends text left requests last reads stays is_last more =
     ended requests last (left ++ more) (requests_stay (requests ++ last ∷ []) text left more reads) stays is_last
@@ -155,7 +155,7 @@ pub finishes_over : (count : ℕ) (said : RequestHead) (body : List ℕ) (told n
     → new ≡ told ++ heard.Request (with_body said body) ∷ [] → EndsRequest count said body told Over new
 finishes_over count said body told new ends new_is text before requests reads stays count_is is =
     let last : Request = with_body said body in
-    let which : IsLast requests last =
+    let which : IsEnd (length requests) last =
     elim (or_cases (closes said.minor said.fields) (nat_le 10_000 (count + 1)) ends) [
       | inl closing ↦ inl closing
       | inr many ↦ inr (let most : 10_000 ≤ count + 1 = grind (arith, nat_tests, many) in omega (arith, most, count_is, stays.few))

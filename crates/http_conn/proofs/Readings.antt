@@ -1,9 +1,8 @@
 -- A text has one reading.
-use Rattle.std.proofs.Common.{◌≡◌, ◌⊎◌, inl, inr, true, false, ℕ, ◌+◌, ◌<◌, ◌≤◌, List, [], ◌∷◌, ◌++◌, length, take, drop, Result, Ok, Err, refl, sym, ap, ap₂, subst, ◌∙◌, arith, append_assoc, length-drop}
+use Rattle.std.proofs.Common.{◌≡◌, inl, inr, true, false, ℕ, ◌+◌, ◌<◌, ◌≤◌, List, [], ◌∷◌, ◌++◌, length, take, drop, Result, Ok, Err, refl, sym, ap, ap₂, subst, ◌∙◌, arith, append_assoc, length-drop}
 use Rattle.std.proofs.lemmas.List.{append-nil, take-append-drop, length-take-le}
 use Rattle.std.specs.List.{AllByRecursion}
 use Rattle.std.proofs.lemmas.Grind.{flat_map-append}
-use Rattle.httparse.specs.Grammar as grammar
 use Rattle.pod_base.specs.declared.request.Request.{Request}
 use Rattle.pod_base.specs.declared.heard.Heard.{Heard}
 use Rattle.pod_base.specs.declared.heard.Heard.TheVariants as heard
@@ -14,13 +13,13 @@ use Rattle.http_head.specs.declared.form.BodyForm.{BodyForm}
 use Rattle.http_head.specs.declared.framed.FramingFault.{FramingFault}
 use Rattle.http_head.specs.declared.framed.FramingFault.TheVariants as framing_fault
 use Rattle.http_head.specs.Ends.{head_end}
-use Rattle.http_head.specs.Heads.{IsTooMany, IsMalformed, LacksHost, Says, host_count, lines_of, head_of}
+use Rattle.http_head.specs.Heads.{IsTooMany, IsMalformed, LacksHost, Says}
 use Rattle.http_head.specs.Framing.{framing}
-use Rattle.http_head.proofs.HeadsLemmas.{same_head}
+use Rattle.http_head.proofs.HeadsLemmas.{same_said, lacks_says}
 use Rattle.http_payload.specs.Chunks as chunks
 use Rattle.http_payload.specs.Bodies.{IsBody, IsFault, IsPartial as IsPartialBody}
 use Rattle.http_payload.proofs.LawLemmas.{one_reading, one_fault, no_fault_at_body, no_fault_at_partial, no_body_at_partial}
-use Rattle.http_conn.specs.Messages.{HasHead, IsFirst, Requests, IsBadHead, too_long, too_many, malformed, host, conflict, coding, too_large, IsBad, bad_head, bad_body, status_of, IsPartial, in_head, in_body, Messages, unfinished, refused, ended, heard_of, heard_one, interim_of, with_body, rest_length, closes_behind, most_requests}
+use Rattle.http_conn.specs.Messages.{HasHead, IsFirst, Requests, IsBadHead, too_long, too_many, malformed, host, conflict, coding, too_large, IsBad, bad_head, bad_body, status_of, IsPartial, in_head, in_body, Messages, unfinished, refused, ended, heard_of, heard_one, interim_of, with_body, rest_length, closes_behind, most_requests, IsEnd}
 
 length_of : HeadEnd → ℕ
 length_of (Whole n) = n
@@ -31,10 +30,6 @@ length_of TooLong = 0
 same_length : (text : List ℕ) (n m : ℕ) → head_end text ≡ Whole n → head_end text ≡ Whole m → n ≡ m
 unfolding length_of
 same_length text n m x y = ap length_of (sym x ∙ y)
-
--- a head says one thing
-same_said : (head : List ℕ) (a b : RequestHead) → Says head a → Says head b → a ≡ b
-same_said head a b x y = x.is ∙ ap head_of (same_head head x.parts y.parts x.whole y.whole) ∙ sym y.is
 
 -- why a whole head is bad, and the status
 data Finding (head : List ℕ) : ℕ → Type 0 where
@@ -50,11 +45,6 @@ many_says head said h s = omega (arith, h, s.lines)
 
 bad_says : (head : List ℕ) (said : RequestHead) → IsMalformed head → Says head said → ⊥
 bad_says head said h s = h.never s.parts s.whole
-
-lacks_says : (head : List ℕ) (said : RequestHead) → LacksHost head → Says head said → ⊥
-lacks_says head said h s =
-    let same : h.parts ≡ s.parts = same_head head h.parts s.parts h.whole s.whole in
-    h.hosts (ap (λ (p : grammar.RequestHead). host_count (lines_of p)) same ∙ s.hosts (sym (ap (λ (p : grammar.RequestHead). p.minor) same) ∙ h.minor))
 
 framed_once : (head : List ℕ) (a b : RequestHead) (r s : Result BodyForm FramingFault) → Says head a → Says head b → framing a.minor a.fields ≡ r → framing b.minor b.fields ≡ s → r ≡ s
 framed_once head a b r s x y f g = sym f ∙ ap (λ (h : RequestHead). framing h.minor h.fields) (same_said head a b x y) ∙ g
@@ -132,24 +122,27 @@ read_not_bad text len said form _ h (long e) = let never : Whole len ≡ TooLong
 read_not_bad text len said form _ h (whole m s e k) =
     framed_not_found (take len text) said form s h.says h.framed (subst (λ i. Finding (take i text) s) (sym (same_length text len m h.ends e)) k)
 
+pub head_not_bad : (text : List ℕ) (len : ℕ) (said : RequestHead) (form : BodyForm) (status : ℕ) → HasHead text len said form → IsBadHead text status → ⊥
+head_not_bad text len said form status h b = read_not_bad text len said form status h (bad_of text status b)
+
 not_yet_not_bad : (text : List ℕ) (status : ℕ) → head_end text ≡ NotYet → BadHead text status → ⊥
 not_yet_not_bad text _ e (long f) = cc
 not_yet_not_bad text _ e (whole m s f k) = cc
 
 -- a text begins with one head
-record OneHead (n m : ℕ) (a b : RequestHead) (f g : BodyForm) : Type 0 where
-  len : n ≡ m
-  said : a ≡ b
-  form : f ≡ g
+pub record OneHead (n m : ℕ) (a b : RequestHead) (f g : BodyForm) : Type 0 where
+  pub len : n ≡ m
+  pub said : a ≡ b
+  pub form : f ≡ g
 
-one_head : (text : List ℕ) (n m : ℕ) (a b : RequestHead) (f g : BodyForm) → HasHead text n a f → HasHead text m b g → OneHead n m a b f g
+pub one_head : (text : List ℕ) (n m : ℕ) (a b : RequestHead) (f g : BodyForm) → HasHead text n a f → HasHead text m b g → OneHead n m a b f g
 one_head text n m a b f g x y =
     let len = same_length text n m x.ends y.ends in
     let says : Says (take n text) b = subst (λ i. Says (take i text) b) (sym len) y.says in
     let form : Ok f ≡ Ok g = framed_once (take n text) a b (Ok f) (Ok g) x.says says x.framed y.framed in
     record { len = len; said = same_said (take n text) a b x.says says; form = cc }
 
-not_yet_no_head : (text : List ℕ) (n : ℕ) (a : RequestHead) (f : BodyForm) → head_end text ≡ NotYet → HasHead text n a f → ⊥
+pub not_yet_no_head : (text : List ℕ) (n : ℕ) (a : RequestHead) (f : BodyForm) → head_end text ≡ NotYet → HasHead text n a f → ⊥
 not_yet_no_head text n a f e x = let never : NotYet ≡ Whole n = sym e ∙ x.ends in cc
 
 -- a body is one, and so is its size
@@ -171,7 +164,7 @@ one_body form text n m a b n_there m_there x y =
       same = ap body_of one.2;
     }
 
-first_one : (text : List ℕ) (r q : Request) (n m : ℕ) → IsFirst text r n → IsFirst text q m → (r ≡ q) × (n ≡ m)
+pub first_one : (text : List ℕ) (r q : Request) (n m : ℕ) → IsFirst text r n → IsFirst text q m → (r ≡ q) × (n ≡ m)
 first_one text r q n m x y =
     let head = one_head text x.head y.head x.said y.said x.form y.form x.begins y.begins in
     let behind : List ℕ = drop x.head text in
@@ -183,7 +176,7 @@ first_one text r q n m x y =
     (x.is ∙ ap₂ with_body head.said body.same ∙ sym y.is, omega (arith, x.ends, y.ends, head.len, body.size))
 
 -- the first of these stands, and the text isn't partial
-partial_not_first : (text : List ℕ) (hears : List Heard) (r : Request) (n : ℕ) → IsPartial text hears → IsFirst text r n → ⊥
+pub partial_not_first : (text : List ℕ) (hears : List Heard) (r : Request) (n : ℕ) → IsPartial text hears → IsFirst text r n → ⊥
 partial_not_first text _ r n (in_head e) x = not_yet_no_head text x.head x.said x.form e x.begins
 partial_not_first text _ r n (in_body len said form h p) x =
     let head = one_head text len x.head said x.said form x.form h x.begins in
@@ -192,8 +185,8 @@ partial_not_first text _ r n (in_body len said form h p) x =
     subst (λ f. IsBody f (take x.size behind) x.body) (sym head.form) (subst (λ i. IsBody x.form (take x.size (drop i text)) x.body) (sym head.len) x.is_body) in
     no_body_at_partial form (take x.size behind) (drop x.size behind) x.body (subst (IsPartialBody form) (sym (take-append-drop x.size behind)) p) body
 
-bad_not_first : (text : List ℕ) (hears : List Heard) (status : ℕ) (r : Request) (n : ℕ) → IsBad text hears status → IsFirst text r n → ⊥
-bad_not_first text _ _ r n (bad_head status b) x = read_not_bad text x.head x.said x.form status x.begins (bad_of text status b)
+pub bad_not_first : (text : List ℕ) (hears : List Heard) (status : ℕ) (r : Request) (n : ℕ) → IsBad text hears status → IsFirst text r n → ⊥
+bad_not_first text _ _ r n (bad_head status b) x = head_not_bad text x.head x.said x.form status x.begins b
 bad_not_first text _ _ r n (bad_body len said form fault h f) x =
     let head = one_head text len x.head said x.said form x.form h x.begins in
     let behind : List ℕ = drop len text in
@@ -204,7 +197,7 @@ bad_not_first text _ _ r n (bad_body len said form fault h f) x =
 partial_not_bad : (text : List ℕ) (a b : List Heard) (status : ℕ) → IsPartial text a → IsBad text b status → ⊥
 partial_not_bad text _ _ _ (in_head e) (bad_head status b) = not_yet_not_bad text status e (bad_of text status b)
 partial_not_bad text _ _ _ (in_head e) (bad_body len said form fault h f) = not_yet_no_head text len said form e h
-partial_not_bad text _ _ _ (in_body len said form h p) (bad_head status b) = read_not_bad text len said form status h (bad_of text status b)
+partial_not_bad text _ _ _ (in_body len said form h p) (bad_head status b) = head_not_bad text len said form status h b
 partial_not_bad text _ _ _ (in_body len said form h p) (bad_body m other g fault k f) =
     let head = one_head text len m said other form g h k in
     no_fault_at_partial form (drop len text) fault p
@@ -220,28 +213,28 @@ partial_one text _ _ (in_body len said form h p) (in_body m other g k q) =
 
 bad_one : (text : List ℕ) (a b : List Heard) (s t : ℕ) → IsBad text a s → IsBad text b t → (a ≡ b) × (s ≡ t)
 bad_one text _ _ _ _ (bad_head s x) (bad_head t y) = (refl, one_bad text s t (bad_of text s x) (bad_of text t y))
-bad_one text _ _ _ _ (bad_head s x) (bad_body m other g fault k f) = absurd (read_not_bad text m other g s k (bad_of text s x))
-bad_one text _ _ _ _ (bad_body len said form fault h f) (bad_head t y) = absurd (read_not_bad text len said form t h (bad_of text t y))
+bad_one text _ _ _ _ (bad_head s x) (bad_body m other g fault k f) = absurd (head_not_bad text m other g s k x)
+bad_one text _ _ _ _ (bad_body len said form fault h f) (bad_head t y) = absurd (head_not_bad text len said form t h y)
 bad_one text _ _ _ _ (bad_body len said form fault h f) (bad_body m other g second k e) =
     let head = one_head text len m said other form g h k in
     let same : IsFault form (drop len text) second = subst (λ x. IsFault x (drop len text) second) (sym head.form) (subst (λ i. IsFault g (drop i text) second) (sym head.len) e) in
     (ap (λ (s : RequestHead). interim_of s.minor s.fields) head.said, ap status_of (one_fault form (drop len text) fault second f same))
 
 -- A reading of a text behind n requests, one request after the other.
-data Reads : ℕ → List ℕ → List Heard → ℕ → Type 0 where
+pub data Reads : ℕ → List ℕ → List Heard → ℕ → Type 0 where
   partly : {n : ℕ} {text : List ℕ} (hears : List Heard) → IsPartial text hears → Reads n text hears (rest_length text)
   badly : {n : ℕ} {text : List ℕ} (hears : List Heard) (status : ℕ) → IsBad text hears status → Reads n text (hears ++ heard.Bad status ∷ []) 0
-  last : {n : ℕ} {text : List ℕ} (r : Request) (len : ℕ) → IsFirst text r len → (closes_behind r ≡ true) ⊎ (n + 1 ≡ most_requests) → Reads n text (heard_one r) 0
+  last : {n : ℕ} {text : List ℕ} (r : Request) (len : ℕ) → IsFirst text r len → IsEnd n r → Reads n text (heard_one r) 0
   next : {n : ℕ} {text : List ℕ} (r : Request) (len : ℕ) (hears : List Heard) (rest : ℕ) → IsFirst text r len → closes_behind r ≡ false → n + 1 < most_requests → Reads (n + 1) (drop len text) hears rest
       → Reads n text (heard_one r ++ hears) rest
 
-last_not_next : (n : ℕ) (r q : Request) → r ≡ q → (closes_behind r ≡ true) ⊎ (n + 1 ≡ most_requests) → closes_behind q ≡ false → n + 1 < most_requests → ⊥
+pub last_not_next : (n : ℕ) (r q : Request) → r ≡ q → IsEnd n r → closes_behind q ≡ false → n + 1 < most_requests → ⊥
 last_not_next n r q same (inl closing) stays few =
     let never : true ≡ false = sym closing ∙ ap closes_behind same ∙ stays in
     cc
 last_not_next n r q same (inr full) stays few = omega (arith, full, few)
 
-reads_one : (n : ℕ) (text : List ℕ) (a b : List Heard) (k l : ℕ) → Reads n text a k → Reads n text b l → (a ≡ b) × (k ≡ l)
+pub reads_one : (n : ℕ) (text : List ℕ) (a b : List Heard) (k l : ℕ) → Reads n text a k → Reads n text b l → (a ≡ b) × (k ≡ l)
 reads_one n text _ _ _ _ (partly a x) (partly b y) = (partial_one text a b x y, refl)
 reads_one n text _ _ _ _ (partly a x) (badly b t y) = absurd (partial_not_bad text a b t x y)
 reads_one n text _ _ _ _ (partly a x) (last q m y w) = absurd (partial_not_first text a q m x y)
@@ -285,7 +278,8 @@ split (q ∷ requests) text rest r h =
     let others = split requests (drop h.0 text) rest r h.2 in
     record { left = others.left; len = others.len; reads = (h.0, h.1, others.reads); first = others.first }
 
-reads_of : (text : List ℕ) (hears : List Heard) (rest : ℕ) → Messages text hears rest → Reads 0 text hears rest
+-- what Messages says is such a reading
+pub reads_of : (text : List ℕ) (hears : List Heard) (rest : ℕ) → Messages text hears rest → Reads 0 text hears rest
 reads_of text _ _ (unfinished requests left hears reads stays p) =
     reads_behind requests 0 text left hears (rest_length left) reads stays.stays (omega (arith, stays.few)) (partly hears p)
 reads_of text _ _ (refused requests left hears status reads stays b) =
@@ -295,7 +289,7 @@ reads_of text _ _ (ended requests r left reads stays which) =
     let all : heard_of requests ++ heard_one r ≡ heard_of (requests ++ r ∷ []) = ap (λ h. heard_of requests ++ h) (sym (append-nil (heard_one r))) ∙ sym (flat_map-append heard_one requests (r ∷ [])) in
     let count : length requests ≡ 0 + length requests = omega arith in
     subst (λ h. Reads 0 text h 0) all
-    (reads_behind requests 0 text parts.left (heard_one r) 0 parts.reads stays.stays (omega (arith, stays.few)) (last r parts.len parts.first (subst (λ i. (closes_behind r ≡ true) ⊎ (i + 1 ≡ most_requests)) count which)))
+    (reads_behind requests 0 text parts.left (heard_one r) 0 parts.reads stays.stays (omega (arith, stays.few)) (last r parts.len parts.first (subst (λ i. IsEnd i r) count which)))
 
 -- A text has one reading.
 pub messages_one : (text : List ℕ) (one other : List Heard) (rest left : ℕ) → Messages text one rest → Messages text other left → (one ≡ other) × (rest ≡ left)

@@ -103,14 +103,14 @@ closes_behind request = closes request.minor request.fields
 abbrev pub most_requests : ℕ
 most_requests = 10_000
 
+-- whether a request, which so many are before, is the last that is heard
+abbrev pub IsEnd : ℕ → Request → Type 0
+IsEnd count request = (closes_behind request ≡ true) ⊎ (count + 1 ≡ most_requests)
+
 -- more may be heard behind these requests
 pub record IsOpen (requests : List Request) : Type 0 where
   pub few : length requests < most_requests
   pub stays : AllByRecursion (λ request. closes_behind request ≡ false) requests
-
--- nothing more is heard behind these and this one
-abbrev pub IsLast : List Request → Request → Type 0
-IsLast requests last = (closes_behind last ≡ true) ⊎ (length requests + 1 ≡ most_requests)
 
 -- What is heard in the text, and the length of the unfinished message at its end.
 pub data Messages (text : List ℕ) : List Heard → ℕ → Type 0 where
@@ -118,13 +118,30 @@ pub data Messages (text : List ℕ) : List Heard → ℕ → Type 0 where
       → Messages text (heard_of requests ++ hears) (rest_length left)
   refused : (requests : List Request) (left : List ℕ) (hears : List Heard) (status : ℕ) → Requests text requests left → IsOpen requests → IsBad left hears status
       → Messages text (heard_of requests ++ (hears ++ heard.Bad status ∷ [])) 0
-  ended : (requests : List Request) (last : Request) (left : List ℕ) → Requests text (requests ++ last ∷ []) left → IsOpen requests → IsLast requests last
+  ended : (requests : List Request) (last : Request) (left : List ℕ) → Requests text (requests ++ last ∷ []) left → IsOpen requests → IsEnd (length requests) last
       → Messages text (heard_of (requests ++ last ∷ [])) 0
 
--- what is heard first in the text
+-- Nothing is heard behind a request that closes, behind the 10,000th, and behind a refusal; so many requests were heard before.
+abbrev pub EndsThere : ℕ → List Heard → Type 0
+EndsThere count [] = Unit {0}
+EndsThere count (heard.Interim ∷ hears) = EndsThere count hears
+EndsThere count (heard.Request request ∷ hears) = (IsEnd count request → hears ≡ []) × EndsThere (count + 1) hears
+EndsThere count (heard.Bad status ∷ hears) = hears ≡ []
+
+-- None of them ends what is heard; so many requests were heard before.
+abbrev pub StaysOpen : ℕ → List Heard → Type 0
+StaysOpen count [] = Unit {0}
+StaysOpen count (heard.Interim ∷ hears) = StaysOpen count hears
+StaysOpen count (heard.Request request ∷ hears) = (IsEnd count request → ⊥) × StaysOpen (count + 1) hears
+StaysOpen count (heard.Bad status ∷ hears) = ⊥
+
+-- what is heard first in the text: what is heard in a front of it begins so
 pub record FirstHeard (text : List ℕ) (hears : List Heard) : Type 0 where
+  pub front : List ℕ
+  pub behind : List ℕ
+  pub cut : front ++ behind ≡ text
   pub all : List Heard
   pub rest : ℕ
-  pub messages : Messages text all rest
+  pub messages : Messages front all rest
   pub more : List Heard
   pub is : all ≡ hears ++ more

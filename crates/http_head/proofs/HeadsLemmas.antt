@@ -1,5 +1,5 @@
 -- Names of fields are ASCII, and the heads of one text are one.
-use Rattle.std.proofs.Common.{◌≡◌, ℕ, ◌<◌, ◌==◌, ◌&&◌, ◌||◌, Bool, true, false, nat_lt, List, [], ◌∷◌, take, map, All, refl, sym, ap, subst, arith, codes}
+use Rattle.std.proofs.Common.{◌≡◌, ℕ, ◌<◌, ◌==◌, ◌&&◌, ◌||◌, Bool, true, false, nat_lt, List, [], ◌∷◌, take, map, All, refl, sym, ap, subst, ◌∙◌, arith, codes}
 use Rattle.std.specs.List.{list_any, list_all, AllByRecursion}
 use Rattle.std.specs.Str.{IsAscii}
 use Rattle.std.specs.Char.{is_ascii_alphanumeric}
@@ -12,7 +12,8 @@ use Rattle.httparse.specs.Spans.{span_bytes, header_bytes, name_and_value, IsReq
 use Rattle.httparse.specs.declared.spans.HeaderSpan.{HeaderSpan}
 use Rattle.httparse.specs.declared.spans.RequestSpans.{RequestSpans}
 use Rattle.httparse.proofs.GrammarLemmas.{request_unique}
-use Rattle.http_head.specs.Heads.{IsWhole}
+use Rattle.http_head.specs.declared.head.RequestHead.{RequestHead}
+use Rattle.http_head.specs.Heads.{IsWhole, LacksHost, Says, host_count, lines_of, head_of}
 
 either_below : (x y : Bool) (b : ℕ) → (x ≡ true → b < 128) → (y ≡ true → b < 128) → (x || y) ≡ true → b < 128
 either_below true y b f g h = f refl
@@ -57,3 +58,13 @@ spans_ascii head spans found parts whole at =
 -- the heads of one text are one
 pub same_head : (head : List ℕ) (h k : grammar.RequestHead) → IsWhole head h → IsWhole head k → h ≡ k
 same_head head h k x y = (request_unique head h k [] [] x.reads y.reads).0
+
+-- a head says one thing
+pub same_said : (head : List ℕ) (a b : RequestHead) → Says head a → Says head b → a ≡ b
+same_said head a b x y = x.is ∙ ap head_of (same_head head x.parts y.parts x.whole y.whole) ∙ sym y.is
+
+-- a head that lacks its host says nothing
+pub lacks_says : (head : List ℕ) (said : RequestHead) → LacksHost head → Says head said → ⊥
+lacks_says head said h s =
+    let same : h.parts ≡ s.parts = same_head head h.parts s.parts h.whole s.whole in
+    h.hosts (ap (λ (p : grammar.RequestHead). host_count (lines_of p)) same ∙ s.hosts (sym (ap (λ (p : grammar.RequestHead). p.minor) same) ∙ h.minor))
