@@ -78,3 +78,13 @@ output_grows count (heard.Request r ∷ before) hears (item ∷ items) more refu
     ∙ sym (append_assoc (item_text fresh_service item) front (output_of fresh_service hears more refusal))
     ∙ ap (λ b. (item_text fresh_service item ++ (if b then [] else front)) ++ output_of fresh_service hears more refusal) (sym plain)
 output_grows count (heard.Bad status ∷ before) hears items more refusal h p e = absurd h
+
+pub none_left : {A : Type 0} (xs : List A) → length xs ≡ 0 → xs ≡ []
+none_left [] h = refl
+none_left (x ∷ xs) h = absurd (omega (arith, h))
+
+pub not_bad : (count : ℕ) (hears : List Heard) (status : ℕ) → StaysOpen count hears → bad_status hears ≡ Some status → ⊥
+not_bad count [] status h e = cc
+not_bad count (heard.Request r ∷ hears) status h e = not_bad (count + 1) hears status h.1 e
+not_bad count (heard.Interim ∷ hears) status h e = not_bad count hears status h e
+not_bad count (heard.Bad told ∷ hears) status h e = h

@@ -2,7 +2,9 @@ pub mod EndingsLemmas
 pub mod HeardLemmas
 pub mod ProgressLemmas
 pub mod ReadsLemmas
+pub mod RefusedLemmas
 pub mod RepliesLemmas
+pub mod ServingLemmas
 pub mod SessionLemmas
 pub mod TalksLemmas
 pub mod WritesLemmas

@@ -4,7 +4,7 @@ use Rattle.std.specs.List.{AllByRecursion}
 use Rattle.http_conn.specs.Messages.{EndsThere}
 use Rattle.pod_tool.specs.Talks.{IsRefused}
 use Rattle.pod_tool.proofs.TalksLemmas.{nothing_added, nothing_turned, adds_more, turns_behind, none_behind}
-use Rattle.pod_tool.proofs.HeardLemmas.{ends_next}
+use Rattle.pod_tool.proofs.HeardLemmas.{ends_next, none_left}
 use Rattle.pod_tool.proofs.talk.Talk.hear.Goals as goal
 
 pub loop-one-init : goal.loop-one-init
@@ -64,9 +64,9 @@ returns-clause-turns g c =
       i.0.2.1,
       record {
         front = i.0.0;
-        behind = [];
-        cut = ap (λ rest. i.0.0 ++ rest) (sym c.in_default.ensures.cases) ∙ i.0.1;
+        behind = c.loop-one.rest.now;
+        cut = i.0.1;
         turns = i.0.2.2;
-        over = refl;
+        over = none_left c.loop-one.rest.now c.in_default.ensures.cases;
       },
     )

@@ -1,0 +1,81 @@
+use Rattle.std.proofs.Common.{rules, List, ℕ, ◌≡◌, ◌≤◌, ◌<◌, ◌^◌, ◌+◌, [], ◌++◌, length, take, Ok, Err, refl, sym, ap, subst, ◌∙◌, arith}
+use Rattle.std.specs.List.{AllByRecursion}
+use Rattle.std.proofs.Math.Seq.{length-take-le}
+use Rattle.pod_base.specs.declared.heard.Heard.{Heard}
+use Rattle.http_conn.specs.Messages.{EndsThere}
+use Rattle.pod_tool.specs.Talks.{IsRefused, TurnsIn}
+use Rattle.pod_tool.proofs.ServingLemmas.{begins, read_fault, bounded, at_end, no_memory, ends, statuses, goes_on, ended, never_reads}
+use Rattle.pod_tool.proofs.ReadsLemmas.{reads_more, reads_none, ended_at, some_read}
+use Rattle.pod_tool.proofs.serve.serve.Goals as goal
+
+-- a read failed
+pub returns-in_default-clause-pipes : goal.returns-in_default-clause-pipes
+returns-in_default-clause-pipes g c = read_fault _ _ _ _ _ _ _ _ _ c.reads.invariant.0 (g.S.Source.rest c.read.new.self) c.in_default.ensures.rest.whole
+
+-- the input ended
+pub returns-then-count-eq0-clause-pipes : goal.returns-then-count-eq0-clause-pipes
+returns-then-count-eq0-clause-pipes g c =
+    let s = c.reads.invariant.0 in
+    let read = c.in-Ok.ensures in
+    at_end _ _ _ _ _ _ _ _ _ s c.rest.result c.at_end.result (g.S.Source.rest c.read.new.self) c.rest.ensures.exact c.at_end.ensures
+        (reads_none s.text c.reads.piece c.read.new.into c.in-Ok.count (g.S.Source.rest c.args.input.now) (g.S.Source.rest c.reads.input) (g.S.Source.rest c.read.new.self) c.if-count-eq0.true s.reads read.bytes read.rest.taken)
+        (ended_at c.reads.piece c.read.new.into c.in-Ok.count (g.S.Source.rest c.reads.input) (g.S.Source.rest c.read.new.self) c.if-count-eq0.true read.bytes read.rest.taken)
+
+-- no memory was left to hear the piece
+pub returns-in_default-feed-clause-pipes : goal.returns-in_default-feed-clause-pipes
+returns-in_default-feed-clause-pipes g c =
+    let s = c.reads.invariant.0 in
+    let read = c.in-Ok.ensures in
+    no_memory _ _ _ _ _ _ _ _ _ s (take c.in-Ok.count c.read.new.into) (g.S.Source.rest c.read.new.self)
+        (reads_more s.text c.reads.piece c.read.new.into c.in-Ok.count (g.S.Source.rest c.args.input.now) (g.S.Source.rest c.reads.input) (g.S.Source.rest c.read.new.self) s.reads read.bytes read.rest.taken)
+
+pub hear-requires-clause-ends : goal.hear-requires-clause-ends
+hear-requires-clause-ends g c =
+    let s = c.reads.invariant.0 in
+    let read = c.in-Ok.ensures in
+    let reads = reads_more s.text c.reads.piece c.read.new.into c.in-Ok.count (g.S.Source.rest c.args.input.now) (g.S.Source.rest c.reads.input) (g.S.Source.rest c.read.new.self) s.reads read.bytes read.rest.taken in
+    subst (EndsThere c.reads.talk.number) (sym c.as_slice.ensures)
+        (ends _ _ _ _ _ _ _ _ _ s (take c.in-Ok.count c.read.new.into) (g.S.Source.rest c.read.new.self) reads c.feed.new.self c.in-Ok-feed.heard.items _ (c.in-Ok-feed.ensures.messages s.text s.heard s.stands))
+
+pub hear-requires-clause-statuses : goal.hear-requires-clause-statuses
+hear-requires-clause-statuses g c =
+    let s = c.reads.invariant.0 in
+    let read = c.in-Ok.ensures in
+    let reads = reads_more s.text c.reads.piece c.read.new.into c.in-Ok.count (g.S.Source.rest c.args.input.now) (g.S.Source.rest c.reads.input) (g.S.Source.rest c.read.new.self) s.reads read.bytes read.rest.taken in
+    subst (AllByRecursion IsRefused) (sym c.as_slice.ensures)
+        (statuses _ _ _ _ _ _ _ _ _ s (take c.in-Ok.count c.read.new.into) (g.S.Source.rest c.read.new.self) reads c.feed.new.self c.in-Ok-feed.heard.items _ (c.in-Ok-feed.ensures.messages s.text s.heard s.stands))
+
+-- the connection ended in this piece
+pub returns-in-Err-clause-pipes : goal.returns-in-Err-clause-pipes
+returns-in-Err-clause-pipes g c =
+    let s = c.reads.invariant.0 in
+    let read = c.in-Ok.ensures in
+    let reads = reads_more s.text c.reads.piece c.read.new.into c.in-Ok.count (g.S.Source.rest c.args.input.now) (g.S.Source.rest c.reads.input) (g.S.Source.rest c.read.new.self) s.reads read.bytes read.rest.taken in
+    let told = c.in-Err.ensures.turns in
+    ended _ _ _ _ _ _ _ _ _ s (take c.in-Ok.count c.read.new.into) (g.S.Source.rest c.read.new.self) reads c.feed.new.self c.in-Ok-feed.heard.items _ (c.in-Ok-feed.ensures.messages s.text s.heard s.stands)
+        c.hear.new.self c.in-Err.end told.0 (g.K.Sink.taken c.hear.new.output) told.1
+        (subst (λ hears. TurnsIn (g.C.Clock.may_give c.args.clock.now) c.reads.talk c.hear.new.self hears told.0 (Err c.in-Err.end)) c.as_slice.ensures told.2)
+
+pub returns-in-Err-clause-read_fault : goal.returns-in-Err-clause-read_fault
+returns-in-Err-clause-read_fault g c =
+    let told = c.in-Err.ensures.turns in
+    λ is. absurd (never_reads _ _ _ _ _ _ _ _ _ c.reads.invariant.0 c.hear.new.self c.as_slice.result.now told.0 c.in-Err.end told.2 is)
+
+pub reads-preserved : goal.reads-preserved
+reads-preserved g c =
+    let s = c.reads.invariant.0 in
+    let read = c.in-Ok.ensures in
+    let piece = take c.in-Ok.count c.read.new.into in
+    let reads = reads_more s.text c.reads.piece c.read.new.into c.in-Ok.count (g.S.Source.rest c.args.input.now) (g.S.Source.rest c.reads.input) (g.S.Source.rest c.read.new.self) s.reads read.bytes read.rest.taken in
+    let told = c.in-Ok-hear.ensures.turns in (
+      goes_on _ _ _ _ _ _ _ _ _ s piece (g.S.Source.rest c.read.new.self) reads c.feed.new.self c.in-Ok-feed.heard.items _ (c.in-Ok-feed.ensures.messages s.text s.heard s.stands)
+          (c.in-Ok-feed.ensures.stands s.text s.heard s.stands) c.hear.new.self told.0 (g.K.Sink.taken c.hear.new.output) told.1
+          (subst (λ hears. TurnsIn (g.C.Clock.may_give c.args.clock.now) c.reads.talk c.hear.new.self hears told.0 (Ok tt)) c.as_slice.ensures told.2)
+          c.in-Ok-hear.ensures.sound (some_read c.read.new.into c.in-Ok.count (search rules) c.if-count-eq0.false),
+      omega (arith, c.reads.invariant.1, read.faults.no_fewer),
+      omega (arith, c.reads.invariant.2, c.in-Ok-hear.ensures.faults.no_fewer),
+    )
+
+-- each read gave a byte
+pub returns-clause-pipes : goal.returns-clause-pipes
+returns-clause-pipes g c = bounded _ _ _ _ _ _ _ _ _ c.reads.invariant.0 (omega (arith, c.reads-test.false))
