@@ -7,8 +7,8 @@ ghost use Rattle.pod_tool.specs.Session.{IsClockMoment};
 ghost use Rattle.pod_tool.specs.Fresh.{closes_after};
 ghost use Rattle.pod_tool.specs.Turns.{IsTaken};
 
-use http_out::bytes_of;
-use pod_base::{Bytes, Mem, Moment, Request, Stamp, moment_of};
+use http_out::Out;
+use pod_base::{Mem, Moment, Request, Stamp, moment_of};
 use pod_core::{Entry, Pod, Replied, answer, is_change};
 use pod_io::Clock;
 use std::alloc::Global;
@@ -68,7 +68,7 @@ impl Keeper {
         number: u64,
         closes: bool,
         clock: &C,
-    ) -> Mem<Bytes>
+    ) -> Mem<Out>
         requires closes { closes ≡ closes_after request.now number }
         requires room { self.old.next + 1 < 2 ^ 64 }
         requires base { IsTrue (list_all stays_in_line self.old.pod.base) }
@@ -83,8 +83,7 @@ impl Keeper {
             moment,
         };
         let Replied { response, entry } = answer(alloc, &self.pod, request, self.next, stamp)?;
-        let bytes = bytes_of(alloc, &response, moment, closes)?;
         self.carry_out(entry, moment)?;
-        Ok(bytes)
+        Ok(Out::new(response, moment, closes))
     }
 }

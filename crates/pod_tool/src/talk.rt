@@ -12,10 +12,10 @@ ghost use Rattle.pod_tool.specs.Turns.{Adds, Refuses, Turned, Writes, refusal_by
 
 use crate::keeper::{Keeper, clock_moment};
 use crate::status::PipeEnd;
-use crate::write::write_all;
+use crate::write::{write_all, write_out};
 use http_head::closes;
-use http_out::{bytes_of, interim, memory_text};
-use pod_base::{Bytes, Heard, Mem, Request};
+use http_out::{Out, interim, memory_text};
+use pod_base::{Heard, Mem, Request};
 use pod_core::refusal;
 use pod_io::{Clock, Failed, Sink};
 use std::alloc::Global;
@@ -61,13 +61,13 @@ fn refusal_word(status: u16) -> &'static [u8]
 }
 
 /// The refusal of bytes that are no message, at the clock's moment.
-fn refusal_bytes<C: Clock>(alloc: Global, status: u16, clock: &C) -> Mem<Bytes>
+fn refusal_out<C: Clock>(alloc: Global, status: u16, clock: &C) -> Mem<Out>
     requires { (200 ≤ status) × (status < 600) }
-    ensures { IfOk result (λ bytes. (moment : Dated) × Refuses (C.may_give clock.now) moment × (bytes ≡ refusal_bytes status moment)) }
+    ensures { IfOk result (λ out. (moment : Dated) × Refuses (C.may_give clock.now) moment × (out ≡ refusal_bytes status moment)) }
 {
     let moment = clock_moment(clock);
     let response = refusal(alloc, status, refusal_word(status))?;
-    bytes_of(alloc, &response, moment, true)
+    Ok(Out::new(response, moment, true))
 }
 
 /// Answers one request and writes the answer: the pod's, or that no memory was left.
@@ -88,7 +88,7 @@ fn answer_one<K: Sink, C: Clock>(
     ensures faults { Counts result (K.faults output.old) (K.faults output.new) }
 {
     match keeper.take(alloc, request, number, closes, clock) {
-        Ok(bytes) => write_all(output, bytes.as_slice()),
+        Ok(out) => write_out(output, out),
         Err(_none) => write_all(output, memory_text()),
     }
 }
@@ -100,10 +100,10 @@ fn refuse<K: Sink, C: Clock>(alloc: Global, status: u16, output: &mut K, clock: 
     ensures no_fewer { K.faults output.old ≤ K.faults output.new }
     ensures failed { result ≡ PipeEnd.WriteFault → Rose (K.faults output.old) (K.faults output.new) }
 {
-    let Ok(bytes) = refusal_bytes(alloc, status, clock) else {
+    let Ok(out) = refusal_out(alloc, status, clock) else {
         return PipeEnd::NoMemory;
     };
-    match write_all(output, bytes.as_slice()) {
+    match write_out(output, out) {
         Ok(()) => PipeEnd::Bad { status },
         Err(_failed) => PipeEnd::WriteFault,
     }
