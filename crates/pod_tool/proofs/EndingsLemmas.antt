@@ -1,6 +1,6 @@
 -- A session, where the connection ends.
-use Rattle.std.proofs.Common.{◌≡◌, ◌≢◌, inl, inr, ℕ, ◌+◌, ◌<◌, ◌≤◌, true, false, if◌then◌else◌, List, [], ◌∷◌, ◌++◌, length, take, drop, map, Option, Some, None, is_some, IfSome, refl, sym, ap, ap₂, subst, append_assoc, length-append, ◌∙◌, arith}
-use Rattle.std.specs.List.{AllByRecursion, flat_map}
+use Rattle.std.proofs.Common.{◌≡◌, ◌≢◌, inr, ℕ, false, List, [], ◌∷◌, ◌++◌, length, take, drop, Option, Some, None, is_some, IfSome, refl, sym, ap, append_assoc, ◌∙◌}
+use Rattle.std.specs.List.{AllByRecursion}
 use Rattle.std.proofs.lemmas.List.{append-nil, take-append-drop, length-map}
 use Rattle.http_out.specs.Dates.{Dated}
 use Rattle.http_conn.specs.Messages.{StaysOpen}
@@ -9,10 +9,10 @@ use Rattle.pod_base.specs.declared.heard.Heard.{Heard}
 use Rattle.pod_base.specs.declared.heard.Heard.TheVariants as heard
 use Rattle.pod_core.specs.declared.entry.Entry.{Entry}
 use Rattle.pod_tool.specs.Fresh.{fresh_pod, fresh_service}
-use Rattle.pod_tool.specs.Output.{item_text, output_of}
+use Rattle.pod_tool.specs.Output.{output_of}
 use Rattle.pod_tool.specs.Served.{OnFresh, IsServed, IsStopped}
-use Rattle.pod_tool.specs.Session.{Outcome, answered, no_memory, disk_fault, Item, Begins, UpgradesLast, ends_upgraded, requests_of, bad_status, IsRefused as IsRefusedSession}
-use Rattle.pod_tool.specs.Talks.{IsPlainOutcome, IsPlain, Progress, Talks}
+use Rattle.pod_tool.specs.Session.{Outcome, answered, no_memory, disk_fault, Item, UpgradesLast, ends_upgraded, requests_of, bad_status, IsRefused as IsRefusedSession}
+use Rattle.pod_tool.specs.Talks.{IsPlainOutcome, IsPlain, Progress}
 use Rattle.pod_tool.specs.Turns.{Refuses, refusal_bytes}
 use Rattle.pod_tool.proofs.HeardLemmas.{not_upgraded, requests_append, bad_behind, output_grows}
 

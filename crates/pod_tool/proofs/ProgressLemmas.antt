@@ -1,7 +1,7 @@
 -- How far a connection has come: its session so far, and a turn more.
 use Rattle.std.proofs.Common.{◌≡◌, inl, inr, ℕ, ◌+◌, ◌-◌, ◌==◌, true, false, cond, if◌then◌else◌, List, [], ◌∷◌, ◌++◌, length, take, fold, map, slice_get, max, Option, Some, None, is_some, IfSome, refl, sym, ap, ap₂, subst, length-append, ◌∙◌, arith}
 use Rattle.std.specs.Option.{option_map_or, option_to_list}
-use Rattle.std.specs.List.{AllByRecursion, flat_map, range_with_len}
+use Rattle.std.specs.List.{flat_map, range_with_len}
 use Rattle.std.proofs.lemmas.Grind.{flat_map-append, fold-append}
 use Rattle.std.proofs.lemmas.List.{append-nil}
 use Rattle.std.proofs.Math.Seq.{take-length}
@@ -18,7 +18,7 @@ use Rattle.pod_base.specs.declared.moment.Stamp.{Stamp}
 use Rattle.pod_tool.specs.declared.keeper.Keeper.{Keeper}
 use Rattle.pod_tool.specs.Fresh.{fresh_pod, fresh_service, closes_after}
 use Rattle.pod_tool.specs.Output.{item_text}
-use Rattle.pod_tool.specs.Session.{Outcome, answered, no_memory, disk_fault, Item, NeverFalls, IsItem, IsAnswered, IsTimely, places_of, entries_of, reply_at, moment_before}
+use Rattle.pod_tool.specs.Session.{answered, no_memory, Item, NeverFalls, IsAnswered, IsTimely, places_of, entries_of, reply_at, moment_before}
 use Rattle.pod_tool.specs.Turns.{IsTaken, Turned, reply_now, stamped}
 use Rattle.pod_tool.specs.Talks.{IsPlain, Progress, Keeps}
 use Rattle.pod_tool.proofs.RepliesLemmas.{plain_reply}

@@ -1,5 +1,5 @@
 -- The refusals that are heard have a status of their own.
-use Rattle.std.proofs.Common.{◌≡◌, ℕ, ◌<◌, ◌≤◌, Bool, true, false, if◌then◌else◌, List, [], ◌∷◌, ◌++◌, arith}
+use Rattle.std.proofs.Common.{ℕ, ◌<◌, ◌≤◌, Bool, true, false, if◌then◌else◌, List, [], ◌∷◌, ◌++◌, arith}
 use Rattle.std.specs.List.{AllByRecursion}
 use Rattle.http_conn.specs.Messages.{IsBadHead, too_long, too_many, malformed, host, conflict, coding, too_large, IsBad, bad_head, bad_body, IsPartial, in_head, in_body, Messages, unfinished, refused, ended, heard_of, heard_one, interim_of, waits_for, status_of}
 use Rattle.http_head.specs.Framing.{framing}

@@ -1,9 +1,9 @@
 -- The pieces of an input, one after the other.
-use Rattle.std.proofs.Common.{◌≡◌, inl, inr, ℕ, ◌+◌, ◌<◌, ◌≤◌, ◌^◌, ◌==◌, true, false, if◌then◌else◌, IsTrue, List, [], ◌∷◌, ◌++◌, length, take, Option, Some, None, Result, Ok, Err, refl, sym, ap, subst, append_assoc, length-append, ◌∙◌, arith}
+use Rattle.std.proofs.Common.{◌≡◌, inl, inr, ℕ, ◌+◌, ◌<◌, ◌≤◌, ◌^◌, ◌==◌, true, false, if◌then◌else◌, List, [], ◌++◌, length, Option, Some, None, Ok, Err, refl, sym, ap, subst, append_assoc, length-append, ◌∙◌, arith}
 use Rattle.std.specs.List.{AllByRecursion, list_all}
 use Rattle.std.proofs.lemmas.Bool.Decides.{nat_tests}
 use Rattle.std.proofs.lemmas.List.{append-nil}
-use Rattle.http_conn.specs.Messages.{Messages, unfinished, in_head, FirstHeard, EndsThere, StaysOpen, most_requests}
+use Rattle.http_conn.specs.Messages.{Messages, unfinished, in_head, FirstHeard, EndsThere, StaysOpen}
 use Rattle.http_conn.specs.Held.{Stands, rest_of}
 use Rattle.http_conn.specs.declared.stage.Stage.{Stage}
 use Rattle.http_conn.proofs.Endings.{ends_there, ended_rest}
@@ -11,12 +11,11 @@ use Rattle.http_conn.proofs.Reading.{stands_messages}
 use Rattle.http_out.specs.Text.{stays_in_line}
 use Rattle.pod_base.specs.declared.heard.Heard.{Heard}
 use Rattle.pod_core.specs.State.{State}
-use Rattle.pod_tool.specs.Fresh.{fresh_pod}
 use Rattle.pod_tool.specs.Reads.{Reads, AtEnd}
-use Rattle.pod_tool.specs.Served.{IsNew, IsServed, IsStopped}
-use Rattle.pod_tool.specs.Session.{requests_of, bad_status}
+use Rattle.pod_tool.specs.Served.{IsNew, IsStopped}
+use Rattle.pod_tool.specs.Session.{requests_of}
 use Rattle.pod_tool.specs.Statuses.{IsHeard, IsWritten, IsTold, Pipes, ComesOf}
-use Rattle.pod_tool.specs.Talks.{Talks, IsSound, IsRefused, Ends, IsAll, Turns, TurnsIn}
+use Rattle.pod_tool.specs.Talks.{Talks, IsSound, IsRefused, Ends, IsAll, TurnsIn}
 use Rattle.pod_tool.specs.Turns.{Adds}
 use Rattle.pod_tool.specs.declared.keeper.Keeper.{Keeper}
 use Rattle.pod_tool.specs.declared.status.PipeEnd.{PipeEnd}

@@ -1,5 +1,5 @@
 -- A turn of a connection.
-use Rattle.std.proofs.Common.{◌≡◌, inl, inr, ℕ, ◌+◌, ◌<◌, ◌≤◌, ◌==◌, ◌||◌, Bool, true, false, IsTrue, if◌then◌else◌, List, [], ◌∷◌, ◌++◌, length, take, drop, fold, Option, Some, None, Result, Ok, Err, IfErr, refl, sym, ap, ap₂, subst, append_assoc, length-append, ◌∙◌, arith}
+use Rattle.std.proofs.Common.{◌≡◌, inl, inr, ℕ, ◌+◌, ◌<◌, ◌≤◌, ◌==◌, true, false, IsTrue, if◌then◌else◌, List, [], ◌∷◌, ◌++◌, length, take, drop, Option, Some, None, Result, Ok, Err, IfErr, refl, sym, ap, ap₂, subst, append_assoc, length-append, ◌∙◌, arith}
 use Rattle.std.specs.Option.{option_map, option_map_or, option_to_list}
 use Rattle.std.specs.List.{AllByRecursion, list_all}
 use Rattle.std.proofs.lemmas.Bool.{or_cases, or_parts}
@@ -13,19 +13,19 @@ use Rattle.pod_base.specs.declared.heard.Heard.{Heard}
 use Rattle.pod_base.specs.declared.heard.Heard.TheVariants as heard
 use Rattle.pod_core.specs.State.{State, apply}
 use Rattle.pod_core.specs.declared.entry.Entry.{Entry}
-use Rattle.pod_tool.specs.Fresh.{fresh_pod, fresh_service, closes_after}
+use Rattle.pod_tool.specs.Fresh.{fresh_service, closes_after}
 use Rattle.pod_tool.specs.Output.{item_text, output_of}
-use Rattle.pod_tool.specs.Served.{IsNew, OnFresh, IsServed, IsStopped}
+use Rattle.pod_tool.specs.Served.{IsServed, IsStopped}
 use Rattle.pod_tool.specs.Session.{Item, requests_of, bad_status}
-use Rattle.pod_tool.specs.Talks.{IsPlain, Progress, Keeps, Talks, IsSound, Ends, IsAll, IsOver, Turns, RefusedAs}
-use Rattle.pod_tool.specs.Turns.{IsTaken, Turned, Adds, Writes, Refuses, reply_now, refusal_bytes}
+use Rattle.pod_tool.specs.Talks.{IsPlain, Progress, Talks, IsSound, Ends, IsAll, IsOver, Turns, RefusedAs}
+use Rattle.pod_tool.specs.Turns.{Turned, Adds, Writes, Refuses, reply_now, refusal_bytes}
 use Rattle.pod_tool.specs.declared.keeper.Keeper.{Keeper}
 use Rattle.pod_tool.specs.declared.status.PipeEnd.{PipeEnd}
 use Rattle.pod_tool.specs.declared.status.PipeEnd.TheVariants.{Peer, Cut, Closed, Limit, Bad, ReadFault, WriteFault, NoMemory, Bounded}
 use Rattle.pod_tool.specs.declared.talk.Talk.{Talk}
-use Rattle.pod_tool.proofs.ProgressLemmas.{Next, nothing_yet, turned}
+use Rattle.pod_tool.proofs.ProgressLemmas.{Next, turned}
 use Rattle.pod_tool.proofs.HeardLemmas.{not_upgraded, requests_append, bad_behind, stays_append, last_ends, output_grows}
-use Rattle.pod_tool.proofs.EndingsLemmas.{all_have_items, on_fresh, begins, served_stops, serves, serves_refused, stops_refused}
+use Rattle.pod_tool.proofs.EndingsLemmas.{all_have_items, on_fresh, begins, serves, serves_refused, stops_refused}
 
 pub nothing_added : (old : Option (List ℕ)) → Adds [] old old
 nothing_added None = refl

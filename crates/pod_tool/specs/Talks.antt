@@ -1,4 +1,4 @@
-use Rattle.std.specs.Prelude.{◌≡◌, ◌⊎◌, ◌==◌, ℕ, ◌+◌, ◌≤◌, ◌<◌, IsTrue, true, false, List, [], ◌∷◌, ◌++◌, length, map, fold, take, Option, Some, None, Result, Ok, Err}
+use Rattle.std.specs.Prelude.{◌≡◌, ◌==◌, ℕ, ◌≤◌, ◌<◌, IsTrue, false, List, [], ◌++◌, length, map, fold, take, Option, Some, None, Result, Ok, Err}
 use Rattle.std.specs.List.{AllByRecursion, flat_map, range_with_len, list_all}
 use Rattle.http_conn.specs.Messages.{IsEnd, StaysOpen, most_requests}
 use Rattle.http_out.specs.Dates.{Dated}

@@ -1,4 +1,4 @@
-use Rattle.std.specs.Prelude.{◌≡◌, ◌⊎◌, ℕ, ◌+◌, ◌≤◌, true, if◌then◌else◌, max, List, length, take, ◌++◌, Option, is_some, Result, OnOk, OnErr}
+use Rattle.std.specs.Prelude.{◌≡◌, ◌⊎◌, ℕ, ◌+◌, true, if◌then◌else◌, max, List, length, take, ◌++◌, Option, is_some, Result, OnOk, OnErr}
 use Rattle.std.specs.Option.{option_map, option_map_or, option_to_list}
 use Rattle.http_out.specs.Dates.{Dated, IsDated}
 use Rattle.http_out.specs.Text.{response_text, memory_text}

@@ -1,10 +1,8 @@
-use Rattle.std.proofs.Common.{rules, List, ℕ, ◌≡◌, ◌≤◌, ◌<◌, ◌^◌, ◌+◌, [], ◌++◌, length, take, Ok, Err, refl, sym, ap, subst, ◌∙◌, arith}
+use Rattle.std.proofs.Common.{rules, take, Ok, Err, sym, subst, arith}
 use Rattle.std.specs.List.{AllByRecursion}
-use Rattle.std.proofs.Math.Seq.{length-take-le}
-use Rattle.pod_base.specs.declared.heard.Heard.{Heard}
 use Rattle.http_conn.specs.Messages.{EndsThere}
 use Rattle.pod_tool.specs.Talks.{IsRefused, TurnsIn}
-use Rattle.pod_tool.proofs.ServingLemmas.{begins, read_fault, bounded, at_end, no_memory, ends, statuses, goes_on, ended, never_reads}
+use Rattle.pod_tool.proofs.ServingLemmas.{read_fault, bounded, at_end, no_memory, ends, statuses, goes_on, ended, never_reads}
 use Rattle.pod_tool.proofs.ReadsLemmas.{reads_more, reads_none, ended_at, some_read}
 use Rattle.pod_tool.proofs.serve.serve.Goals as goal
 

@@ -1,4 +1,4 @@
-use Rattle.std.proofs.Common.{◌≡◌, take, refl, subst, ap, ◌∙◌}
+use Rattle.std.proofs.Common.{take, refl, subst}
 use Rattle.pod_tool.specs.Turns.{Adds}
 use Rattle.pod_tool.proofs.talk.refuse.Goals as goal
 

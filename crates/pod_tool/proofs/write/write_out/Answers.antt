@@ -1,4 +1,4 @@
-use Rattle.std.proofs.Common.{◌≡◌, List, ℕ, ◌++◌, length, take, drop, sym, subst, ◌∙◌, arith}
+use Rattle.std.proofs.Common.{◌≡◌, ◌++◌, length, take, drop, sym, subst, arith}
 use Rattle.pod_tool.specs.Turns.{Adds}
 use Rattle.pod_tool.proofs.TalksLemmas.{adds_more}
 use Rattle.pod_tool.proofs.WritesLemmas.{given_is, still_whole, part_is}

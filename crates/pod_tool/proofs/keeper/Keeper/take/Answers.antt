@@ -1,4 +1,4 @@
-use Rattle.std.proofs.Common.{◌≡◌, ℕ, ◌+◌, Bool, false, if◌then◌else◌, max, length, is_some, ap, ◌∙◌}
+use Rattle.std.proofs.Common.{◌≡◌, ℕ, ◌+◌, Bool, if◌then◌else◌, max, length, is_some, ap, ◌∙◌}
 use Rattle.std.specs.Option.{option_map_or, option_to_list}
 use Rattle.http_out.specs.Dates.{Dated}
 use Rattle.http_out.specs.Text.{response_text}

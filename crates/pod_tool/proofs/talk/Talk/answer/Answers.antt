@@ -1,4 +1,4 @@
-use Rattle.std.proofs.Common.{◌≡◌, List, ℕ, [], ◌∷◌, ◌++◌, take, true, false, arith, sym, refl, subst, ◌∙◌}
+use Rattle.std.proofs.Common.{[], ◌∷◌, ◌++◌, take, sym, subst, ◌∙◌}
 use Rattle.pod_base.specs.declared.heard.Heard.TheVariants as heard
 use Rattle.pod_tool.specs.Talks.{Ends}
 use Rattle.pod_tool.proofs.TalksLemmas.{stays_sound, goes_on, ends_last, end_of, over_last, stops_answering}

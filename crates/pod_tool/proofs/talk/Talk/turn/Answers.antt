@@ -1,5 +1,4 @@
-use Rattle.std.proofs.Common.{◌≡◌, List, ℕ, [], ◌∷◌, ◌++◌, sym, subst}
-use Rattle.pod_base.specs.declared.heard.Heard.{Heard}
+use Rattle.std.proofs.Common.{List, ℕ, [], ◌∷◌, ◌++◌, sym, subst}
 use Rattle.pod_tool.proofs.TalksLemmas.{invited_turns, refused_ends}
 use Rattle.pod_tool.specs.Talks.{Ends, Turns}
 use Rattle.pod_tool.specs.Turns.{Adds}
