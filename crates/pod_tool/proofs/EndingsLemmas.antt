@@ -1,25 +1,20 @@
--- What a connection has come to, where it ends.
-use Rattle.std.proofs.Common.{◌≡◌, ◌≢◌, inr, ℕ, false, if◌then◌else◌, List, [], ◌∷◌, ◌++◌, length, take, drop, map, Option, Some, None, is_some, IfSome, refl, sym, ap, append_assoc, ◌∙◌}
-use Rattle.std.specs.List.{AllByRecursion, flat_map}
-use Rattle.std.proofs.lemmas.Grind.{flat_map-append}
+-- A session, where the connection ends.
+use Rattle.std.proofs.Common.{◌≡◌, ◌≢◌, inr, ℕ, false, List, [], ◌∷◌, ◌++◌, length, take, drop, Option, Some, None, is_some, IfSome, refl, sym, ap, append_assoc, ◌∙◌}
+use Rattle.std.specs.List.{AllByRecursion}
 use Rattle.std.proofs.lemmas.List.{append-nil, take-append-drop, length-map}
 use Rattle.http_out.specs.Dates.{Dated}
+use Rattle.http_conn.specs.Messages.{StaysOpen}
 use Rattle.pod_base.specs.declared.request.Request.{Request}
 use Rattle.pod_base.specs.declared.heard.Heard.{Heard}
-use Rattle.pod_base.specs.declared.heard.Heard as heard
+use Rattle.pod_base.specs.declared.heard.Heard.TheVariants as heard
 use Rattle.pod_core.specs.declared.entry.Entry.{Entry}
 use Rattle.pod_tool.specs.Fresh.{fresh_pod, fresh_service}
-use Rattle.pod_tool.specs.Messages.{Requests, IsBad, IsPartial, rest_length, heard_of, unfinished, refused, unrefused, refused_first}
-use Rattle.pod_tool.specs.Output.{item_text, output_of}
+use Rattle.pod_tool.specs.Output.{output_of}
 use Rattle.pod_tool.specs.Served.{OnFresh, IsServed, IsStopped}
-use Rattle.pod_tool.specs.Session.{Outcome, answered, no_memory, disk_fault, Item, upgrades, UpgradesLast, ends_upgraded, requests_of, bad_status, IsRefused}
+use Rattle.pod_tool.specs.Session.{Outcome, answered, no_memory, disk_fault, Item, UpgradesLast, ends_upgraded, requests_of, bad_status, IsRefused as IsRefusedSession}
+use Rattle.pod_tool.specs.Talks.{IsPlainOutcome, IsPlain, Progress}
 use Rattle.pod_tool.specs.Turns.{Refuses, refusal_bytes}
-use Rattle.pod_tool.proofs.ProgressLemmas.{IsPlainOutcome, IsPlain, Progress}
-
-not_upgraded : (o : Outcome) → IsPlainOutcome o → upgrades o ≡ false
-not_upgraded (answered place response) h = h
-not_upgraded no_memory h = refl
-not_upgraded disk_fault h = absurd h
+use Rattle.pod_tool.proofs.HeardLemmas.{not_upgraded, requests_append, bad_behind, output_grows}
 
 no_fault : (o : Outcome) → IsPlainOutcome o → o ≢ disk_fault
 no_fault (answered place response) h e = cc
@@ -40,140 +35,92 @@ plain_end [] h = refl
 plain_end (item ∷ []) h = not_upgraded item.outcome h.0
 plain_end (item ∷ other ∷ items) h = plain_end (other ∷ items) h.1
 
--- what is heard behind requests
-heard_requests : (requests : List Request) (tail : List Heard) → requests_of (heard_of requests ++ tail) ≡ requests ++ requests_of tail
-heard_requests [] tail = refl
-heard_requests (r ∷ requests) tail = ap (λ rest. r ∷ rest) (heard_requests requests tail)
+pub all_have_items : (may_give : ℕ → Type 0) (owner : List ℕ) (requests : List Request) (items : List Item) (history : List Entry) → Progress may_give owner requests items history → length items ≡ length requests
+all_have_items may_give owner requests items history p = sym (length-map items (λ (i : Item). i.request)) ∙ ap length p.asked
 
-heard_bad : (requests : List Request) (tail : List Heard) → bad_status (heard_of requests ++ tail) ≡ bad_status tail
-heard_bad [] tail = refl
-heard_bad (r ∷ requests) tail = heard_bad requests tail
+-- a session of all that was heard
+pub on_fresh : (may_give : ℕ → Type 0) (owner : List ℕ) (requests : List Request) (items : List Item) (history : List Entry) → Progress may_give owner requests items history
+    → (hears : List Heard) (refusal : Option Dated) → requests_of hears ≡ requests → IfSome refusal (IsRefusedSession fresh_service (fresh_pod owner) history 1 may_give hears items) → OnFresh may_give owner hears items refusal
+on_fresh may_give owner requests items history p hears refusal same r = record {
+  history = history;
+  entries = p.entries;
+  session = record {
+    requests = record { behind = []; is = append-nil _ ∙ p.asked ∙ sym same };
+    numbers = p.numbers;
+    upgraded = plain_last items p.plain;
+    places = p.places;
+    answers = p.answers;
+    refused = r;
+  };
+  no_disk = plain_faults items p.plain;
+}
 
--- the bytes of plain items, and then of what is heard behind them
-outputs : (items : List Item) (tail : List Heard) (refusal : Option Dated) → AllByRecursion IsPlain items
-    → output_of fresh_service (heard_of (map (λ (i : Item). i.request) items) ++ tail) items refusal ≡ flat_map (item_text fresh_service) items ++ output_of fresh_service tail [] refusal
-outputs [] tail refusal h = refl
-outputs (item ∷ items) tail refusal h =
-    let rest = output_of fresh_service (heard_of (map (λ (i : Item). i.request) items) ++ tail) items refusal in
-    ap (λ b. item_text fresh_service item ++ (if b then [] else rest)) (not_upgraded item.outcome h.0)
-    ∙ ap (λ more. item_text fresh_service item ++ more) (outputs items tail refusal h.1)
-    ∙ sym (append_assoc (item_text fresh_service item) (flat_map (item_text fresh_service) items) _)
+-- a front of what a session writes
+pub begins : (may_give : ℕ → Type 0) (owner : List ℕ) (hears : List Heard) (written : List ℕ) (items : List Item) (refusal : Option Dated) → OnFresh may_give owner hears items refusal
+    → (front text behind : List ℕ) → written ≡ front ++ text → front ++ (text ++ behind) ≡ output_of fresh_service hears items refusal → IsStopped may_give owner hears written
+begins may_give owner hears written items refusal session front text behind is whole = record {
+  items = items;
+  refusal = refusal;
+  session = session;
+  output = record { behind = behind; is = ap (λ w. w ++ behind) is ∙ append_assoc front text behind ∙ whole };
+}
 
-module _ (may_give : ℕ → Type 0) (owner : List ℕ) (requests : List Request) (items : List Item) (history : List Entry) (p : Progress may_give owner requests items history) where
-  written : List ℕ
-  written = flat_map (item_text fresh_service) items
+-- a whole session is one that stopped
+pub served_stops : (may_give : ℕ → Type 0) (owner : List ℕ) (hears : List Heard) (written : List ℕ) → IsServed may_give owner hears written → IsStopped may_give owner hears written
+served_stops may_give owner hears written s = record {
+  items = s.items;
+  refusal = s.refusal;
+  session = s.session;
+  output = record { behind = []; is = append-nil _ ∙ s.output };
+}
 
-  output_is : (tail : List Heard) (refusal : Option Dated) → output_of fresh_service (heard_of requests ++ tail) items refusal ≡ flat_map (item_text fresh_service) items ++ output_of fresh_service tail [] refusal
-  output_is tail refusal = ap (λ rs. output_of fresh_service (heard_of rs ++ tail) items refusal) (sym p.asked) ∙ outputs items tail refusal p.plain
+-- all requests have an item, and nothing was refused
+pub serves : (may_give : ℕ → Type 0) (owner : List ℕ) (hears : List Heard) (items : List Item) (history : List Entry) (written : List ℕ) → Progress may_give owner (requests_of hears) items history
+    → bad_status hears ≡ None → written ≡ output_of fresh_service hears items None → IsServed may_give owner hears written
+serves may_give owner hears items history written p no_bad is = record {
+  items = items;
+  refusal = None;
+  session = on_fresh may_give owner (requests_of hears) items history p hears None refl tt;
+  whole = inr (all_have_items may_give owner (requests_of hears) items history p, ap is_some (sym no_bad));
+  output = is;
+}
 
-  on_fresh : (heard : List Heard) (refusal : Option Dated) → requests_of heard ≡ requests → IfSome refusal (IsRefused fresh_service (fresh_pod owner) history 1 may_give heard items) → OnFresh may_give owner heard items refusal
-  on_fresh heard refusal same r = record {
-    history = history;
-    entries = p.entries;
-    session = record {
-      requests = record { behind = []; is = append-nil _ ∙ p.asked ∙ sym same };
-      numbers = p.numbers;
-      upgraded = plain_last items p.plain;
-      places = p.places;
-      answers = p.answers;
-      refused = r;
-    };
-    no_disk = plain_faults items p.plain;
-  }
+module _ (may_give : ℕ → Type 0) (owner : List ℕ) (hears : List Heard) (items : List Item) (history : List Entry) (p : Progress may_give owner (requests_of hears) items history) (stays : StaysOpen 0 hears) (status : ℕ) (moment : Dated) (r : Refuses may_give moment) where
+  abbrev pub refused : List Heard
+  refused = hears ++ heard.Bad status ∷ []
 
-  all_have_items : length items ≡ length requests
-  all_have_items = sym (length-map items (λ (i : Item). i.request)) ∙ ap length p.asked
+  same_requests : requests_of refused ≡ requests_of hears
+  same_requests = requests_append hears (heard.Bad status ∷ []) ∙ append-nil _
 
-  plain_heard : requests_of (heard_of requests) ≡ requests
-  plain_heard = ap requests_of (sym (append-nil (heard_of requests))) ∙ heard_requests requests [] ∙ append-nil requests
-
-  bad_heard : (status : ℕ) → requests_of (heard_of requests ++ heard.TheVariants.Bad status ∷ []) ≡ requests
-  bad_heard status = heard_requests requests (heard.TheVariants.Bad status ∷ []) ∙ append-nil requests
-
-  plain_output : output_of fresh_service (heard_of requests) items None ≡ flat_map (item_text fresh_service) items
-  plain_output = ap (λ hs. output_of fresh_service hs items None) (sym (append-nil (heard_of requests))) ∙ output_is [] None ∙ append-nil _
-
-  no_bad : bad_status (heard_of requests) ≡ None
-  no_bad = ap bad_status (sym (append-nil (heard_of requests))) ∙ heard_bad requests []
-
-  -- all requests were answered, and less than another is left
-  pub ends_partial : (text left : List ℕ) → Requests text requests left → IsPartial left
-      → (heard : List Heard) × IsServed may_give owner text heard (rest_length left) (flat_map (item_text fresh_service) items) × (bad_status heard ≡ None)
-  ends_partial text left reads partial = (
-    heard_of requests,
-    record {
-      messages = unfinished requests left reads partial;
-      items = items;
-      refusal = None;
-      session = on_fresh (heard_of requests) None plain_heard tt;
-      whole = inr (all_have_items ∙ ap length (sym plain_heard), ap is_some (sym no_bad));
-      output = sym plain_output;
-    },
-    no_bad,
-  )
-
-  is_refused : (status : ℕ) (moment : Dated) → Refuses may_give moment → IsRefused fresh_service (fresh_pod owner) history 1 may_give (heard_of requests ++ heard.TheVariants.Bad status ∷ []) items moment
-  is_refused status moment r = record {
-    bad = ap is_some (heard_bad requests (heard.TheVariants.Bad status ∷ []));
-    all = all_have_items ∙ ap length (sym (bad_heard status));
+  is_refused : IsRefusedSession fresh_service (fresh_pod owner) history 1 may_give refused items moment
+  is_refused = record {
+    bad = ap is_some (bad_behind 0 hears (heard.Bad status ∷ []) stays);
+    all = all_have_items may_give owner (requests_of hears) items history p ∙ ap length (sym same_requests);
     open_still = plain_end items p.plain;
     date = r.date;
     clock = r.clock;
   }
 
-  -- all requests were answered, and bytes that are no message were refused
-  pub ends_bad : (text left : List ℕ) (status : ℕ) → Requests text requests left → IsBad left status → (moment : Dated) → Refuses may_give moment
-      → (heard : List Heard) × IsServed may_give owner text heard 0 (flat_map (item_text fresh_service) items ++ refusal_bytes status moment) × (bad_status heard ≡ Some status)
-  ends_bad text left status reads bad moment r =
-      let tail = heard.TheVariants.Bad status ∷ [] in (
-        heard_of requests ++ tail,
-        record {
-          messages = refused requests left status reads bad;
-          items = items;
-          refusal = Some moment;
-          session = on_fresh (heard_of requests ++ tail) (Some moment) (bad_heard status) (is_refused status moment r);
-          whole = inr (all_have_items ∙ ap length (sym (bad_heard status)), ap is_some (sym (heard_bad requests tail)));
-          output = sym (output_is tail (Some moment));
-        },
-        heard_bad requests tail,
-      )
+  refused_session : OnFresh may_give owner refused items (Some moment)
+  refused_session = on_fresh may_give owner (requests_of hears) items history p refused (Some moment) same_requests is_refused
 
-  -- only the requests so far were answered, and a front of their answers was written
-  pub stops : (text left : List ℕ) → Requests text requests left → (front behind : List ℕ) → front ++ behind ≡ flat_map (item_text fresh_service) items → IsStopped may_give owner text front
-  stops text left reads front behind is = record {
-    heard = heard_of requests;
-    first = unrefused requests left reads;
+  refused_output : output_of fresh_service hears items None ++ refusal_bytes status moment ≡ output_of fresh_service refused items (Some moment)
+  refused_output =
+      sym (output_grows 0 hears (heard.Bad status ∷ []) items [] (Some moment) stays p.plain (all_have_items may_give owner (requests_of hears) items history p))
+      ∙ ap (λ all. output_of fresh_service refused all (Some moment)) (append-nil items)
+
+  -- bytes that are no message were refused
+  pub serves_refused : (written : List ℕ) → written ≡ output_of fresh_service hears items None ++ refusal_bytes status moment → IsServed may_give owner refused written
+  serves_refused written is = record {
     items = items;
-    refusal = None;
-    session = on_fresh (heard_of requests) None plain_heard tt;
-    output = record { behind = behind; is = is ∙ sym plain_output };
+    refusal = Some moment;
+    session = refused_session;
+    whole = inr (all_have_items may_give owner (requests_of hears) items history p ∙ ap length (sym same_requests), ap is_some (sym (bad_behind 0 hears (heard.Bad status ∷ []) stays)));
+    output = is ∙ refused_output;
   }
 
   -- a front of the refusal was written
-  pub stops_refusing : (text left : List ℕ) (status : ℕ) → Requests text requests left → IsBad left status → (moment : Dated) → Refuses may_give moment → (count : ℕ)
-      → IsStopped may_give owner text (flat_map (item_text fresh_service) items ++ take count (refusal_bytes status moment))
-  stops_refusing text left status reads bad moment r count =
-      let tail = heard.TheVariants.Bad status ∷ [] in
-      record {
-        heard = heard_of requests ++ tail;
-        first = refused_first requests left status reads bad;
-        items = items;
-        refusal = Some moment;
-        session = on_fresh (heard_of requests ++ tail) (Some moment) (bad_heard status) (is_refused status moment r);
-        output = record {
-          behind = drop count (refusal_bytes status moment);
-          is = append_assoc (flat_map (item_text fresh_service) items) (take count (refusal_bytes status moment)) (drop count (refusal_bytes status moment))
-              ∙ ap (λ more. flat_map (item_text fresh_service) items ++ more) (take-append-drop count (refusal_bytes status moment)) ∙ sym (output_is tail (Some moment));
-        };
-      }
-
--- a front of the last item's bytes was written
-pub stops_answering : (may_give : ℕ → Type 0) (owner : List ℕ) (requests : List Request) (items : List Item) (item : Item) (history : List Entry) → Progress may_give owner requests (items ++ item ∷ []) history
-    → (text left : List ℕ) → Requests text requests left → (count : ℕ) → IsStopped may_give owner text (flat_map (item_text fresh_service) items ++ take count (item_text fresh_service item))
-stops_answering may_give owner requests items item history p text left reads count =
-    let bytes = item_text fresh_service item in
-    let before = flat_map (item_text fresh_service) items in
-    let all : flat_map (item_text fresh_service) (items ++ item ∷ []) ≡ before ++ bytes =
-    flat_map-append (item_text fresh_service) items (item ∷ []) ∙ ap (λ more. before ++ more) (append-nil bytes) in
-    stops may_give owner requests (items ++ item ∷ []) history p text left reads (before ++ take count bytes) (drop count bytes)
-    (append_assoc before (take count bytes) (drop count bytes) ∙ ap (λ more. before ++ more) (take-append-drop count bytes) ∙ sym all)
+  pub stops_refused : (written : List ℕ) (count : ℕ) → written ≡ output_of fresh_service hears items None ++ take count (refusal_bytes status moment) → IsStopped may_give owner refused written
+  stops_refused written count is =
+      begins may_give owner refused written items (Some moment) refused_session (output_of fresh_service hears items None) (take count (refusal_bytes status moment)) (drop count (refusal_bytes status moment)) is
+          (ap (λ more. output_of fresh_service hears items None ++ more) (take-append-drop count (refusal_bytes status moment)) ∙ refused_output)

@@ -1,11 +1,10 @@
-pub mod DigitsLemmas
 pub mod EndingsLemmas
-pub mod JudgedLemmas
-pub mod PipesLemmas
+pub mod HeardLemmas
 pub mod ProgressLemmas
-pub mod ReadingLemmas
 pub mod ReadsLemmas
+pub mod RefusedLemmas
 pub mod RepliesLemmas
-pub mod RunLemmas
+pub mod ServingLemmas
 pub mod SessionLemmas
+pub mod TalksLemmas
 pub mod WritesLemmas

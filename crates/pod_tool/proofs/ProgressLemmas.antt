@@ -1,13 +1,13 @@
 -- How far a connection has come: its session so far, and a turn more.
 use Rattle.std.proofs.Common.{◌≡◌, inl, inr, ℕ, ◌+◌, ◌-◌, ◌==◌, true, false, cond, if◌then◌else◌, List, [], ◌∷◌, ◌++◌, length, take, fold, map, slice_get, max, Option, Some, None, is_some, IfSome, refl, sym, ap, ap₂, subst, length-append, ◌∙◌, arith}
 use Rattle.std.specs.Option.{option_map_or, option_to_list}
-use Rattle.std.specs.List.{AllByRecursion, flat_map, range_with_len}
+use Rattle.std.specs.List.{flat_map, range_with_len}
 use Rattle.std.proofs.lemmas.Grind.{flat_map-append, fold-append}
 use Rattle.std.proofs.lemmas.List.{append-nil}
 use Rattle.std.proofs.Math.Seq.{take-length}
 use Rattle.std.proofs.lemmas.Bool.Decides.{nat_tests}
 use Rattle.http_out.specs.Dates.{Dated}
-use Rattle.http_out.specs.Text.{memory_text}
+use Rattle.http_out.specs.Text.{memory_text, response_text}
 use Rattle.pod_base.specs.declared.request.Request.{Request}
 use Rattle.pod_base.specs.declared.response.Response.{Response}
 use Rattle.pod_core.specs.State.{State, apply}
@@ -16,36 +16,13 @@ use Rattle.pod_core.specs.Reply.{reply_of, is_change}
 use Rattle.pod_core.specs.declared.reply.Replied.{Replied}
 use Rattle.pod_base.specs.declared.moment.Stamp.{Stamp}
 use Rattle.pod_tool.specs.declared.keeper.Keeper.{Keeper}
-use Rattle.pod_tool.specs.Fresh.{fresh_pod, fresh_service}
+use Rattle.pod_tool.specs.Fresh.{fresh_pod, fresh_service, closes_after}
 use Rattle.pod_tool.specs.Output.{item_text}
-use Rattle.pod_tool.specs.Session.{Outcome, answered, no_memory, disk_fault, Item, NeverFalls, IsItem, IsAnswered, IsTimely, places_of, entries_of, reply_at, moment_before}
+use Rattle.pod_tool.specs.Session.{answered, no_memory, Item, NeverFalls, IsAnswered, IsTimely, places_of, entries_of, reply_at, moment_before}
 use Rattle.pod_tool.specs.Turns.{IsTaken, Turned, reply_now, stamped}
+use Rattle.pod_tool.specs.Talks.{IsPlain, Progress, Keeps}
 use Rattle.pod_tool.proofs.RepliesLemmas.{plain_reply}
 use Rattle.pod_tool.proofs.SessionLemmas.{all_snoc, if_some_weaker, range_snoc, falls_append, slice_get_last, reply_grows, moment_grows, items_grow, all_places_grow, all_entries_grow}
-
--- an item that is neither upgraded nor met a disk fault
-abbrev pub IsPlainOutcome : Outcome → Type 0
-IsPlainOutcome (answered place response) = (response.status == 101) ≡ false
-IsPlainOutcome no_memory = Unit {0}
-IsPlainOutcome disk_fault = ⊥
-
-abbrev pub IsPlain : Item → Type 0
-IsPlain item = IsPlainOutcome item.outcome
-
--- The session of a new pod so far: its items and its history.
-pub record Progress (may_give : ℕ → Type 0) (owner : List ℕ) (requests : List Request) (items : List Item) (history : List Entry) : Type 0 where
-  pub asked : map (λ item. item.request) items ≡ requests
-  pub numbers : map (λ item. item.number) items ≡ range_with_len 1 (length items)
-  pub answers : AllByRecursion (IsItem fresh_service (fresh_pod owner) history 1 may_give) items
-  pub places : NeverFalls 0 (flat_map (places_of fresh_service (fresh_pod owner) history 1 may_give) items) (length history)
-  pub entries : flat_map (entries_of fresh_service (fresh_pod owner) history 1 may_give) items ≡ history
-  pub plain : AllByRecursion IsPlain items
-
--- what the keeper keeps of a history
-pub record Keeps (may_give : ℕ → Type 0) (owner : List ℕ) (history : List Entry) (keeper : Keeper) : Type 0 where
-  pub pod : keeper.pod ≡ fold apply (fresh_pod owner) history
-  pub next : keeper.next ≡ length history
-  pub last : keeper.last.0 ≡ moment_before fresh_service (fresh_pod owner) history 1 may_give (length history)
 
 pub nothing_yet : (may_give : ℕ → Type 0) (owner : List ℕ) → Progress may_give owner [] [] []
 nothing_yet may_give owner = record { asked = refl; numbers = refl; answers = tt; places = omega arith; entries = refl; plain = tt }
@@ -172,7 +149,7 @@ module _ (may_give : ℕ → Type 0) (owner : List ℕ) (requests : List Request
           next = t.next ∙ ap (λ n. n + length added) k.next ∙ sym (length-append history added);
           last = t.last ∙ latest may_give owner history replied.entry t.moment.seconds old.last.0 (if_some_weaker replied.entry _ _ (λ e is. ap (λ (s : Stamp). s.moment.0) is) plain.stamped) k.last;
         };
-        text = sym t.text;
+        text = ap (λ n. response_text replied.response t.moment.date (closes_after request n)) (omega arith) ∙ sym t.text;
       }
 
   pub turned : (new : Keeper) (bytes : List ℕ) → Turned may_give old new request (length items + 1) bytes → Next may_give owner (requests ++ request ∷ []) items new bytes

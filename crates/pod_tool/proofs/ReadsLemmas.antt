@@ -1,10 +1,10 @@
 -- A read behind another.
-use Rattle.std.proofs.Common.{◌≡◌, ℕ, List, ◌++◌, take, drop, Option, Some, None, refl, sym, ap, subst, append_assoc, ◌∙◌}
+use Rattle.std.proofs.Common.{◌≡◌, ℕ, ◌≤◌, ◌<◌, List, [], ◌++◌, length, take, drop, Option, Some, None, refl, sym, ap, subst, append_assoc, ◌∙◌, arith}
 use Rattle.std.specs.Option.{option_map}
 use Rattle.std.proofs.Math.Seq.{take-append_seam, length-take-le}
-use Rattle.std.proofs.lemmas.List.{take-append-drop}
+use Rattle.std.proofs.lemmas.List.{append-nil, take-append-drop}
 use Rattle.pod_io.specs.Told.{IfTold, IsRead}
-use Rattle.pod_tool.specs.Collected.{Reads}
+use Rattle.pod_tool.specs.Reads.{Reads, AtEnd}
 
 -- the front of the slice has that many bytes of the rest
 front_is : (rest old piece : List ℕ) (count : ℕ) → IsRead rest count old piece → take count piece ≡ take count rest
@@ -21,3 +21,19 @@ reads_more text old piece count first (Some rest) last reads told is =
     ap (λ r. text ++ r) (sym (take-append-drop count rest)) ∙ sym (append_assoc text (take count rest) (drop count rest))
     ∙ ap (λ f. (text ++ f) ++ drop count rest) (sym front) in
     reads ∙ ap Some whole ∙ ap (option_map (λ r. (text ++ take count piece) ++ r)) (sym is)
+
+-- where no byte came the input is at its end
+pub ended_at : (old piece : List ℕ) (count : ℕ) (middle last : Option (List ℕ)) → count ≡ 0 → IfTold middle (λ rest. IsRead rest count old piece) → last ≡ option_map (drop count) middle → AtEnd last
+ended_at old piece count None last none told is = λ bytes e. let never : None ≡ Some bytes = sym is ∙ e in cc
+ended_at old piece count (Some rest) last none told is =
+    let empty : rest ≡ [] = (told rest refl).ended none in
+    let same : last ≡ Some [] = is ∙ ap (λ r. Some (drop count r)) empty ∙ ap (λ n. Some (drop n [])) none in
+    λ bytes e. let here : Some [] ≡ Some bytes = sym same ∙ e in cc
+
+-- and nothing more was read
+pub reads_none : (text old piece : List ℕ) (count : ℕ) (first middle last : Option (List ℕ)) → count ≡ 0 → Reads text first middle → IfTold middle (λ rest. IsRead rest count old piece) → last ≡ option_map (drop count) middle → Reads text first last
+reads_none text old piece count first middle last none reads told is =
+    subst (λ t. Reads t first last) (ap (λ n. text ++ take n piece) none ∙ append-nil text) (reads_more text old piece count first middle last reads told is)
+
+pub some_read : (piece : List ℕ) (count : ℕ) → count ≤ length piece → (count ≡ 0 → ⊥) → 0 < length (take count piece)
+some_read piece count within some = omega (arith, some, length-take-le count piece within)

@@ -1,4 +1,6 @@
-use Rattle.std.specs.Prelude.{ℕ, ◌==◌, false, if◌then◌else◌, List, codes}
+use Rattle.std.specs.Prelude.{ℕ, Bool, ◌==◌, ◌||◌, if◌then◌else◌, List, codes}
+use Rattle.http_conn.specs.Messages.{closes_behind, most_requests}
+use Rattle.pod_base.specs.declared.request.Request.{Request}
 use Rattle.pod_base.specs.declared.response.Response.{Response}
 use Rattle.pod_core.specs.State.{State, new_pod, apply}
 use Rattle.pod_core.specs.Reply.{reply_of, refusal, is_change}
@@ -17,12 +19,19 @@ fresh_pod owner = new_pod fresh_base owner
 
 -- the word of the refusal of bytes that are no message
 abbrev pub refusal_word : ℕ → List ℕ
-refusal_word status = if status == 400 then codes "message" else codes "unbuilt"
+refusal_word status =
+    if status == 400 then codes "message"
+    else if status == 413 then codes "body-size"
+    else if status == 431 then codes "head-size"
+    else codes "coding"
 
 abbrev pub refusal_of : ℕ → Response
 refusal_of status = refusal status (refusal_word status)
 
--- no connection closes of itself
+-- whether the connection closes behind a request of that number: it asks for that, or it is the last that is heard
+abbrev pub closes_after : Request → ℕ → Bool
+closes_after request number = closes_behind request || number == most_requests
+
 abbrev pub fresh_service : Service State Entry
 fresh_service = record {
   reply = λ pod request seq stamp. ((reply_of pod request seq stamp).response, (reply_of pod request seq stamp).entry);
@@ -30,5 +39,5 @@ fresh_service = record {
   seconds = λ entry. entry.stamp.moment.0;
   is_change = λ request. is_change request.method;
   refusal = refusal_of;
-  closes = λ request number. false;
+  closes = closes_after;
 }

@@ -1,12 +1,9 @@
-pub mod Built
-pub mod Collected
 pub mod Fresh
-pub mod Messages
-pub mod Nexts
 pub mod Output
+pub mod Reads
 pub mod Served
 pub mod Session
 pub mod Statuses
+pub mod Talks
 pub mod Turns
-pub mod Verdicts
 pub mod Words

@@ -1,17 +1,14 @@
-use Rattle.std.specs.Prelude.{◌≡◌, ◌≢◌, ℕ, List, length, Option, Some, None}
+use Rattle.std.specs.Prelude.{◌≡◌, ◌≢◌, ℕ, List, length, Option}
 use Rattle.std.specs.List.{AllByRecursion, flat_map}
 use Rattle.http_out.specs.Dates.{Dated}
 use Rattle.pod_base.specs.declared.heard.Heard.{Heard}
 use Rattle.pod_core.specs.declared.entry.Entry.{Entry}
 use Rattle.pod_tool.specs.Fresh.{fresh_pod, fresh_service}
-use Rattle.pod_tool.specs.Messages.{Messages, FirstHeard}
 use Rattle.pod_tool.specs.Output.{output_of}
-use Rattle.pod_tool.specs.Session.{Begins, Item, disk_fault, entries_of, Session, IsWhole, bad_status}
+use Rattle.pod_tool.specs.Session.{Begins, Item, disk_fault, entries_of, Session, IsWhole}
 use Rattle.pod_tool.specs.declared.keeper.Keeper.{Keeper}
-use Rattle.pod_tool.specs.declared.serve.Ended.{Ended}
-use Rattle.pod_tool.specs.declared.serve.Ended.TheVariants.{Partial, Bad, NoMemory, WriteFault}
 
--- What was written of what was read, on a new pod of that owner, in connection 1.
+-- What was written of what was heard, on a new pod of that owner, in connection 1.
 
 -- The history is the new pod and exactly the items' entries, and no item met a disk fault.
 pub record OnFresh (may_give : ℕ → Type 0) (owner : List ℕ) (heard : List Heard) (items : List Item) (refusal : Option Dated) : Type 0 where
@@ -20,19 +17,16 @@ pub record OnFresh (may_give : ℕ → Type 0) (owner : List ℕ) (heard : List 
   pub session : Session fresh_service (fresh_pod owner) history 1 may_give heard 0 items refusal (length history)
   pub no_disk : AllByRecursion (λ item. item.outcome ≢ disk_fault) items
 
--- All that was read was served: the bytes written are those of a whole session over its messages.
-pub record IsServed (may_give : ℕ → Type 0) (owner : List ℕ) (read : List ℕ) (heard : List Heard) (rest : ℕ) (written : List ℕ) : Type 0 where
-  pub messages : Messages read heard rest
+-- All that was heard was served: the bytes written are those of a whole session over it.
+pub record IsServed (may_give : ℕ → Type 0) (owner : List ℕ) (heard : List Heard) (written : List ℕ) : Type 0 where
   pub items : List Item
   pub refusal : Option Dated
   pub session : OnFresh may_give owner heard items refusal
   pub whole : IsWhole heard items refusal
   pub output : written ≡ output_of fresh_service heard items refusal
 
--- Serving stopped: the bytes written begin those of a session over what is heard first in what was read.
-pub record IsStopped (may_give : ℕ → Type 0) (owner : List ℕ) (read written : List ℕ) : Type 0 where
-  pub heard : List Heard
-  pub first : FirstHeard read heard
+-- Serving stopped: the bytes written begin those of a session over what was heard.
+pub record IsStopped (may_give : ℕ → Type 0) (owner : List ℕ) (heard : List Heard) (written : List ℕ) : Type 0 where
   pub items : List Item
   pub refusal : Option Dated
   pub session : OnFresh may_give owner heard items refusal
@@ -43,12 +37,3 @@ pub record IsNew (keeper : Keeper) : Type 0 where
   pub pod : keeper.pod ≡ fresh_pod keeper.pod.owner
   pub next : keeper.next ≡ 0
   pub last : keeper.last.0 ≡ 0
-
--- how serving ended, and what was written until then
-abbrev pub EndsAs : (ℕ → Type 0) → List ℕ → List ℕ → Ended → List ℕ → Type 0
-EndsAs may_give owner read (Partial rest) written =
-    (heard : List Heard) × IsServed may_give owner read heard rest written × (bad_status heard ≡ None)
-EndsAs may_give owner read (Bad status) written =
-    (heard : List Heard) × IsServed may_give owner read heard 0 written × (bad_status heard ≡ Some status)
-EndsAs may_give owner read NoMemory written = IsStopped may_give owner read written
-EndsAs may_give owner read WriteFault written = IsStopped may_give owner read written

@@ -1,18 +1,19 @@
 use Rattle.std.specs.Prelude.{◌≡◌, ◌⊎◌, ℕ, ◌^◌, ◌<◌, ◌≤◌, List, [], ◌++◌, length, take, Option, Some, None, codes, decimal}
-use Rattle.std.specs.Option.{option_map}
+use Rattle.http_conn.specs.Messages.{Messages, FirstHeard, StaysOpen, most_requests}
 use Rattle.pod_base.specs.declared.heard.Heard.{Heard}
 use Rattle.pod_io.specs.Counts.{Rose}
-use Rattle.pod_tool.specs.Collected.{Reads, AtEnd}
+use Rattle.pod_tool.specs.Reads.{Reads, AtEnd}
 use Rattle.pod_tool.specs.Served.{IsServed, IsStopped}
-use Rattle.pod_tool.specs.Session.{bad_status}
-use Rattle.pod_tool.specs.declared.serve.Ended.{Ended}
-use Rattle.pod_tool.specs.declared.serve.Ended.TheVariants as ended
+use Rattle.pod_tool.specs.Session.{requests_of, bad_status}
+use Rattle.pod_tool.specs.Turns.{Adds}
 use Rattle.pod_tool.specs.declared.status.PipeEnd.{PipeEnd}
-use Rattle.pod_tool.specs.declared.status.PipeEnd.TheVariants.{Peer, Cut, Bad, ReadFault, WriteFault, NoMemory, Bounded}
+use Rattle.pod_tool.specs.declared.status.PipeEnd.TheVariants.{Peer, Cut, Closed, Limit, Bad, ReadFault, WriteFault, NoMemory, Bounded}
 
 -- the status of each end
 abbrev pub status_of : PipeEnd → ℕ
 status_of Peer = 0
+status_of Closed = 0
+status_of Limit = 0
 status_of ReadFault = 3
 status_of WriteFault = 4
 status_of NoMemory = 7
@@ -20,72 +21,75 @@ status_of (Cut rest) = 12
 status_of (Bad status) = 13
 status_of Bounded = 14
 
--- What was read and written, by how the connection ended. The bytes written are those of a whole session over the bytes
--- read; where a write failed or no memory was left, they begin those of a session over them.
-abbrev pub EndsWith : (ℕ → Type 0) → List ℕ → PipeEnd → List ℕ → List ℕ → Option (List ℕ) → Type 0
-EndsWith may_give owner Peer read written left =
-    (heard : List Heard) × IsServed may_give owner read heard 0 written × (bad_status heard ≡ None) × AtEnd left
-EndsWith may_give owner (Cut rest) read written left =
-    (heard : List Heard) × IsServed may_give owner read heard rest written × (0 < rest) × (bad_status heard ≡ None) × AtEnd left
-EndsWith may_give owner (Bad status) read written left =
-    (heard : List Heard) × IsServed may_give owner read heard 0 written × (bad_status heard ≡ Some status) × AtEnd left
-EndsWith may_give owner ReadFault read written left = (heard : List Heard) × (rest : ℕ) × IsServed may_give owner read heard rest written
-EndsWith may_give owner Bounded read written left =
-    (heard : List Heard) × (rest : ℕ) × IsServed may_give owner read heard rest written × (2 ^ 40 ≤ length read)
-EndsWith may_give owner WriteFault read written left = IsStopped may_give owner read written
-EndsWith may_give owner NoMemory read written left = IsStopped may_give owner read written
+-- a last request ended the connection: it asks for that, or it is the 10,000th
+abbrev pub IsLastHeard : List Heard → Type 0
+IsLastHeard heard = (StaysOpen 0 heard → ⊥) × (bad_status heard ≡ None)
 
--- The input gave the bytes that were read, and the output took those that were written.
+-- What was heard in the bytes that were read, and what is left of them, by how the connection ended.
+abbrev pub IsHeard : PipeEnd → List ℕ → List Heard → Option (List ℕ) → Type 0
+IsHeard Peer read heard left = Messages read heard 0 × StaysOpen 0 heard × AtEnd left
+IsHeard (Cut rest) read heard left = Messages read heard rest × (0 < rest) × StaysOpen 0 heard × AtEnd left
+IsHeard Closed read heard left = Messages read heard 0 × IsLastHeard heard × (length (requests_of heard) < most_requests)
+IsHeard Limit read heard left = Messages read heard 0 × IsLastHeard heard × (length (requests_of heard) ≡ most_requests)
+IsHeard (Bad status) read heard left = Messages read heard 0 × (bad_status heard ≡ Some status)
+IsHeard ReadFault read heard left = (rest : ℕ) × Messages read heard rest × StaysOpen 0 heard
+IsHeard Bounded read heard left = (rest : ℕ) × Messages read heard rest × StaysOpen 0 heard × (2 ^ 40 ≤ length read)
+IsHeard WriteFault read heard left = FirstHeard read heard
+IsHeard NoMemory read heard left = FirstHeard read heard
+
+-- What was written of it. All was served; where a write failed or no memory was left, the bytes begin those of a session.
+abbrev pub IsWritten : (ℕ → Type 0) → List ℕ → PipeEnd → List Heard → List ℕ → Type 0
+IsWritten may_give owner WriteFault heard written = IsStopped may_give owner heard written
+IsWritten may_give owner NoMemory heard written = IsStopped may_give owner heard written
+IsWritten may_give owner _ heard written = IsServed may_give owner heard written
+
+-- The input gave the bytes that were read, and the output took those that were written: those of a session over what was heard.
 pub record Pipes (may_give : ℕ → Type 0) (owner : List ℕ) (end : PipeEnd) (old_input new_input old_output new_output : Option (List ℕ)) : Type 0 where
   pub read : List ℕ
+  pub heard : List Heard
   pub written : List ℕ
   pub reads : Reads read old_input new_input
-  pub writes : new_output ≡ option_map (λ bytes. bytes ++ written) old_output
-  pub ends : EndsWith may_give owner end read written new_input
+  pub hears : IsHeard end read heard new_input
+  pub serves : IsWritten may_give owner end heard written
+  pub writes : Adds written old_output new_output
 
 -- the last line on the error sink
 abbrev pub end_line : PipeEnd → List ℕ
 end_line Peer = codes "end: peer\n"
+end_line Closed = codes "end: closed\n"
+end_line Limit = codes "end: limit\n"
 end_line (Cut rest) = codes "end: cut " ++ decimal rest ++ codes "\n"
 end_line (Bad status) = codes "end: bad " ++ decimal status ++ codes "\n"
 end_line _ = []
 
--- the error sink has this line too
-abbrev pub Adds : List ℕ → Option (List ℕ) → Option (List ℕ) → Type 0
-Adds line old new = new ≡ option_map (λ bytes. bytes ++ line) old
+-- the sink has the line too, or a front of it where its count rose
+abbrev pub AddsOrPart : List ℕ → Option (List ℕ) → Option (List ℕ) → ℕ → ℕ → Type 0
+AddsOrPart line old new before after = Adds line old new ⊎ (Rose before after × ((count : ℕ) × Adds (take count line) old new))
 
--- What the error sink has then: the line of the end, or a front of it where its count rose; a failed write of it
--- changes no other end than that of the peer.
+-- What the error sink has then: the line of the end, or a front of it where its count rose. A line of status 0 that fails makes
+-- the end a write fault; another that fails changes nothing.
 abbrev pub Tells : PipeEnd → Option (List ℕ) → Option (List ℕ) → ℕ → ℕ → Type 0
 Tells Peer old new before after = Adds (end_line Peer) old new
-Tells (Cut rest) old new before after =
-    Adds (end_line (Cut rest)) old new ⊎ (Rose before after × ((count : ℕ) × Adds (take count (end_line (Cut rest))) old new))
-Tells (Bad status) old new before after =
-    Adds (end_line (Bad status)) old new ⊎ (Rose before after × ((count : ℕ) × Adds (take count (end_line (Bad status))) old new))
-Tells WriteFault old new before after = (count : ℕ) × Adds (take count (end_line Peer)) old new
+Tells Closed old new before after = Adds (end_line Closed) old new
+Tells Limit old new before after = Adds (end_line Limit) old new
+Tells (Cut rest) old new before after = AddsOrPart (end_line (Cut rest)) old new before after
+Tells (Bad status) old new before after = AddsOrPart (end_line (Bad status)) old new before after
+Tells WriteFault old new before after = (end : PipeEnd) × (status_of end ≡ 0) × (count : ℕ) × Adds (take count (end_line end)) old new
 Tells NoMemory old new before after = new ≡ old
 Tells ReadFault old new before after = new ≡ old
 Tells Bounded old new before after = new ≡ old
 
--- how a connection whose input was read to its end ends, by how serving ended: a line that can't be written or made
--- is a write fault or want of memory
-abbrev pub ComesOf : Ended → PipeEnd → Type 0
-ComesOf (ended.Partial rest) Peer = rest ≡ 0
-ComesOf (ended.Partial rest) (Cut left) = (left ≡ rest) × (0 < rest)
-ComesOf (ended.Partial rest) WriteFault = rest ≡ 0
-ComesOf (ended.Partial rest) NoMemory = Unit {0}
-ComesOf (ended.Bad status) (Bad told) = told ≡ status
-ComesOf (ended.Bad status) NoMemory = Unit {0}
-ComesOf ended.NoMemory NoMemory = Unit {0}
-ComesOf ended.WriteFault WriteFault = Unit {0}
-ComesOf _ _ = ⊥
+-- whether a line tells of the end
+abbrev pub IsTold : PipeEnd → Type 0
+IsTold ReadFault = ⊥
+IsTold WriteFault = ⊥
+IsTold NoMemory = ⊥
+IsTold Bounded = ⊥
+IsTold _ = Unit {0}
 
--- how a connection ends that was to end so, unless serving stopped
-abbrev pub unless_stopped : Ended → PipeEnd → PipeEnd
-unless_stopped (ended.Partial rest) end = end
-unless_stopped (ended.Bad status) end = end
-unless_stopped ended.NoMemory end = NoMemory
-unless_stopped ended.WriteFault end = WriteFault
+-- How a connection ends that ended so: a line that can't be written or made is a write fault or want of memory.
+abbrev pub ComesOf : PipeEnd → PipeEnd → Type 0
+ComesOf end told = (told ≡ end) ⊎ (IsTold end × ((told ≡ WriteFault) ⊎ (told ≡ NoMemory)))
 
 -- nothing was read or written
 pub record Untouched (old_input new_input old_output new_output old_errors new_errors : Option (List ℕ)) : Type 0 where

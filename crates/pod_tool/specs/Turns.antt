@@ -1,4 +1,4 @@
-use Rattle.std.specs.Prelude.{◌≡◌, ◌⊎◌, ℕ, ◌+◌, ◌≤◌, false, true, if◌then◌else◌, max, List, length, take, ◌++◌, Option, is_some, Result, OnOk, OnErr}
+use Rattle.std.specs.Prelude.{◌≡◌, ◌⊎◌, ℕ, ◌+◌, true, if◌then◌else◌, max, List, length, take, ◌++◌, Option, is_some, Result, OnOk, OnErr}
 use Rattle.std.specs.Option.{option_map, option_map_or, option_to_list}
 use Rattle.http_out.specs.Dates.{Dated, IsDated}
 use Rattle.http_out.specs.Text.{response_text, memory_text}
@@ -7,12 +7,9 @@ use Rattle.pod_base.specs.declared.request.Request.{Request}
 use Rattle.pod_core.specs.State.{apply}
 use Rattle.pod_core.specs.Reply.{reply_of, is_change}
 use Rattle.pod_core.specs.declared.reply.Replied.{Replied}
-use Rattle.pod_io.specs.Counts.{Rose}
 use Rattle.pod_tool.specs.Session.{IsClockMoment}
-use Rattle.pod_tool.specs.Fresh.{refusal_of}
+use Rattle.pod_tool.specs.Fresh.{refusal_of, closes_after}
 use Rattle.pod_tool.specs.declared.keeper.Keeper.{Keeper}
-use Rattle.pod_tool.specs.declared.serve.Ended.{Ended}
-use Rattle.pod_tool.specs.declared.serve.Ended.TheVariants.{Partial, Bad, NoMemory, WriteFault}
 
 -- One request of a connection.
 
@@ -30,7 +27,7 @@ pub record IsTaken (may_give : ℕ → Type 0) (old new : Keeper) (request : Req
   pub clock : ℕ
   pub given : IsClockMoment may_give clock
   pub later : moment.seconds ≡ (if is_change request.method then max clock old.last.0 else clock)
-  pub text : bytes ≡ response_text (reply_now old request number moment).response moment.date false
+  pub text : bytes ≡ response_text (reply_now old request number moment).response moment.date (closes_after request number)
   pub pod : new.pod ≡ option_map_or (apply old.pod) (reply_now old request number moment).entry old.pod
   pub next : new.next ≡ old.next + length (option_to_list (reply_now old request number moment).entry)
   pub last : new.last.0 ≡ (if is_some (reply_now old request number moment).entry then moment.seconds else old.last.0)
@@ -39,10 +36,14 @@ pub record IsTaken (may_give : ℕ → Type 0) (old new : Keeper) (request : Req
 abbrev pub Turned : (ℕ → Type 0) → Keeper → Keeper → Request → ℕ → List ℕ → Type 0
 Turned may_give old new request number bytes = IsTaken may_give old new request number bytes ⊎ ((new ≡ old) × (bytes ≡ memory_text))
 
+-- a sink has these bytes too
+abbrev pub Adds : List ℕ → Option (List ℕ) → Option (List ℕ) → Type 0
+Adds bytes old new = new ≡ option_map (λ taken. taken ++ bytes) old
+
 -- a sink has the text too, or a front of it where a write failed
 pub record Writes {E : Type 0} (result : Result (Unit {0}) E) (text : List ℕ) (old new : Option (List ℕ)) : Type 0 where
-  pub whole : OnOk result (new ≡ option_map (λ bytes. bytes ++ text) old)
-  pub part : OnErr result ((count : ℕ) × (new ≡ option_map (λ bytes. bytes ++ take count text) old))
+  pub whole : OnOk result (Adds text old new)
+  pub part : OnErr result ((count : ℕ) × Adds (take count text) old new)
 
 -- bytes that are no message were refused at this moment
 pub record Refuses (may_give : ℕ → Type 0) (moment : Dated) : Type 0 where
@@ -51,17 +52,3 @@ pub record Refuses (may_give : ℕ → Type 0) (moment : Dated) : Type 0 where
 
 abbrev pub refusal_bytes : ℕ → Dated → List ℕ
 refusal_bytes status moment = response_text (refusal_of status) moment.date true
-
--- how the refusal of such bytes ended, and what a sink has then
-abbrev pub RefusedAs : (ℕ → Type 0) → ℕ → Ended → Option (List ℕ) → Option (List ℕ) → Type 0
-RefusedAs may_give status (Bad told) old new =
-    (told ≡ status) × ((moment : Dated) × Refuses may_give moment × (new ≡ option_map (λ bytes. bytes ++ refusal_bytes status moment) old))
-RefusedAs may_give status NoMemory old new = new ≡ old
-RefusedAs may_give status WriteFault old new =
-    (moment : Dated) × Refuses may_give moment × ((count : ℕ) × (new ≡ option_map (λ bytes. bytes ++ take count (refusal_bytes status moment)) old))
-RefusedAs may_give status (Partial rest) old new = ⊥
-
--- a count of faults never falls, and it rose where serving ended by a write
-pub record CountsEnd (ended : Ended) (old new : ℕ) : Type 0 where
-  pub no_fewer : old ≤ new
-  pub failed : ended ≡ WriteFault → Rose old new

@@ -4,10 +4,11 @@ ghost use Rattle.http_out.specs.Text.{stays_in_line};
 ghost use Rattle.std.specs.Option.{option_map_or, option_to_list};
 ghost use Rattle.pod_core.specs.State.{apply};
 ghost use Rattle.pod_tool.specs.Session.{IsClockMoment};
+ghost use Rattle.pod_tool.specs.Fresh.{closes_after};
 ghost use Rattle.pod_tool.specs.Turns.{IsTaken};
 
-use http_out::bytes_of;
-use pod_base::{Bytes, Mem, Moment, Request, Stamp, moment_of};
+use http_out::Out;
+use pod_base::{Mem, Moment, Request, Stamp, moment_of};
 use pod_core::{Entry, Pod, Replied, answer, is_change};
 use pod_io::Clock;
 use std::alloc::Global;
@@ -58,14 +59,17 @@ impl Keeper {
         Ok(())
     }
 
-    /// Answers a request of connection 1, and carries its entry out. For want of memory nothing changes.
+    /// Answers a request of connection 1, behind which the connection may close, and carries its entry out. For want of memory
+    /// nothing changes.
     pub fn take<C: Clock>(
         &mut self,
         alloc: Global,
         request: &Request,
         number: u64,
+        closes: bool,
         clock: &C,
-    ) -> Mem<Bytes>
+    ) -> Mem<Out>
+        requires closes { closes ≡ closes_after request.now number }
         requires room { self.old.next + 1 < 2 ^ 64 }
         requires base { IsTrue (list_all stays_in_line self.old.pod.base) }
         ensures taken { IfOk result (IsTaken (C.may_give clock.now) self.old self.new request.now number) }
@@ -79,8 +83,7 @@ impl Keeper {
             moment,
         };
         let Replied { response, entry } = answer(alloc, &self.pod, request, self.next, stamp)?;
-        let bytes = bytes_of(alloc, &response, moment, false)?;
         self.carry_out(entry, moment)?;
-        Ok(bytes)
+        Ok(Out::new(response, moment, closes))
     }
 }

@@ -1,19 +1,16 @@
-ghost use Rattle.std.specs.Prelude.{◌≡◌, ◌≢◌, ◌≤◌, ◌^◌, ◌⊎◌, ◌↔◌, ◌++◌, ◌∷◌, [], ℕ, List, Option, None, IfSome, IfOk, Contains, map, codes, decimal};
-ghost use Rattle.std.specs.Option.{option_map};
+ghost use Rattle.std.specs.Prelude.{◌≡◌, ◌≢◌, ◌≤◌, ◌⊎◌, ◌↔◌, None, IfSome, IfOk, map};
 ghost use Rattle.std.specs.String.{string_bytes};
 ghost use Rattle.pod_io.specs.Counts.{Rose};
-ghost use Rattle.pod_tool.specs.Statuses.{Pipes, Tells, ComesOf, unless_stopped, status_of, Untouched};
+ghost use Rattle.pod_tool.specs.Statuses.{Pipes, Tells, status_of, Untouched};
 ghost use Rattle.pod_tool.specs.Served.{IsNew};
 ghost use Rattle.pod_tool.specs.Words.{owner_of};
 
-use crate::input::{Reading, collect};
 use crate::keeper::Keeper;
-use crate::serve::{Ended, serve};
+use crate::serve::serve;
 use crate::status::{PipeEnd, Status};
+use crate::tell::tell;
 use crate::words::owner_of;
-use crate::write::write_all;
-use itoa::Buffer;
-use pod_base::{Bytes, Mem, Moment, Text};
+use pod_base::{Mem, Moment, Text};
 use pod_core::Pod;
 use pod_io::{Clock, Sink, Source};
 use std::alloc::Global;
@@ -35,97 +32,17 @@ fn fresh_keeper(alloc: Global, owner: &str) -> Mem<Keeper>
     })
 }
 
-/// A word and a number, as a line.
-fn number_line(alloc: Global, word: &[u8], number: u64) -> Mem<Bytes>
-    ensures { IfOk result (λ line. line ≡ word.now ++ decimal number ++ codes "\n") }
-{
-    let mut line = Bytes::of(alloc, word)?;
-    line.append(alloc, Buffer::new().format(number).as_bytes())?;
-    line.append(alloc, b"\n")?;
-    Ok(line)
-}
-
-/// Tells that the input ended inside a message.
-fn tell_cut<E: Sink>(alloc: Global, rest: usize, errors: &mut E) -> PipeEnd
-    ensures end { (result ≡ PipeEnd.Cut rest) ⊎ (result ≡ PipeEnd.NoMemory) }
-    ensures told { Tells result (E.taken errors.old) (E.taken errors.new) (E.faults errors.old) (E.faults errors.new) }
-    ensures no_fewer { E.faults errors.old ≤ E.faults errors.new }
-{
-    let Ok(line) = number_line(alloc, b"end: cut ", rest as u64) else {
-        return PipeEnd::NoMemory;
-    };
-    match write_all(errors, line.as_slice()) {
-        Ok(()) => PipeEnd::Cut { rest },
-        Err(_failed) => PipeEnd::Cut { rest },
-    }
-}
-
-/// Tells that bytes that are no message were refused.
-fn tell_bad<E: Sink>(alloc: Global, status: u16, errors: &mut E) -> PipeEnd
-    ensures end { (result ≡ PipeEnd.Bad status) ⊎ (result ≡ PipeEnd.NoMemory) }
-    ensures told { Tells result (E.taken errors.old) (E.taken errors.new) (E.faults errors.old) (E.faults errors.new) }
-    ensures no_fewer { E.faults errors.old ≤ E.faults errors.new }
-{
-    let Ok(line) = number_line(alloc, b"end: bad ", u64::from(status)) else {
-        return PipeEnd::NoMemory;
-    };
-    match write_all(errors, line.as_slice()) {
-        Ok(()) => PipeEnd::Bad { status },
-        Err(_failed) => PipeEnd::Bad { status },
-    }
-}
-
-/// Tells that the input ended between messages. This is the one line whose failure is a write fault.
-fn tell_peer<E: Sink>(errors: &mut E) -> PipeEnd
-    ensures end { (result ≡ PipeEnd.Peer) ⊎ (result ≡ PipeEnd.WriteFault) }
-    ensures told { Tells result (E.taken errors.old) (E.taken errors.new) (E.faults errors.old) (E.faults errors.new) }
-    ensures no_fewer { E.faults errors.old ≤ E.faults errors.new }
-    ensures failed { result ≡ PipeEnd.WriteFault → Rose (E.faults errors.old) (E.faults errors.new) }
-{
-    match write_all(errors, b"end: peer\n") {
-        Ok(()) => PipeEnd::Peer,
-        Err(_failed) => PipeEnd::WriteFault,
-    }
-}
-
-/// Tells how a connection ended whose input was read to its end.
-fn tell<E: Sink>(alloc: Global, ended: Ended, errors: &mut E) -> PipeEnd
-    ensures end { ComesOf ended result }
-    ensures told { Tells result (E.taken errors.old) (E.taken errors.new) (E.faults errors.old) (E.faults errors.new) }
-    ensures no_fewer { E.faults errors.old ≤ E.faults errors.new }
-    ensures failed { result ≡ PipeEnd.WriteFault → (ended ≡ Ended.WriteFault) ⊎ Rose (E.faults errors.old) (E.faults errors.new) }
-{
-    match ended {
-        Ended::Partial { rest } if rest == 0 => tell_peer(errors),
-        Ended::Partial { rest } => tell_cut(alloc, rest, errors),
-        Ended::Bad(status) => tell_bad(alloc, status, errors),
-        Ended::NoMemory => PipeEnd::NoMemory,
-        Ended::WriteFault => PipeEnd::WriteFault,
-    }
-}
-
-/// The end that was to come, unless serving stopped.
-fn unless_stopped(ended: Ended, end: PipeEnd) -> PipeEnd
-    ensures { result ≡ unless_stopped ended end }
-{
-    match ended {
-        Ended::NoMemory => PipeEnd::NoMemory,
-        Ended::WriteFault => PipeEnd::WriteFault,
-        _ => end,
-    }
-}
-
-/// Serves the input as one connection of a new pod.
+/// Serves the input as one connection of a new pod, and tells how it ended.
 fn pipe<S: Source, K: Sink, E: Sink, C: Clock>(
     alloc: Global,
-    keeper: &mut Keeper,
+    keeper: Keeper,
     input: &mut S,
     output: &mut K,
     errors: &mut E,
     clock: &C,
 ) -> PipeEnd
-    requires { IsNew keeper.old }
-    ensures pipes { Pipes (C.may_give clock.now) keeper.old.pod.owner result (S.rest input.old) (S.rest input.new)
+    requires { IsNew keeper }
+    ensures pipes { Pipes (C.may_give clock.now) keeper.pod.owner result (S.rest input.old) (S.rest input.new)
         (K.taken output.old) (K.taken output.new) }
     ensures told { Tells result (E.taken errors.old) (E.taken errors.new) (E.faults errors.old) (E.faults errors.new) }
     ensures reads { S.faults input.old ≤ S.faults input.new }
@@ -135,22 +52,8 @@ fn pipe<S: Source, K: Sink, E: Sink, C: Clock>(
     ensures write_fault { result ≡ PipeEnd.WriteFault
         → Rose (K.faults output.old) (K.faults output.new) ⊎ Rose (E.faults errors.old) (E.faults errors.new) }
 {
-    let mut text = Vec::new(alloc);
-    match collect(input, &mut text) {
-        Reading::Whole => {
-            let ended = serve(alloc, &text, keeper, output, clock);
-            tell(alloc, ended, errors)
-        }
-        Reading::ReadFault => {
-            let ended = serve(alloc, &text, keeper, output, clock);
-            unless_stopped(ended, PipeEnd::ReadFault)
-        }
-        Reading::Bounded => {
-            let ended = serve(alloc, &text, keeper, output, clock);
-            unless_stopped(ended, PipeEnd::Bounded)
-        }
-        Reading::NoMemory => PipeEnd::NoMemory,
-    }
+    let end = serve(alloc, keeper, input, output, clock);
+    tell(alloc, end, errors)
 }
 
 /// Runs the command `pipe --fresh` with that owner.
@@ -172,19 +75,19 @@ fn run_pipe<S: Source, K: Sink, E: Sink, C: Clock>(
     ensures writes { K.faults output.old ≤ K.faults output.new }
     ensures tells { E.faults errors.old ≤ E.faults errors.new }
 {
-    let Ok(mut keeper) = fresh_keeper(alloc, owner) else {
+    let Ok(keeper) = fresh_keeper(alloc, owner) else {
         return PipeEnd::NoMemory.status();
     };
-    pipe(alloc, &mut keeper, input, output, errors, clock).status()
+    pipe(alloc, keeper, input, output, errors, clock).status()
 }
 
 /// Runs `podctl` with the words after its name: `pipe --fresh OWNER` serves the input as one connection of a new pod
 /// in memory, whose base is `http://127.0.0.1:8080/`, and writes the responses to the output and the line of its end
 /// to the error sink.
 ///
-/// The status is 2 where the words have no reading. Else it is 0 where the input ended between messages, 12 where it
-/// ended inside one, 13 where it had bytes that are no message, 3 where a read failed, 4 where a write failed, 7 where
-/// no memory was left, and 14 after 2^40 reads.
+/// The status is 2 where the words have no reading. Else it is 0 where the input ended between messages or a request was the
+/// last, 12 where it ended inside a message, 13 where it had bytes that are no message, 3 where a read failed, 4 where a write
+/// failed, 7 where no memory was left, and 14 after 2^40 reads.
 pub fn run_podctl<S: Source, K: Sink, E: Sink, C: Clock>(
     alloc: Global,
     words: &[String],

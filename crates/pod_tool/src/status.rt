@@ -12,7 +12,11 @@ pub enum PipeEnd {
     Peer,
     /// The input ended inside a message, of which there were so many bytes.
     Cut { rest: usize },
-    /// The input had bytes that are no message, and they were refused with that status.
+    /// A request asked for it, or has a version whose connections don't persist.
+    Closed,
+    /// The last request was answered that a connection may have.
+    Limit,
+    /// Bytes that are no message were refused with that status.
     Bad { status: u16 },
     /// A read failed.
     ReadFault,
@@ -30,7 +34,7 @@ impl PipeEnd {
         ensures { result.0 ≡ status_of self }
     {
         match self {
-            PipeEnd::Peer => Status(0),
+            PipeEnd::Peer | PipeEnd::Closed | PipeEnd::Limit => Status(0),
             PipeEnd::ReadFault => Status(3),
             PipeEnd::WriteFault => Status(4),
             PipeEnd::NoMemory => Status(7),

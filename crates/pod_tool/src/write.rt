@@ -2,7 +2,11 @@ ghost use Rattle.std.specs.Prelude.{◌≡◌};
 ghost use Rattle.pod_io.specs.Counts.{Counts};
 ghost use Rattle.pod_tool.specs.Turns.{Writes};
 
+use http_out::Out;
 use pod_io::{Failed, Sink};
+
+/// How many bytes of a response stand ready at a time.
+const PIECE: usize = 8_192;
 
 /// Writes the whole text, or a front of it where a write fails.
 pub fn write_all<K: Sink>(output: &mut K, text: &[u8]) -> Result<(), Failed>
@@ -14,4 +18,22 @@ pub fn write_all<K: Sink>(output: &mut K, text: &[u8]) -> Result<(), Failed>
         at += output.write(&text[at..])?;
     }
     Ok(())
+}
+
+/// Writes a whole response, or a front of it where a write fails. It takes no memory.
+pub fn write_out<K: Sink>(output: &mut K, mut out: Out) -> Result<(), Failed>
+    ensures writes { Writes result out (K.taken output.old) (K.taken output.new) }
+    ensures faults { Counts result (K.faults output.old) (K.faults output.new) }
+{
+    let mut piece = [0u8; PIECE];
+    'pieces: loop {
+        let count = out.next(&mut piece);
+        if count == 0 {
+            return Ok(());
+        }
+        match write_all(output, &piece[..count]) {
+            Ok(()) => {}
+            Err(failed) => return Err(failed),
+        }
+    }
 }

@@ -1,53 +1,79 @@
-use Rattle.std.proofs.Common.{ℕ, drop, arith, refl}
-use Rattle.pod_tool.specs.Messages.{IsBad}
-use Rattle.pod_tool.specs.Nexts.{IsNext}
-use Rattle.pod_tool.specs.declared.message.Message.TheVariants as message
-use Rattle.pod_tool.proofs.RunLemmas.{begins, base_stays, goes_on, bad_is_refused, refused_ends, memory_ends, partial_ends, fault_ends, next_at}
+use Rattle.std.proofs.Common.{rules, take, Ok, Err, sym, subst, arith}
+use Rattle.std.specs.List.{AllByRecursion}
+use Rattle.http_conn.specs.Messages.{EndsThere}
+use Rattle.pod_tool.specs.Talks.{IsRefused, TurnsIn}
+use Rattle.pod_tool.proofs.ServingLemmas.{read_fault, bounded, at_end, no_memory, ends, statuses, goes_on, ended, never_reads}
+use Rattle.pod_tool.proofs.ReadsLemmas.{reads_more, reads_none, ended_at, some_read}
 use Rattle.pod_tool.proofs.serve.serve.Goals as goal
 
-pub messages-init : goal.messages-init
-messages-init g c =
-    (begins (g.C.Clock.may_give c.args.clock.now) c.args.text.now c.args.keeper.now (g.K.Sink.taken c.args.output.now) c.requires, omega arith)
+-- a read failed
+pub returns-in_default-clause-pipes : goal.returns-in_default-clause-pipes
+returns-in_default-clause-pipes g c = read_fault _ _ _ _ _ _ _ _ _ c.reads.invariant.0 (g.S.Source.rest c.read.new.self) c.in_default.ensures.rest.whole
 
-pub returns-in-Err-clause-ends : goal.returns-in-Err-clause-ends
-returns-in-Err-clause-ends g c = memory_ends _ _ _ _ _ _ _ _ c.messages.invariant.0 (g.K.Sink.taken c.messages.output) refl
+-- the input ended
+pub returns-then-count-eq0-clause-pipes : goal.returns-then-count-eq0-clause-pipes
+returns-then-count-eq0-clause-pipes g c =
+    let s = c.reads.invariant.0 in
+    let read = c.in-Ok.ensures in
+    at_end _ _ _ _ _ _ _ _ _ s c.rest.result c.at_end.result (g.S.Source.rest c.read.new.self) c.rest.ensures.exact c.at_end.ensures
+        (reads_none s.text c.reads.piece c.read.new.into c.in-Ok.count (g.S.Source.rest c.args.input.now) (g.S.Source.rest c.reads.input) (g.S.Source.rest c.read.new.self) c.if-count-eq0.true s.reads read.bytes read.rest.taken)
+        (ended_at c.reads.piece c.read.new.into c.in-Ok.count (g.S.Source.rest c.reads.input) (g.S.Source.rest c.read.new.self) c.if-count-eq0.true read.bytes read.rest.taken)
 
-pub returns-in-Ok-Partial-clause-ends : goal.returns-in-Ok-Partial-clause-ends
-returns-in-Ok-Partial-clause-ends g c =
-    let seen : IsNext (drop c.messages.at c.args.text.now) (message.Partial c.in-Ok-Partial.rest) =
-    next_at c.args.text.now c.messages.at c.in-Ok-Partial.field-0 _ c.in-Ok-Partial.ensures c.in-Ok-Partial.field-0-is in
-    partial_ends _ _ _ _ _ _ _ _ c.messages.invariant.0 c.in-Ok-Partial.rest seen.0 seen.1
+-- no memory was left to hear the piece
+pub returns-in_default-feed-clause-pipes : goal.returns-in_default-feed-clause-pipes
+returns-in_default-feed-clause-pipes g c =
+    let s = c.reads.invariant.0 in
+    let read = c.in-Ok.ensures in
+    no_memory _ _ _ _ _ _ _ _ _ s (take c.in-Ok.count c.read.new.into) (g.S.Source.rest c.read.new.self)
+        (reads_more s.text c.reads.piece c.read.new.into c.in-Ok.count (g.S.Source.rest c.args.input.now) (g.S.Source.rest c.reads.input) (g.S.Source.rest c.read.new.self) s.reads read.bytes read.rest.taken)
 
-pub refuse-requires : goal.refuse-requires
-refuse-requires g c =
-    let seen : IsBad (drop c.messages.at c.args.text.now) c.in-Ok-Bad.status =
-    next_at c.args.text.now c.messages.at c.in-Ok-Bad.field-0 (message.Bad c.in-Ok-Bad.status) c.in-Ok-Bad.ensures c.in-Ok-Bad.field-0-is in
-    bad_is_refused _ c.in-Ok-Bad.status seen
+pub hear-requires-clause-ends : goal.hear-requires-clause-ends
+hear-requires-clause-ends g c =
+    let s = c.reads.invariant.0 in
+    let read = c.in-Ok.ensures in
+    let reads = reads_more s.text c.reads.piece c.read.new.into c.in-Ok.count (g.S.Source.rest c.args.input.now) (g.S.Source.rest c.reads.input) (g.S.Source.rest c.read.new.self) s.reads read.bytes read.rest.taken in
+    subst (EndsThere c.reads.talk.number) (sym c.as_slice.ensures)
+        (ends _ _ _ _ _ _ _ _ _ s (take c.in-Ok.count c.read.new.into) (g.S.Source.rest c.read.new.self) reads c.feed.new.self c.in-Ok-feed.heard.items _ (c.in-Ok-feed.ensures.messages s.text s.heard s.stands))
 
-pub returns-in-Ok-Bad-clause-ends : goal.returns-in-Ok-Bad-clause-ends
-returns-in-Ok-Bad-clause-ends g c =
-    let seen : IsBad (drop c.messages.at c.args.text.now) c.in-Ok-Bad.status =
-    next_at c.args.text.now c.messages.at c.in-Ok-Bad.field-0 (message.Bad c.in-Ok-Bad.status) c.in-Ok-Bad.ensures c.in-Ok-Bad.field-0-is in
-    refused_ends _ _ _ _ _ _ _ _ c.messages.invariant.0 c.in-Ok-Bad.status seen c.refuse.result (g.K.Sink.taken c.refuse.new.output) c.refuse.ensures.refused
+pub hear-requires-clause-statuses : goal.hear-requires-clause-statuses
+hear-requires-clause-statuses g c =
+    let s = c.reads.invariant.0 in
+    let read = c.in-Ok.ensures in
+    let reads = reads_more s.text c.reads.piece c.read.new.into c.in-Ok.count (g.S.Source.rest c.args.input.now) (g.S.Source.rest c.reads.input) (g.S.Source.rest c.read.new.self) s.reads read.bytes read.rest.taken in
+    subst (AllByRecursion IsRefused) (sym c.as_slice.ensures)
+        (statuses _ _ _ _ _ _ _ _ _ s (take c.in-Ok.count c.read.new.into) (g.S.Source.rest c.read.new.self) reads c.feed.new.self c.in-Ok-feed.heard.items _ (c.in-Ok-feed.ensures.messages s.text s.heard s.stands))
 
-pub answer_one-requires-clause-base : goal.answer_one-requires-clause-base
-answer_one-requires-clause-base g c = base_stays _ _ _ _ _ _ _ _ c.messages.invariant.0
+-- the connection ended in this piece
+pub returns-in-Err-clause-pipes : goal.returns-in-Err-clause-pipes
+returns-in-Err-clause-pipes g c =
+    let s = c.reads.invariant.0 in
+    let read = c.in-Ok.ensures in
+    let reads = reads_more s.text c.reads.piece c.read.new.into c.in-Ok.count (g.S.Source.rest c.args.input.now) (g.S.Source.rest c.reads.input) (g.S.Source.rest c.read.new.self) s.reads read.bytes read.rest.taken in
+    let told = c.in-Err.ensures.turns in
+    ended _ _ _ _ _ _ _ _ _ s (take c.in-Ok.count c.read.new.into) (g.S.Source.rest c.read.new.self) reads c.feed.new.self c.in-Ok-feed.heard.items _ (c.in-Ok-feed.ensures.messages s.text s.heard s.stands)
+        c.hear.new.self c.in-Err.end told.0 (g.K.Sink.taken c.hear.new.output) told.1
+        (subst (λ hears. TurnsIn (g.C.Clock.may_give c.args.clock.now) c.reads.talk c.hear.new.self hears told.0 (Err c.in-Err.end)) c.as_slice.ensures told.2)
 
-pub returns-in-Err-answer_one-clause-ends : goal.returns-in-Err-answer_one-clause-ends
-returns-in-Err-answer_one-clause-ends g c =
-    let seen : IsNext (drop c.messages.at c.args.text.now) (message.Request c.in-Ok-Request.request c.in-Ok-Request.len) =
-    next_at c.args.text.now c.messages.at c.in-Ok-Request.field-0 _ c.in-Ok-Request.ensures c.in-Ok-Request.field-0-is in
-    let turned = c.in-Err-answer_one.ensures.turned in
-    let part = turned.2.part in
-    fault_ends _ _ _ _ _ _ _ _ c.messages.invariant.0 c.in-Ok-Request.request c.in-Ok-Request.len seen.0
-    c.answer_one.new.keeper turned.0 turned.1 part.0 (g.K.Sink.taken c.answer_one.new.output) part.1
+pub returns-in-Err-clause-read_fault : goal.returns-in-Err-clause-read_fault
+returns-in-Err-clause-read_fault g c =
+    let told = c.in-Err.ensures.turns in
+    λ is. absurd (never_reads _ _ _ _ _ _ _ _ _ c.reads.invariant.0 c.hear.new.self c.as_slice.result.now told.0 c.in-Err.end told.2 is)
 
-pub messages-preserved : goal.messages-preserved
-messages-preserved g c =
-    let seen : IsNext (drop c.messages.at c.args.text.now) (message.Request c.in-Ok-Request.request c.in-Ok-Request.len) =
-    next_at c.args.text.now c.messages.at c.in-Ok-Request.field-0 _ c.in-Ok-Request.ensures c.in-Ok-Request.field-0-is in
-    let turned = c.in-Ok.ensures.turned in (
-      goes_on _ _ _ _ _ _ _ _ c.messages.invariant.0 c.in-Ok-Request.request c.in-Ok-Request.len seen.0 seen.1
-          c.answer_one.new.keeper turned.0 turned.1 (g.K.Sink.taken c.answer_one.new.output) turned.2.whole,
-      omega (arith, c.messages.invariant.1, c.in-Ok.ensures.faults.no_fewer),
+pub reads-preserved : goal.reads-preserved
+reads-preserved g c =
+    let s = c.reads.invariant.0 in
+    let read = c.in-Ok.ensures in
+    let piece = take c.in-Ok.count c.read.new.into in
+    let reads = reads_more s.text c.reads.piece c.read.new.into c.in-Ok.count (g.S.Source.rest c.args.input.now) (g.S.Source.rest c.reads.input) (g.S.Source.rest c.read.new.self) s.reads read.bytes read.rest.taken in
+    let told = c.in-Ok-hear.ensures.turns in (
+      goes_on _ _ _ _ _ _ _ _ _ s piece (g.S.Source.rest c.read.new.self) reads c.feed.new.self c.in-Ok-feed.heard.items _ (c.in-Ok-feed.ensures.messages s.text s.heard s.stands)
+          (c.in-Ok-feed.ensures.stands s.text s.heard s.stands) c.hear.new.self told.0 (g.K.Sink.taken c.hear.new.output) told.1
+          (subst (λ hears. TurnsIn (g.C.Clock.may_give c.args.clock.now) c.reads.talk c.hear.new.self hears told.0 (Ok tt)) c.as_slice.ensures told.2)
+          c.in-Ok-hear.ensures.sound (some_read c.read.new.into c.in-Ok.count (search rules) c.if-count-eq0.false),
+      omega (arith, c.reads.invariant.1, read.faults.no_fewer),
+      omega (arith, c.reads.invariant.2, c.in-Ok-hear.ensures.faults.no_fewer),
     )
+
+-- each read gave a byte
+pub returns-clause-pipes : goal.returns-clause-pipes
+returns-clause-pipes g c = bounded _ _ _ _ _ _ _ _ _ c.reads.invariant.0 (omega (arith, c.reads-test.false))

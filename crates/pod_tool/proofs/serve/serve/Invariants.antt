@@ -1,12 +1,10 @@
-use Rattle.std.proofs.Common.{◌-◌, ◌≤◌, length}
-use Rattle.pod_tool.proofs.RunLemmas.{Run}
+use Rattle.std.proofs.Common.{◌≤◌}
+use Rattle.pod_tool.proofs.ServingLemmas.{Serving}
 use Rattle.pod_tool.proofs.serve.serve.Given as goal
 
--- the requests so far were served, and no fault was forgotten
-abbrev pub invariant-messages : goal.invariant-messages
-invariant-messages g l =
-    Run (g.C.Clock.may_give l.clock) l.fn.keeper.pod.owner l.text l.at l.number l.keeper (g.K.Sink.taken l.fn.output) (g.K.Sink.taken l.output)
+-- what was read was answered, each read gave a byte, and no fault was forgotten
+abbrev pub invariant-reads : goal.invariant-reads
+invariant-reads g l =
+    Serving (g.C.Clock.may_give l.clock) l.fn.keeper.pod.owner l.conn l.talk (g.S.Source.rest l.fn.input) (g.S.Source.rest l.input) (g.K.Sink.taken l.fn.output) (g.K.Sink.taken l.output) l.counter
+    × (g.S.Source.faults l.fn.input ≤ g.S.Source.faults l.input)
     × (g.K.Sink.faults l.fn.output ≤ g.K.Sink.faults l.output)
-
-abbrev pub decreases-messages : goal.decreases-messages
-decreases-messages g l = length l.text - l.at

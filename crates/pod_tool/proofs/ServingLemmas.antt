@@ -1,0 +1,300 @@
+-- The pieces of an input, one after the other.
+use Rattle.std.proofs.Common.{◌≡◌, inl, inr, ℕ, ◌+◌, ◌<◌, ◌≤◌, ◌^◌, ◌==◌, true, false, if◌then◌else◌, List, [], ◌++◌, length, Option, Some, None, Ok, Err, refl, sym, ap, subst, append_assoc, length-append, ◌∙◌, arith}
+use Rattle.std.specs.List.{AllByRecursion, list_all}
+use Rattle.std.proofs.lemmas.Bool.Decides.{nat_tests}
+use Rattle.std.proofs.lemmas.List.{append-nil}
+use Rattle.http_conn.specs.Messages.{Messages, unfinished, in_head, FirstHeard, EndsThere, StaysOpen}
+use Rattle.http_conn.specs.Held.{Stands, rest_of}
+use Rattle.http_conn.specs.declared.stage.Stage.{Stage}
+use Rattle.http_conn.proofs.Endings.{ends_there, ended_rest}
+use Rattle.http_conn.proofs.Reading.{stands_messages}
+use Rattle.http_out.specs.Text.{stays_in_line}
+use Rattle.pod_base.specs.declared.heard.Heard.{Heard}
+use Rattle.pod_core.specs.State.{State}
+use Rattle.pod_tool.specs.Reads.{Reads, AtEnd}
+use Rattle.pod_tool.specs.Served.{IsNew, IsStopped}
+use Rattle.pod_tool.specs.Session.{requests_of}
+use Rattle.pod_tool.specs.Statuses.{IsHeard, IsWritten, IsTold, Pipes, ComesOf}
+use Rattle.pod_tool.specs.Talks.{Talks, IsSound, IsRefused, Ends, IsAll, TurnsIn}
+use Rattle.pod_tool.specs.Turns.{Adds}
+use Rattle.pod_tool.specs.declared.keeper.Keeper.{Keeper}
+use Rattle.pod_tool.specs.declared.status.PipeEnd.{PipeEnd}
+use Rattle.pod_tool.specs.declared.status.PipeEnd.TheVariants.{Peer, Cut, Closed, Limit, Bad, ReadFault, WriteFault, NoMemory, Bounded}
+use Rattle.pod_tool.specs.declared.talk.Talk.{Talk}
+use Rattle.pod_tool.proofs.EndingsLemmas.{serves, served_stops, all_have_items}
+use Rattle.pod_tool.proofs.HeardLemmas.{ends_behind, refused_behind, not_bad}
+use Rattle.pod_tool.proofs.ProgressLemmas.{nothing_yet}
+use Rattle.pod_tool.proofs.RefusedLemmas.{are_refused}
+use Rattle.pod_tool.proofs.TalksLemmas.{nothing_added, adds_more, stops_before, serves_before}
+
+-- What was read so far was answered, and the connection is open.
+pub record Serving (may_give : ℕ → Type 0) (owner : List ℕ) (stage : Stage) (talk : Talk) (old_input new_input old_output new_output : Option (List ℕ)) (pieces : ℕ) : Type 0 where
+  pub text : List ℕ
+  pub heard : List Heard
+  pub written : List ℕ
+  pub reads : Reads text old_input new_input
+  pub stands : Stands stage text heard
+  pub talks : Talks may_give owner talk heard written
+  pub sound : IsSound talk
+  pub writes : Adds written old_output new_output
+  pub many : pieces ≤ length text
+
+pub nothing_read : (rest : Option (List ℕ)) → Reads [] rest rest
+nothing_read None = refl
+nothing_read (Some bytes) = refl
+
+pub begins : (may_give : ℕ → Type 0) (stage : Stage) (keeper : Keeper) (input output : Option (List ℕ)) → IsNew keeper → Stands stage [] []
+    → Serving may_give keeper.pod.owner stage (record { keeper = keeper; number = 0 }) input input output output 0
+begins may_give stage keeper input output new stands = record {
+  text = [];
+  heard = [];
+  written = [];
+  reads = nothing_read input;
+  stands = stands;
+  talks = record {
+    items = [];
+    history = [];
+    progress = nothing_yet may_give keeper.pod.owner;
+    keeps = record { pod = new.pod; next = new.next; last = new.last };
+    number = refl;
+    stays = tt;
+    output = refl;
+  };
+  sound = record { few = omega arith; room = omega (arith, new.next); base = ap (λ (p : State). list_all stays_in_line p.base) new.pod };
+  writes = nothing_added output;
+  many = omega arith;
+}
+
+-- what is heard first in a text and more
+first_heard : (text more : List ℕ) (hears those : List Heard) (rest : ℕ) → Messages text (hears ++ those) rest → FirstHeard (text ++ more) hears
+first_heard text more hears those rest m = record { front = text; behind = more; cut = refl; all = hears ++ those; rest = rest; messages = m; more = those; is = refl }
+
+all_first : (text : List ℕ) (hears : List Heard) (rest : ℕ) → Messages text hears rest → FirstHeard text hears
+all_first text hears rest m = record { front = text; behind = []; cut = append-nil text; all = hears; rest = rest; messages = m; more = []; is = sym (append-nil hears) }
+
+module _ (may_give : ℕ → Type 0) (owner : List ℕ) (stage : Stage) (talk : Talk) (old_input new_input old_output new_output : Option (List ℕ)) (pieces : ℕ) (s : Serving may_give owner stage talk old_input new_input old_output new_output pieces) where
+  messages : Messages s.text s.heard (rest_of stage)
+  messages = stands_messages stage s.text s.heard s.stands
+
+  -- a read failed
+  pub read_fault : (last : Option (List ℕ)) → last ≡ new_input → Pipes may_give owner ReadFault old_input last old_output new_output
+  read_fault last same = record {
+    read = s.text;
+    heard = s.heard;
+    written = s.written;
+    reads = subst (Reads s.text old_input) (sym same) s.reads;
+    hears = (rest_of stage, messages, s.talks.stays);
+    serves = serves_before may_give owner talk s.heard s.written s.talks;
+    writes = s.writes;
+  }
+
+  -- the bound on reads was reached
+  pub bounded : 2 ^ 40 ≤ pieces → Pipes may_give owner Bounded old_input new_input old_output new_output
+  bounded all = record {
+    read = s.text;
+    heard = s.heard;
+    written = s.written;
+    reads = s.reads;
+    hears = (rest_of stage, messages, s.talks.stays, omega (arith, all, s.many));
+    serves = serves_before may_give owner talk s.heard s.written s.talks;
+    writes = s.writes;
+  }
+
+  -- the input ended
+  pub at_end : (rest : ℕ) (end : PipeEnd) (last : Option (List ℕ)) → rest ≡ rest_of stage → end ≡ (if rest == 0 then Peer else Cut rest) → Reads s.text old_input last → AtEnd last
+      → Pipes may_give owner end old_input last old_output new_output
+  at_end rest end last left is reads over =
+      let told : Messages s.text s.heard rest = subst (Messages s.text s.heard) (sym left) messages in
+      subst (λ e. Pipes may_give owner e old_input last old_output new_output) (sym is)
+          (elim (rest == 0) as (λ b. (rest == 0) ≡ b → Pipes may_give owner (if b then Peer else Cut rest) old_input last old_output new_output) [
+        | true ↦ λ e.
+            let none : rest ≡ 0 = grind (arith, nat_tests) in
+            record {
+              read = s.text;
+              heard = s.heard;
+              written = s.written;
+              reads = reads;
+              hears = (subst (Messages s.text s.heard) none told, s.talks.stays, over);
+              serves = serves_before may_give owner talk s.heard s.written s.talks;
+              writes = s.writes;
+            }
+        | false ↦ λ e.
+            let some : rest ≡ 0 → ⊥ = λ z. grind (arith, nat_tests) in
+            record {
+              read = s.text;
+              heard = s.heard;
+              written = s.written;
+              reads = reads;
+              hears = (told, omega (arith, some), s.talks.stays, over);
+              serves = serves_before may_give owner talk s.heard s.written s.talks;
+              writes = s.writes;
+            }
+      ] refl)
+
+  -- what was heard ends no connection by a read
+  pub never_reads : (after : Talk) (those : List Heard) (text : List ℕ) (end : PipeEnd) → TurnsIn may_give talk after those text (Err end) → end ≡ ReadFault → ⊥
+  never_reads after those text end t is = subst (λ e. Ends may_give owner e (s.heard ++ t.front) (s.written ++ text)) is (t.turns owner s.heard s.written s.talks)
+
+  module _ (piece : List ℕ) (last_input : Option (List ℕ)) (reads : Reads (s.text ++ piece) old_input last_input) where
+    -- no memory was left to hear the piece
+    pub no_memory : Pipes may_give owner NoMemory old_input last_input old_output new_output
+    no_memory = record {
+      read = s.text ++ piece;
+      heard = s.heard;
+      written = s.written;
+      reads = reads;
+      hears = first_heard s.text piece s.heard [] (rest_of stage) (subst (λ h. Messages s.text h (rest_of stage)) (sym (append-nil s.heard)) messages);
+      serves = stops_before may_give owner talk s.heard s.written s.talks;
+      writes = s.writes;
+    }
+
+    module _ (next : Stage) (those : List Heard) (rest : ℕ) (m : Messages (s.text ++ piece) (s.heard ++ those) rest) where
+      count_is : 0 + length (requests_of s.heard) ≡ talk.number
+      count_is = omega (arith, s.talks.number, all_have_items may_give owner (requests_of s.heard) s.talks.items s.talks.history s.talks.progress)
+
+      -- what the piece says ends where the connection does
+      pub ends : EndsThere talk.number those
+      ends = subst (λ n. EndsThere n those) count_is (ends_behind 0 s.heard those s.talks.stays (ends_there (s.text ++ piece) (s.heard ++ those) rest m))
+
+      pub statuses : AllByRecursion IsRefused those
+      statuses = refused_behind s.heard those (are_refused (s.text ++ piece) (s.heard ++ those) rest m)
+
+      -- all of it was answered
+      pub goes_on : Stands next (s.text ++ piece) (s.heard ++ those) → (after : Talk) (text : List ℕ) (output : Option (List ℕ)) → Adds text new_output output
+          → TurnsIn may_give talk after those text (Ok tt) → IsSound after → 0 < length piece → Serving may_give owner next after old_input last_input old_output output (pieces + 1)
+      goes_on stands after text output adds t sound some =
+          let whole : t.front ≡ those = sym (append-nil t.front) ∙ ap (λ b. t.front ++ b) (sym t.over) ∙ t.cut in
+          record {
+            text = s.text ++ piece;
+            heard = s.heard ++ those;
+            written = s.written ++ text;
+            reads = reads;
+            stands = stands;
+            talks = subst (λ h. Talks may_give owner after (s.heard ++ h) (s.written ++ text)) whole (t.turns owner s.heard s.written s.talks);
+            sound = sound;
+            writes = adds_more old_output new_output output s.written text s.writes adds;
+            many = omega (arith, s.many, some, length-append s.text piece);
+          }
+
+      -- the connection ended in it
+      pub ended : (after : Talk) (end : PipeEnd) (text : List ℕ) (output : Option (List ℕ)) → Adds text new_output output → TurnsIn may_give talk after those text (Err end)
+          → Pipes may_give owner end old_input last_input old_output output
+      ended after end text output adds t = record {
+        read = s.text ++ piece;
+        heard = s.heard ++ t.front;
+        written = s.written ++ text;
+        reads = reads;
+        hears = heard_so end t.front t.behind t.cut t.over told;
+        serves = written_so end t.front told;
+        writes = adds_more old_output new_output output s.written text s.writes adds;
+      }
+        where
+          told : Ends may_give owner end (s.heard ++ t.front) (s.written ++ text)
+          told = t.turns owner s.heard s.written s.talks
+
+          none : (front behind : List Heard) → front ++ behind ≡ those → behind ≡ [] → s.heard ++ those ≡ s.heard ++ front
+          none front behind cut is = ap (λ h. s.heard ++ h) (sym cut ∙ ap (λ b. front ++ b) is ∙ append-nil front)
+
+          all_of : (front behind : List Heard) → front ++ behind ≡ those → behind ≡ [] → (StaysOpen 0 (s.heard ++ front) → ⊥) → Messages (s.text ++ piece) (s.heard ++ front) 0
+          all_of front behind cut is closed =
+              let whole : Messages (s.text ++ piece) (s.heard ++ front) rest = subst (λ h. Messages (s.text ++ piece) h rest) (none front behind cut is) m in
+              subst (Messages (s.text ++ piece) (s.heard ++ front)) (ended_rest (s.text ++ piece) (s.heard ++ front) rest whole closed) whole
+
+          first_of : (front behind : List Heard) → front ++ behind ≡ those → FirstHeard (s.text ++ piece) (s.heard ++ front)
+          first_of front behind cut = record {
+            front = s.text ++ piece;
+            behind = [];
+            cut = append-nil (s.text ++ piece);
+            all = s.heard ++ those;
+            rest = rest;
+            messages = m;
+            more = behind;
+            is = ap (λ h. s.heard ++ h) (sym cut) ∙ sym (append_assoc s.heard front behind);
+          }
+
+          heard_so : (end : PipeEnd) (front behind : List Heard) → front ++ behind ≡ those → IsAll behind (Err end) → Ends may_give owner end (s.heard ++ front) (s.written ++ text)
+              → IsHeard end (s.text ++ piece) (s.heard ++ front) last_input
+          heard_so Closed front behind cut over e = (all_of front behind cut over e.1, (e.1, e.3), e.2)
+          heard_so Limit front behind cut over e = (all_of front behind cut over e.1, (e.1, e.3), e.2)
+          heard_so (Bad status) front behind cut over e = (all_of front behind cut over (λ open_still. not_bad 0 (s.heard ++ front) status open_still e.1), e.1)
+          heard_so WriteFault front behind cut over e = first_of front behind cut
+          heard_so NoMemory front behind cut over e = first_of front behind cut
+          heard_so Peer front behind cut over e = absurd e
+          heard_so (Cut left) front behind cut over e = absurd e
+          heard_so ReadFault front behind cut over e = absurd e
+          heard_so Bounded front behind cut over e = absurd e
+
+          written_so : (end : PipeEnd) (front : List Heard) → Ends may_give owner end (s.heard ++ front) (s.written ++ text) → IsWritten may_give owner end (s.heard ++ front) (s.written ++ text)
+          written_so Closed front e = e.0
+          written_so Limit front e = e.0
+          written_so (Bad status) front e = e.0
+          written_so WriteFault front e = e
+          written_so NoMemory front e = e
+          written_so Peer front e = absurd e
+          written_so (Cut left) front e = absurd e
+          written_so ReadFault front e = absurd e
+          written_so Bounded front e = absurd e
+
+-- ---- the last line
+
+-- what was heard in what was read, at an end that a line tells of
+told_first : (end : PipeEnd) (read : List ℕ) (heard : List Heard) (left : Option (List ℕ)) → IsTold end → IsHeard end read heard left → FirstHeard read heard
+told_first Peer read heard left t h = all_first read heard 0 h.0
+told_first (Cut rest) read heard left t h = all_first read heard rest h.0
+told_first Closed read heard left t h = all_first read heard 0 h.0
+told_first Limit read heard left t h = all_first read heard 0 h.0
+told_first (Bad status) read heard left t h = all_first read heard 0 h.0
+told_first ReadFault read heard left t h = absurd t
+told_first WriteFault read heard left t h = absurd t
+told_first NoMemory read heard left t h = absurd t
+told_first Bounded read heard left t h = absurd t
+
+told_stops : (may_give : ℕ → Type 0) (owner : List ℕ) (end : PipeEnd) (heard : List Heard) (written : List ℕ) → IsTold end → IsWritten may_give owner end heard written → IsStopped may_give owner heard written
+told_stops may_give owner Peer heard written t w = served_stops may_give owner heard written w
+told_stops may_give owner (Cut rest) heard written t w = served_stops may_give owner heard written w
+told_stops may_give owner Closed heard written t w = served_stops may_give owner heard written w
+told_stops may_give owner Limit heard written t w = served_stops may_give owner heard written w
+told_stops may_give owner (Bad status) heard written t w = served_stops may_give owner heard written w
+told_stops may_give owner ReadFault heard written t w = absurd t
+told_stops may_give owner WriteFault heard written t w = absurd t
+told_stops may_give owner NoMemory heard written t w = absurd t
+told_stops may_give owner Bounded heard written t w = absurd t
+
+-- an end is told of, or its line is a write fault or want of memory
+pub comes_to : (may_give : ℕ → Type 0) (owner : List ℕ) (end told : PipeEnd) (old_input new_input old_output new_output : Option (List ℕ)) → ComesOf end told
+    → Pipes may_give owner end old_input new_input old_output new_output → Pipes may_give owner told old_input new_input old_output new_output
+comes_to may_give owner end told old_input new_input old_output new_output (inl same) p = subst (λ e. Pipes may_give owner e old_input new_input old_output new_output) (sym same) p
+comes_to may_give owner end told old_input new_input old_output new_output (inr (t, inl fault)) p = subst (λ e. Pipes may_give owner e old_input new_input old_output new_output) (sym fault) (record {
+  read = p.read;
+  heard = p.heard;
+  written = p.written;
+  reads = p.reads;
+  hears = told_first end p.read p.heard new_input t p.hears;
+  serves = told_stops may_give owner end p.heard p.written t p.serves;
+  writes = p.writes;
+})
+comes_to may_give owner end told old_input new_input old_output new_output (inr (t, inr none)) p = subst (λ e. Pipes may_give owner e old_input new_input old_output new_output) (sym none) (record {
+  read = p.read;
+  heard = p.heard;
+  written = p.written;
+  reads = p.reads;
+  hears = told_first end p.read p.heard new_input t p.hears;
+  serves = told_stops may_give owner end p.heard p.written t p.serves;
+  writes = p.writes;
+})
+
+-- in nothing nothing is heard
+nothing_heard : Messages [] [] 0
+nothing_heard = unfinished [] [] [] refl (record { few = omega arith; stays = tt }) (in_head refl)
+
+-- nothing was read, and nothing written
+pub unserved : (may_give : ℕ → Type 0) (owner : List ℕ) (input output : Option (List ℕ)) → Pipes may_give owner NoMemory input input output output
+unserved may_give owner input output = record {
+  read = [];
+  heard = [];
+  written = [];
+  reads = nothing_read input;
+  hears = all_first [] [] 0 nothing_heard;
+  serves = served_stops may_give owner [] [] (serves may_give owner [] [] [] [] (nothing_yet may_give owner) refl refl);
+  writes = nothing_added output;
+}
