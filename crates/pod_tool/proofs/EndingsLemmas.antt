@@ -123,4 +123,4 @@ module _ (may_give : ℕ → Type 0) (owner : List ℕ) (hears : List Heard) (it
   pub stops_refused : (written : List ℕ) (count : ℕ) → written ≡ output_of fresh_service hears items None ++ take count (refusal_bytes status moment) → IsStopped may_give owner refused written
   stops_refused written count is =
       begins may_give owner refused written items (Some moment) refused_session (output_of fresh_service hears items None) (take count (refusal_bytes status moment)) (drop count (refusal_bytes status moment)) is
-          (ap (λ more. output_of fresh_service hears items None ++ more) (take-append-drop count (refusal_bytes status moment)) ∙ refused_output)
+      (ap (λ more. output_of fresh_service hears items None ++ more) (take-append-drop count (refusal_bytes status moment)) ∙ refused_output)

@@ -106,7 +106,7 @@ module _ (may_give : ℕ → Type 0) (owner : List ℕ) (stage : Stage) (talk : 
   at_end rest end last left is reads over =
       let told : Messages s.text s.heard rest = subst (Messages s.text s.heard) (sym left) messages in
       subst (λ e. Pipes may_give owner e old_input last old_output new_output) (sym is)
-          (elim (rest == 0) as (λ b. (rest == 0) ≡ b → Pipes may_give owner (if b then Peer else Cut rest) old_input last old_output new_output) [
+      (elim (rest == 0) as (λ b. (rest == 0) ≡ b → Pipes may_give owner (if b then Peer else Cut rest) old_input last old_output new_output) [
         | true ↦ λ e.
             let none : rest ≡ 0 = grind (arith, nat_tests) in
             record {

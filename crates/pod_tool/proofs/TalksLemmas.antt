@@ -127,9 +127,9 @@ module _ (may_give : ℕ → Type 0) (owner : List ℕ) (talk : Talk) (before : 
   pub stops_inviting : (count : ℕ) → IsStopped may_give owner (before ++ heard.Interim ∷ []) (written ++ take count interim_text)
   stops_inviting count =
       begins may_give owner (before ++ heard.Interim ∷ []) (written ++ take count interim_text) t.items None
-          (on_fresh may_give owner (requests_of (before ++ heard.Interim ∷ [])) t.items t.history interim_progress (before ++ heard.Interim ∷ []) None refl tt)
-          (output_of fresh_service before t.items None) (take count interim_text) (drop count interim_text) (ap (λ w. w ++ take count interim_text) t.output)
-          (ap (λ more. output_of fresh_service before t.items None ++ more) (take-append-drop count interim_text) ∙ invited)
+      (on_fresh may_give owner (requests_of (before ++ heard.Interim ∷ [])) t.items t.history interim_progress (before ++ heard.Interim ∷ []) None refl tt)
+      (output_of fresh_service before t.items None) (take count interim_text) (drop count interim_text) (ap (λ w. w ++ take count interim_text) t.output)
+      (ap (λ more. output_of fresh_service before t.items None ++ more) (take-append-drop count interim_text) ∙ invited)
 
   refused_requests : (status : ℕ) → requests_of (before ++ heard.Bad status ∷ []) ≡ requests_of before
   refused_requests status = requests_append before (heard.Bad status ∷ []) ∙ append-nil _
@@ -139,10 +139,10 @@ module _ (may_give : ℕ → Type 0) (owner : List ℕ) (talk : Talk) (before : 
   stops_unrefused status =
       let hears : List Heard = before ++ heard.Bad status ∷ [] in
       begins may_give owner hears (written ++ []) t.items None
-          (on_fresh may_give owner (requests_of before) t.items t.history t.progress hears None (refused_requests status) tt)
-          (output_of fresh_service before t.items None) [] [] (ap (λ w. w ++ []) t.output)
-          (sym (output_grows 0 before (heard.Bad status ∷ []) t.items [] None t.stays t.progress.plain (all_have_items may_give owner (requests_of before) t.items t.history t.progress))
-          ∙ ap (λ all. output_of fresh_service hears all None) (append-nil t.items))
+      (on_fresh may_give owner (requests_of before) t.items t.history t.progress hears None (refused_requests status) tt)
+      (output_of fresh_service before t.items None) [] [] (ap (λ w. w ++ []) t.output)
+      (sym (output_grows 0 before (heard.Bad status ∷ []) t.items [] None t.stays t.progress.plain (all_have_items may_give owner (requests_of before) t.items t.history t.progress))
+      ∙ ap (λ all. output_of fresh_service hears all None) (append-nil t.items))
 
   pub ends_refused : (status : ℕ) (moment : Dated) → Refuses may_give moment → Ends may_give owner (Bad status) (before ++ heard.Bad status ∷ []) (written ++ refusal_bytes status moment)
   ends_refused status moment r = (
@@ -227,9 +227,9 @@ module _ (may_give : ℕ → Type 0) (owner : List ℕ) (talk : Talk) (before : 
     pub stops_answering : (count : ℕ) → IsStopped may_give owner all_heard (written ++ take count bytes)
     stops_answering count =
         begins may_give owner all_heard (written ++ take count bytes) (t.items ++ next.item ∷ []) None
-            (on_fresh may_give owner (requests_of all_heard) (t.items ++ next.item ∷ []) next.history progress all_heard None refl tt)
-            (output_of fresh_service before t.items None) (take count bytes) (drop count bytes) (ap (λ w. w ++ take count bytes) t.output)
-            (ap (λ more. output_of fresh_service before t.items None ++ more) (take-append-drop count bytes) ∙ all_bytes)
+        (on_fresh may_give owner (requests_of all_heard) (t.items ++ next.item ∷ []) next.history progress all_heard None refl tt)
+        (output_of fresh_service before t.items None) (take count bytes) (drop count bytes) (ap (λ w. w ++ take count bytes) t.output)
+        (ap (λ more. output_of fresh_service before t.items None ++ more) (take-append-drop count bytes) ∙ all_bytes)
 
 -- how the refusal of bytes that are no message ends, behind whatever was heard
 pub refused_ends : (may_give : ℕ → Type 0) (talk after : Talk) (status : ℕ) (end : PipeEnd) (old new : Option (List ℕ)) → RefusedAs may_give status end old new
@@ -255,7 +255,7 @@ refused_ends may_give talk after status Bounded old new r = absurd r
 -- behind a last request comes nothing
 pub over_last : (count : ℕ) (request : Request) (end : PipeEnd) → end ≡ (if count + 1 == most_requests then Limit else Closed) → IsEnd count request → IsOver count (heard.Request request) end
 over_last count request end is h = subst (IsOver count (heard.Request request)) (sym is)
-    (elim (count + 1 == most_requests) as (λ b. IsOver count (heard.Request request) (if b then Limit else Closed)) [ | true ↦ h | false ↦ h ])
+    (elim (count + 1 == most_requests) as (λ b. IsOver count (heard.Request request) (if b then Limit else Closed)) [ true ↦ h | false ↦ h ])
 
 -- how an invitation ends, behind whatever was heard
 pub invited_turns : (may_give : ℕ → Type 0) (talk : Talk) (result : Result (Unit {0}) PipeEnd) (old new : Option (List ℕ)) → Writes result interim_text old new → IfErr result (λ end. end ≡ WriteFault)

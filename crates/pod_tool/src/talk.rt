@@ -140,10 +140,22 @@ impl Talk {
     {
         let number = self.number + 1;
         let last = closes_after(request, number);
-        match answer_one(alloc, &mut self.keeper, request, number, last, output, clock) {
+        match answer_one(
+            alloc,
+            &mut self.keeper,
+            request,
+            number,
+            last,
+            output,
+            clock,
+        ) {
             Ok(()) => {
                 self.number = number;
-                if last { Err(end_behind(number)) } else { Ok(()) }
+                if last {
+                    Err(end_behind(number))
+                } else {
+                    Ok(())
+                }
             }
             Err(_failed) => Err(PipeEnd::WriteFault),
         }

@@ -1,5 +1,6 @@
 use super::*;
-use pod_base::{Mem, NoMemory};
+use http_conn::Conn;
+use pod_base::{Heard, Mem, NoMemory};
 use pod_io::{MemSink, MemSource, SetClock};
 use std::alloc::Global;
 use std::process::Abort;
@@ -135,11 +136,34 @@ fn requests_are_answered(rt: HostRuntime) {
     check(&rt, alloc, &[], 0, &[], peer);
     check(&rt, alloc, &[PUT], 0, &[CREATED], peer);
     check(&rt, alloc, &[PUT, GET], 0, &[CREATED, SHOWN], peer);
-    check(&rt, alloc, &[PUT, PUT, GET], 0, &[CREATED, REPLACED, SHOWN], peer);
+    check(
+        &rt,
+        alloc,
+        &[PUT, PUT, GET],
+        0,
+        &[CREATED, REPLACED, SHOWN],
+        peer,
+    );
     check(&rt, alloc, &[GET_NONE], 0, &[MISSING], peer);
     check(&rt, alloc, &["\r\n\n", PUT, "\n\r\n"], 0, &[CREATED], peer);
+    let head = "HEAD /hello HTTP/1.1\r\nHost: h\r\n\r\n";
+    check(
+        &rt,
+        alloc,
+        &[PUT, head, GET],
+        0,
+        &[CREATED, SHOWN.trim_end_matches("hello"), SHOWN],
+        peer,
+    );
     let delete = "DELETE /hello HTTP/1.1\r\nHost: h\r\n\r\n";
-    check(&rt, alloc, &[PUT, delete, GET], 0, &[CREATED, METHOD, SHOWN], peer);
+    check(
+        &rt,
+        alloc,
+        &[PUT, delete, GET],
+        0,
+        &[CREATED, METHOD, SHOWN],
+        peer,
+    );
 }
 
 #[test]
@@ -148,11 +172,32 @@ fn connections_end(rt: HostRuntime) {
     let closed = "end: closed\n";
     let close = "GET /none HTTP/1.1\r\nHost: h\r\nConnection: x, Close\r\n\r\n";
     check(&rt, alloc, &[close, GET], 0, &[MISSING_LAST], closed);
-    check(&rt, alloc, &[PUT, close, "x"], 0, &[CREATED, MISSING_LAST], closed);
-    check(&rt, alloc, &["GET /none HTTP/1.0\r\n\r\n", GET], 0, &[MISSING_LAST], closed);
+    check(
+        &rt,
+        alloc,
+        &[PUT, close, "x"],
+        0,
+        &[CREATED, MISSING_LAST],
+        closed,
+    );
+    check(
+        &rt,
+        alloc,
+        &["GET /none HTTP/1.0\r\n\r\n", GET],
+        0,
+        &[MISSING_LAST],
+        closed,
+    );
     check(&rt, alloc, &["GET / HT"], 12, &[], "end: cut 8\n");
     check(&rt, alloc, &[PUT, "\r\n\r"], 12, &[CREATED], "end: cut 1\n");
-    check(&rt, alloc, &["GET /\r\n\r\n"], 13, &[MALFORMED], "end: bad 400\n");
+    check(
+        &rt,
+        alloc,
+        &["GET /\r\n\r\n"],
+        13,
+        &[MALFORMED],
+        "end: bad 400\n",
+    );
 }
 
 #[test]
@@ -169,8 +214,22 @@ fn framing_is_refused(rt: HostRuntime) {
     refused(&rt, alloc, "GET /a HTTP/1.1\r\n\r\n", MALFORMED, malformed);
     let waits =
         "PUT /hello HTTP/1.1\r\nHost: h\r\nExpect: 100-continue\r\nContent-Type: application/octet-stream\r\nContent-Length: 5\r\n\r\nhello";
-    check(&rt, alloc, &[waits, GET], 0, &[INTERIM, CREATED, SHOWN], "end: peer\n");
-    check(&rt, alloc, &[waits.trim_end_matches("hello")], 12, &[INTERIM], "end: cut 113\n");
+    check(
+        &rt,
+        alloc,
+        &[waits, GET],
+        0,
+        &[INTERIM, CREATED, SHOWN],
+        "end: peer\n",
+    );
+    check(
+        &rt,
+        alloc,
+        &[waits.trim_end_matches("hello")],
+        12,
+        &[INTERIM],
+        "end: cut 113\n",
+    );
 }
 
 #[test]
@@ -213,7 +272,13 @@ fn head_is(
     match with_fields(alloc, fields, length) {
         Ok(input) => {
             for piece in [1, 1_000, 100_000] {
-                leaves(rt, run(alloc, &input, piece, 0, 0), status, output.as_bytes(), line);
+                leaves(
+                    rt,
+                    run(alloc, &input, piece, 0, 0),
+                    status,
+                    output.as_bytes(),
+                    line,
+                );
             }
         }
         Err(NoMemory) => assert!(rt; false, "no memory"),
@@ -265,6 +330,40 @@ fn a_stream_may_end_anywhere(rt: HostRuntime) -> Result<(), Fail> {
     Ok(())
 }
 
+/// What a connection hears in a text that comes in three pieces: the bodies, each with a line end.
+fn hear(alloc: Global, text: &[u8], first: usize, second: usize) -> Mem<Vec<u8>> {
+    let mut conn = Conn::new(alloc);
+    let mut bodies = Vec::new(alloc);
+    let first = first.min(text.len());
+    let second = second.max(first).min(text.len());
+    for piece in [&text[..first], &text[first..second], &text[second..]] {
+        let heard = conn.feed(alloc, piece)?;
+        for one in heard.as_slice() {
+            if let Heard::Request(request) = one {
+                bodies.extend_from_slice(request.body.as_slice())?;
+                bodies.push(b'\n')?;
+            }
+        }
+    }
+    Ok(bodies)
+}
+
+#[test]
+fn a_stream_may_be_cut_at_any_two_places(rt: HostRuntime) -> Result<(), Fail> {
+    let alloc = rt.alloc();
+    let text =
+        b"PUT /a HTTP/1.1\nHost: h\nTransfer-Encoding: chunked\n\n3\r\nabc\r\n0\r\n\r\nGET / HTTP/1.1\nHost: h\n\n";
+    for second in 0..text.len() + 1 {
+        for first in 0..second + 1 {
+            assert_eq!(rt;
+                hear(alloc, text, first, second)?.as_slice(),
+                b"abc\n\n".as_slice()
+            );
+        }
+    }
+    Ok(())
+}
+
 /// So many GETs of nothing.
 fn many(alloc: Global, count: usize) -> Mem<Vec<u8>> {
     let mut bytes = Vec::new(alloc);
@@ -282,7 +381,10 @@ fn a_connection_has_ten_thousand_requests(rt: HostRuntime) -> Result<(), Fail> {
     let more = run(alloc, &many(alloc, 10_002)?, 65_536, 0, 0)?;
     assert_eq!(rt; more.errors.taken(), b"end: limit\n".as_slice());
     assert_eq!(rt; more.status, 0);
-    assert_eq!(rt; more.output.taken().len(), 9_999 * MISSING.len() + MISSING_LAST.len());
+    assert_eq!(rt;
+        more.output.taken().len(),
+        9_999 * MISSING.len() + MISSING_LAST.len()
+    );
     assert!(rt; more.output.taken().ends_with(MISSING_LAST.as_bytes()));
     Ok(())
 }

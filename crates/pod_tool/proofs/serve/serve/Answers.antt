@@ -16,8 +16,8 @@ returns-then-count-eq0-clause-pipes g c =
     let s = c.reads.invariant.0 in
     let read = c.in-Ok.ensures in
     at_end _ _ _ _ _ _ _ _ _ s c.rest.result c.at_end.result (g.S.Source.rest c.read.new.self) c.rest.ensures.exact c.at_end.ensures
-        (reads_none s.text c.reads.piece c.read.new.into c.in-Ok.count (g.S.Source.rest c.args.input.now) (g.S.Source.rest c.reads.input) (g.S.Source.rest c.read.new.self) c.if-count-eq0.true s.reads read.bytes read.rest.taken)
-        (ended_at c.reads.piece c.read.new.into c.in-Ok.count (g.S.Source.rest c.reads.input) (g.S.Source.rest c.read.new.self) c.if-count-eq0.true read.bytes read.rest.taken)
+    (reads_none s.text c.reads.piece c.read.new.into c.in-Ok.count (g.S.Source.rest c.args.input.now) (g.S.Source.rest c.reads.input) (g.S.Source.rest c.read.new.self) c.if-count-eq0.true s.reads read.bytes read.rest.taken)
+    (ended_at c.reads.piece c.read.new.into c.in-Ok.count (g.S.Source.rest c.reads.input) (g.S.Source.rest c.read.new.self) c.if-count-eq0.true read.bytes read.rest.taken)
 
 -- no memory was left to hear the piece
 pub returns-in_default-feed-clause-pipes : goal.returns-in_default-feed-clause-pipes
@@ -25,7 +25,7 @@ returns-in_default-feed-clause-pipes g c =
     let s = c.reads.invariant.0 in
     let read = c.in-Ok.ensures in
     no_memory _ _ _ _ _ _ _ _ _ s (take c.in-Ok.count c.read.new.into) (g.S.Source.rest c.read.new.self)
-        (reads_more s.text c.reads.piece c.read.new.into c.in-Ok.count (g.S.Source.rest c.args.input.now) (g.S.Source.rest c.reads.input) (g.S.Source.rest c.read.new.self) s.reads read.bytes read.rest.taken)
+    (reads_more s.text c.reads.piece c.read.new.into c.in-Ok.count (g.S.Source.rest c.args.input.now) (g.S.Source.rest c.reads.input) (g.S.Source.rest c.read.new.self) s.reads read.bytes read.rest.taken)
 
 pub hear-requires-clause-ends : goal.hear-requires-clause-ends
 hear-requires-clause-ends g c =
@@ -33,7 +33,7 @@ hear-requires-clause-ends g c =
     let read = c.in-Ok.ensures in
     let reads = reads_more s.text c.reads.piece c.read.new.into c.in-Ok.count (g.S.Source.rest c.args.input.now) (g.S.Source.rest c.reads.input) (g.S.Source.rest c.read.new.self) s.reads read.bytes read.rest.taken in
     subst (EndsThere c.reads.talk.number) (sym c.as_slice.ensures)
-        (ends _ _ _ _ _ _ _ _ _ s (take c.in-Ok.count c.read.new.into) (g.S.Source.rest c.read.new.self) reads c.feed.new.self c.in-Ok-feed.heard.items _ (c.in-Ok-feed.ensures.messages s.text s.heard s.stands))
+    (ends _ _ _ _ _ _ _ _ _ s (take c.in-Ok.count c.read.new.into) (g.S.Source.rest c.read.new.self) reads c.feed.new.self c.in-Ok-feed.heard.items _ (c.in-Ok-feed.ensures.messages s.text s.heard s.stands))
 
 pub hear-requires-clause-statuses : goal.hear-requires-clause-statuses
 hear-requires-clause-statuses g c =
@@ -41,7 +41,7 @@ hear-requires-clause-statuses g c =
     let read = c.in-Ok.ensures in
     let reads = reads_more s.text c.reads.piece c.read.new.into c.in-Ok.count (g.S.Source.rest c.args.input.now) (g.S.Source.rest c.reads.input) (g.S.Source.rest c.read.new.self) s.reads read.bytes read.rest.taken in
     subst (AllByRecursion IsRefused) (sym c.as_slice.ensures)
-        (statuses _ _ _ _ _ _ _ _ _ s (take c.in-Ok.count c.read.new.into) (g.S.Source.rest c.read.new.self) reads c.feed.new.self c.in-Ok-feed.heard.items _ (c.in-Ok-feed.ensures.messages s.text s.heard s.stands))
+    (statuses _ _ _ _ _ _ _ _ _ s (take c.in-Ok.count c.read.new.into) (g.S.Source.rest c.read.new.self) reads c.feed.new.self c.in-Ok-feed.heard.items _ (c.in-Ok-feed.ensures.messages s.text s.heard s.stands))
 
 -- the connection ended in this piece
 pub returns-in-Err-clause-pipes : goal.returns-in-Err-clause-pipes
@@ -51,8 +51,8 @@ returns-in-Err-clause-pipes g c =
     let reads = reads_more s.text c.reads.piece c.read.new.into c.in-Ok.count (g.S.Source.rest c.args.input.now) (g.S.Source.rest c.reads.input) (g.S.Source.rest c.read.new.self) s.reads read.bytes read.rest.taken in
     let told = c.in-Err.ensures.turns in
     ended _ _ _ _ _ _ _ _ _ s (take c.in-Ok.count c.read.new.into) (g.S.Source.rest c.read.new.self) reads c.feed.new.self c.in-Ok-feed.heard.items _ (c.in-Ok-feed.ensures.messages s.text s.heard s.stands)
-        c.hear.new.self c.in-Err.end told.0 (g.K.Sink.taken c.hear.new.output) told.1
-        (subst (λ hears. TurnsIn (g.C.Clock.may_give c.args.clock.now) c.reads.talk c.hear.new.self hears told.0 (Err c.in-Err.end)) c.as_slice.ensures told.2)
+    c.hear.new.self c.in-Err.end told.0 (g.K.Sink.taken c.hear.new.output) told.1
+    (subst (λ hears. TurnsIn (g.C.Clock.may_give c.args.clock.now) c.reads.talk c.hear.new.self hears told.0 (Err c.in-Err.end)) c.as_slice.ensures told.2)
 
 pub returns-in-Err-clause-read_fault : goal.returns-in-Err-clause-read_fault
 returns-in-Err-clause-read_fault g c =

@@ -12,7 +12,7 @@ returns-then-last-clause-turns g c =
       told.0,
       told.2.whole,
       λ owner before written t.
-      subst (λ end. Ends (g.C.Clock.may_give c.args.clock.now) owner end (before ++ heard.Request c.args.request.now ∷ []) (written ++ told.0)) (sym c.end_behind.ensures)
+          subst (λ end. Ends (g.C.Clock.may_give c.args.clock.now) owner end (before ++ heard.Request c.args.request.now ∷ []) (written ++ told.0)) (sym c.end_behind.ensures)
           (ends_last (g.C.Clock.may_give c.args.clock.now) owner c.args.self.now before written t c.answer_one.new.keeper c.args.request.now told.0 told.1 last c.requires.few),
     )
 

@@ -7,8 +7,8 @@ use Rattle.pod_tool.proofs.talk.Talk.turn.Goals as goal
 pub returns-in-Interim-clause-turns : goal.returns-in-Interim-clause-turns
 returns-in-Interim-clause-turns g c =
     subst (λ one. (text : List ℕ) × Adds text (g.K.Sink.taken c.args.output.now) (g.K.Sink.taken c.invite.new.output) × Turns (g.C.Clock.may_give c.args.clock.now) c.args.self.now c.args.self.now (one ∷ []) text c.invite.result)
-        (sym c.in-Interim.is)
-        (invited_turns (g.C.Clock.may_give c.args.clock.now) c.args.self.now c.invite.result (g.K.Sink.taken c.args.output.now) (g.K.Sink.taken c.invite.new.output) c.invite.ensures.writes c.invite.ensures.end)
+    (sym c.in-Interim.is)
+    (invited_turns (g.C.Clock.may_give c.args.clock.now) c.args.self.now c.invite.result (g.K.Sink.taken c.args.output.now) (g.K.Sink.taken c.invite.new.output) c.invite.ensures.writes c.invite.ensures.end)
 
 pub returns-in-Bad-clause-turns : goal.returns-in-Bad-clause-turns
 returns-in-Bad-clause-turns g c =
