@@ -11,7 +11,7 @@ use Rattle.pod_core.specs.declared.document.Document.{Document}
 use Rattle.pod_core.specs.declared.reply.Replied.{Replied}
 use Rattle.pod_core.specs.Paths.{is_member_path}
 use Rattle.pod_core.specs.Types.{is_graph, type_of}
-use Rattle.pod_core.specs.Reply.{read_of, written_of, written_at, entry_at, refused, put_of, reply_at, whole_reply, sent_to, reply_of}
+use Rattle.pod_core.specs.Reply.{refusal, read_of, read_at, written_of, written_at, entry_at, refused, put_of, reply_at, sent_to, reply_of}
 use Rattle.pod_core.specs.State.{State}
 
 -- a response of a status from 200 to 599
@@ -46,23 +46,6 @@ put_plain pod request seq stamp (Some ctype) =
       | false ↦ record { answers = written_plain pod.base request.target (map.get pod.rows request.target); stamped = refl }
     ]
 
-plain_at : (pod : State) (request : Request) (seq : ℕ) (stamp : Stamp) (method : Method) → IsPlain stamp (reply_at pod request seq stamp method)
-plain_at pod request seq stamp Get = record { answers = read_plain pod.base request.target (map.get pod.rows request.target); stamped = tt }
-plain_at pod request seq stamp Head = record { answers = read_plain pod.base request.target (map.get pod.rows request.target); stamped = tt }
-plain_at pod request seq stamp Put = put_plain pod request seq stamp (type_of request.fields request.body)
-plain_at pod request seq stamp Options = refused_plain stamp 501 (codes "method") (omega arith) (omega arith)
-plain_at pod request seq stamp Post = refused_plain stamp 501 (codes "method") (omega arith) (omega arith)
-plain_at pod request seq stamp Patch = refused_plain stamp 501 (codes "method") (omega arith) (omega arith)
-plain_at pod request seq stamp Delete = refused_plain stamp 501 (codes "method") (omega arith) (omega arith)
-plain_at pod request seq stamp Other = refused_plain stamp 501 (codes "method") (omega arith) (omega arith)
-
-whole_plain : (pod : State) (request : Request) (seq : ℕ) (stamp : Stamp) → IsPlain stamp (whole_reply pod request seq stamp)
-whole_plain pod request seq stamp =
-    elim (is_member_path request.target) as (λ b. IsPlain stamp (if b then reply_at pod request seq stamp request.method else refused 400 (codes "path"))) [
-      | true ↦ plain_at pod request seq stamp request.method
-      | false ↦ refused_plain stamp 400 (codes "path") (omega arith) (omega arith)
-    ]
-
 sent_answers : (method : Method) (response : Response) → IsAnswer response → IsAnswer (sent_to method response)
 sent_answers Get response h = h
 sent_answers Head response h = record { least = h.least; most = h.most; plain = h.plain }
@@ -73,8 +56,26 @@ sent_answers Patch response h = h
 sent_answers Delete response h = h
 sent_answers Other response h = h
 
+plain_at : (pod : State) (request : Request) (seq : ℕ) (stamp : Stamp) (method : Method) → IsPlain stamp (reply_at pod request seq stamp method)
+plain_at pod request seq stamp Get = record { answers = read_plain pod.base request.target (map.get pod.rows request.target); stamped = tt }
+plain_at pod request seq stamp Head = record { answers = sent_answers Head (read_at pod request.target) (read_plain pod.base request.target (map.get pod.rows request.target)); stamped = tt }
+plain_at pod request seq stamp Put = put_plain pod request seq stamp (type_of request.fields request.body)
+plain_at pod request seq stamp Options = refused_plain stamp 501 (codes "method") (omega arith) (omega arith)
+plain_at pod request seq stamp Post = refused_plain stamp 501 (codes "method") (omega arith) (omega arith)
+plain_at pod request seq stamp Patch = refused_plain stamp 501 (codes "method") (omega arith) (omega arith)
+plain_at pod request seq stamp Delete = refused_plain stamp 501 (codes "method") (omega arith) (omega arith)
+plain_at pod request seq stamp Other = refused_plain stamp 501 (codes "method") (omega arith) (omega arith)
+
+reply_plain : (pod : State) (request : Request) (seq : ℕ) (stamp : Stamp) → IsPlain stamp (reply_of pod request seq stamp)
+reply_plain pod request seq stamp =
+    let path : Replied = record { response = sent_to request.method (refusal 400 (codes "path")); entry = None } in
+    elim (is_member_path request.target) as (λ b. IsPlain stamp (if b then reply_at pod request seq stamp request.method else path)) [
+      | true ↦ plain_at pod request seq stamp request.method
+      | false ↦ record { answers = sent_answers request.method (refusal 400 (codes "path")) (record { least = omega arith; most = omega arith; plain = refl }); stamped = tt }
+    ]
+
 answers : (pod : State) (request : Request) (seq : ℕ) (stamp : Stamp) → IsAnswer (reply_of pod request seq stamp).response
-answers pod request seq stamp = sent_answers request.method (whole_reply pod request seq stamp).response (whole_plain pod request seq stamp).answers
+answers pod request seq stamp = (reply_plain pod request seq stamp).answers
 
 -- its status is one of a response
 pub status : (pod : State) (request : Request) (seq : ℕ) (stamp : Stamp) → (200 ≤ (reply_of pod request seq stamp).response.status) × ((reply_of pod request seq stamp).response.status < 600)
@@ -86,4 +87,4 @@ no_upgrade pod request seq stamp = (answers pod request seq stamp).plain
 
 -- its entry, where it has one, has the stamp that was handed in
 pub stamped : (pod : State) (request : Request) (seq : ℕ) (stamp : Stamp) → IfSome (reply_of pod request seq stamp).entry (λ entry. entry.stamp ≡ stamp)
-stamped pod request seq stamp = (whole_plain pod request seq stamp).stamped
+stamped pod request seq stamp = (reply_plain pod request seq stamp).stamped

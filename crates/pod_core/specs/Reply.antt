@@ -87,13 +87,6 @@ put_of pod request seq stamp (Some ctype) =
       entry = Some (entry_at request.target request.body ctype seq stamp);
     }
 
--- the reply at a path of the pod, by the method
-abbrev pub reply_at : State → Request → ℕ → Stamp → Method → Replied
-reply_at pod request seq stamp Get = record { response = read_at pod request.target; entry = None }
-reply_at pod request seq stamp Head = record { response = read_at pod request.target; entry = None }
-reply_at pod request seq stamp Put = put_of pod request seq stamp (type_of request.fields request.body)
-reply_at pod request seq stamp _ = refused 501 (codes "method")
-
 -- the length of a body in place of its bytes
 abbrev pub length_only : Body → Body
 length_only (Whole bytes) = LengthOnly (length bytes)
@@ -104,16 +97,19 @@ abbrev pub sent_to : Method → Response → Response
 sent_to Head response = record response { body = length_only response.body }
 sent_to _ response = response
 
--- the reply to a request, its body still whole
-abbrev pub whole_reply : State → Request → ℕ → Stamp → Replied
-whole_reply pod request seq stamp =
-    if is_member_path request.target then reply_at pod request seq stamp request.method else refused 400 (codes "path")
+-- the reply at a path of the pod, by the method
+abbrev pub reply_at : State → Request → ℕ → Stamp → Method → Replied
+reply_at pod request seq stamp Get = record { response = read_at pod request.target; entry = None }
+reply_at pod request seq stamp Head = record { response = sent_to Head (read_at pod request.target); entry = None }
+reply_at pod request seq stamp Put = put_of pod request seq stamp (type_of request.fields request.body)
+reply_at pod request seq stamp _ = refused 501 (codes "method")
 
 -- The reply of a pod to a request. An entry gets that number and that stamp.
 abbrev pub reply_of : State → Request → ℕ → Stamp → Replied
 reply_of pod request seq stamp =
-    let reply = whole_reply pod request seq stamp in
-    record reply { response = sent_to request.method reply.response }
+    if is_member_path request.target
+    then reply_at pod request seq stamp request.method
+    else record { response = sent_to request.method (refusal 400 (codes "path")); entry = None }
 
 -- whether a request of this method may change the pod
 abbrev pub is_change : Method → Bool

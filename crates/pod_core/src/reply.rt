@@ -1,4 +1,4 @@
-ghost use Rattle.std.specs.Prelude.{◌≡◌, ◌≤◌, ◌<◌, length, IfOk, IsTrue};
+ghost use Rattle.std.specs.Prelude.{◌≡◌, ◌≤◌, ◌<◌, length, None, IfOk, IsTrue};
 ghost use Rattle.std.specs.List.{list_all};
 ghost use Rattle.http_out.specs.Text.{stays_in_line, AreFieldLines};
 ghost use Rattle.pod_core.specs.Paths.{uri_of};
@@ -10,7 +10,7 @@ use crate::document::Document;
 use crate::entry::Entry;
 use crate::path::member_path;
 use crate::pod::Pod;
-use crate::response::{created, refusal, replaced, sent_to, shown};
+use crate::response::{created, refusal, replaced, sent_to, shown, shown_length};
 use pod_base::{Mem, Method, Request, Response, Stamp, Text};
 use std::alloc::Global;
 
@@ -31,15 +31,32 @@ pub fn is_change(method: Method) -> bool
     )
 }
 
+/// A reply that changes nothing.
+fn unchanged(response: Response) -> Replied
+    ensures response { result.response ≡ response }
+    ensures entry { result.entry ≡ None }
+{
+    Replied {
+        response,
+        entry: None,
+    }
+}
+
 /// A refusal, which changes nothing.
 fn refused(alloc: Global, status: u16, word: &[u8]) -> Mem<Replied>
     ensures { IfOk result (λ r. r ≡ reply.refused status word.now) }
 {
     let response = refusal(alloc, status, word)?;
-    Ok(Replied {
-        response,
-        entry: None,
-    })
+    Ok(unchanged(response))
+}
+
+/// A refusal as it is sent to a request of that method.
+fn refusal_to(alloc: Global, method: Method, status: u16, word: &[u8]) -> Mem<Response>
+    ensures response { IfOk result (λ r. r ≡ reply.sent_to method (reply.refusal status word.now)) }
+    ensures lines { IfOk result (λ r. AreFieldLines r.fields) }
+{
+    let response = refusal(alloc, status, word)?;
+    Ok(sent_to(method, response))
 }
 
 /// The response to a GET.
@@ -51,6 +68,18 @@ fn read(alloc: Global, pod: &Pod, path: &str) -> Mem<Response>
     match pod.find(path) {
         Some(document) => shown(alloc, pod.base(), path.as_bytes(), document),
         None => refusal(alloc, 404, b"missing"),
+    }
+}
+
+/// The response to a HEAD.
+fn read_length(alloc: Global, pod: &Pod, path: &str) -> Mem<Response>
+    requires { 1 ≤ length path.now }
+    ensures response { IfOk result (λ r. r ≡ reply.sent_to Method.Head (reply.read_at pod.now path.now)) }
+    ensures lines { IsTrue (list_all stays_in_line (uri_of pod.now.base path.now)) → IfOk result (λ r. AreFieldLines r.fields) }
+{
+    match pod.find(path) {
+        Some(document) => shown_length(alloc, pod.base(), path.as_bytes(), document),
+        None => refusal_to(alloc, Method::Head, 404, b"missing"),
     }
 }
 
@@ -132,26 +161,30 @@ fn reply_at(
     ensures lines { IsTrue (list_all stays_in_line (uri_of pod.now.base path.now)) → IfOk result (λ r. AreFieldLines r.response.fields) }
 {
     match request.method {
-        Method::Get | Method::Head => {
+        Method::Get => {
             let response = read(alloc, pod, path)?;
-            Ok(Replied {
-                response,
-                entry: None,
-            })
+            Ok(unchanged(response))
+        }
+        Method::Head => {
+            let response = read_length(alloc, pod, path)?;
+            Ok(unchanged(response))
         }
         Method::Put => put(alloc, pod, request, path, seq, stamp),
         _ => refused(alloc, 501, b"method"),
     }
 }
 
-/// The reply to a request, its body still whole.
-fn whole_reply(alloc: Global, pod: &Pod, request: &Request, seq: u64, stamp: Stamp) -> Mem<Replied>
-    ensures reply { IfOk result (λ r. r ≡ reply.whole_reply pod.now request.now seq stamp) }
+/// The reply to a request.
+fn reply_to(alloc: Global, pod: &Pod, request: &Request, seq: u64, stamp: Stamp) -> Mem<Replied>
+    ensures reply { IfOk result (λ r. r ≡ reply.reply_of pod.now request.now seq stamp) }
     ensures lines { IsTrue (list_all stays_in_line pod.now.base) → IfOk result (λ r. AreFieldLines r.response.fields) }
 {
     match member_path(request.target.as_slice()) {
         Some(path) => reply_at(alloc, pod, request, path, seq, stamp),
-        None => refused(alloc, 400, b"path"),
+        None => {
+            let response = refusal_to(alloc, request.method, 400, b"path")?;
+            Ok(unchanged(response))
+        }
     }
 }
 
@@ -167,9 +200,5 @@ pub fn answer(alloc: Global, pod: &Pod, request: &Request, seq: u64, stamp: Stam
     ensures status { IfOk result (λ r. (200 ≤ r.response.status) × (r.response.status < 600)) }
     ensures lines { IsTrue (list_all stays_in_line pod.now.base) → IfOk result (λ r. AreFieldLines r.response.fields) }
 {
-    let whole = whole_reply(alloc, pod, request, seq, stamp)?;
-    Ok(Replied {
-        response: sent_to(request.method, whole.response),
-        entry: whole.entry,
-    })
+    reply_to(alloc, pod, request, seq, stamp)
 }

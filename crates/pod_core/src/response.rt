@@ -70,17 +70,41 @@ pub fn refusal(alloc: Global, status: u16, word: &[u8]) -> Mem<Response>
     })
 }
 
+/// The fields of a document that is shown: its type, and where its access list stands.
+fn shown_fields(alloc: Global, base: &str, path: &[u8], document: &Document) -> Mem<Fields>
+    requires { 1 ≤ length path.now }
+    ensures fields { IfOk result (λ fields. fields ≡ (reply.shown base.now path.now document.now).fields) }
+    ensures lines { IsTrue (list_all stays_in_line (uri_of base.now path.now)) → IfOk result AreFieldLines }
+{
+    let ctype = Bytes::of(alloc, document.ctype.as_str().as_bytes())?;
+    let ctype = field(alloc, "Content-Type", ctype)?;
+    let link = acl_link(alloc, base, path)?;
+    two(alloc, ctype, link)
+}
+
 /// A document is shown, with its type.
 pub fn shown(alloc: Global, base: &str, path: &[u8], document: &Document) -> Mem<Response>
     requires { 1 ≤ length path.now }
     ensures response { IfOk result (λ r. r ≡ reply.shown base.now path.now document.now) }
     ensures lines { IsTrue (list_all stays_in_line (uri_of base.now path.now)) → IfOk result (λ r. AreFieldLines r.fields) }
 {
-    let ctype = Bytes::of(alloc, document.ctype.as_str().as_bytes())?;
-    let ctype = field(alloc, "Content-Type", ctype)?;
-    let link = acl_link(alloc, base, path)?;
-    let fields = two(alloc, ctype, link)?;
+    let fields = shown_fields(alloc, base, path, document)?;
     let body = Body::Whole(document.bytes.copy(alloc)?);
+    Ok(Response {
+        status: 200,
+        fields,
+        body,
+    })
+}
+
+/// A document is shown to a HEAD. Its bytes aren't copied.
+pub fn shown_length(alloc: Global, base: &str, path: &[u8], document: &Document) -> Mem<Response>
+    requires { 1 ≤ length path.now }
+    ensures response { IfOk result (λ r. r ≡ reply.sent_to Method.Head (reply.shown base.now path.now document.now)) }
+    ensures lines { IsTrue (list_all stays_in_line (uri_of base.now path.now)) → IfOk result (λ r. AreFieldLines r.fields) }
+{
+    let fields = shown_fields(alloc, base, path, document)?;
+    let body = Body::LengthOnly(document.bytes.as_slice().len() as u64);
     Ok(Response {
         status: 200,
         fields,

@@ -1,7 +1,7 @@
 use Rattle.std.proofs.Common.{◌≡◌, true, sym, ap, ◌∙◌, is_some}
 use Rattle.pod_core.specs.Paths.{is_member_path}
 use Rattle.pod_core.proofs.PathsLemmas.{uri_stays}
-use Rattle.pod_core.proofs.reply.whole_reply.Goals as goal
+use Rattle.pod_core.proofs.reply.reply_to.Goals as goal
 
 -- the path is a member's, so its URI stays within a line
 pub returns-in-Some-clause-lines : goal.returns-in-Some-clause-lines
