@@ -10,6 +10,7 @@ mod stage;
 mod told;
 
 pub use conn::Conn;
+pub use told::REQUEST_LIMIT;
 
 #[cfg(test)]
 mod tests;

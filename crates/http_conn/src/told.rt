@@ -8,8 +8,8 @@ use http_head::{BodyForm, RequestHead, closes, expects_continue};
 use pod_base::{Bytes, Heard, List, Mem, NoMemory, Request};
 use std::alloc::Global;
 
-/// The most requests of a connection.
-const REQUEST_LIMIT: u64 = 10_000;
+/// The most requests of a connection. Nothing is heard behind the last of them.
+pub const REQUEST_LIMIT: u64 = 10_000;
 
 /// Adds one thing that was heard.
 fn tell(alloc: Global, heard: &mut List<Heard>, one: Heard) -> Mem<()>

@@ -200,6 +200,9 @@ module _ (may_give : ℕ → Type 0) (owner : List ℕ) (stage : Stage) (talk : 
               let whole : Messages (s.text ++ piece) (s.heard ++ front) rest = subst (λ h. Messages (s.text ++ piece) h rest) (none front behind cut is) m in
               subst (Messages (s.text ++ piece) (s.heard ++ front)) (ended_rest (s.text ++ piece) (s.heard ++ front) rest whole closed) whole
 
+          longer : (front behind : List Heard) → front ++ behind ≡ those → s.heard ++ those ≡ (s.heard ++ front) ++ behind
+          longer front behind cut = ap (λ h. s.heard ++ h) (sym cut) ∙ sym (append_assoc s.heard front behind)
+
           first_of : (front behind : List Heard) → front ++ behind ≡ those → FirstHeard (s.text ++ piece) (s.heard ++ front)
           first_of front behind cut = record {
             front = s.text ++ piece;
@@ -209,7 +212,7 @@ module _ (may_give : ℕ → Type 0) (owner : List ℕ) (stage : Stage) (talk : 
             rest = rest;
             messages = m;
             more = behind;
-            is = ap (λ h. s.heard ++ h) (sym cut) ∙ sym (append_assoc s.heard front behind);
+            is = longer front behind cut;
           }
 
           heard_so : (end : PipeEnd) (front behind : List Heard) → front ++ behind ≡ those → IsAll behind (Err end) → Ends may_give owner end (s.heard ++ front) (s.written ++ text)
@@ -217,7 +220,7 @@ module _ (may_give : ℕ → Type 0) (owner : List ℕ) (stage : Stage) (talk : 
           heard_so Closed front behind cut over e = (all_of front behind cut over e.1, (e.1, e.3), e.2)
           heard_so Limit front behind cut over e = (all_of front behind cut over e.1, (e.1, e.3), e.2)
           heard_so (Bad status) front behind cut over e = (all_of front behind cut over (λ open_still. not_bad 0 (s.heard ++ front) status open_still e.1), e.1)
-          heard_so WriteFault front behind cut over e = first_of front behind cut
+          heard_so WriteFault front behind cut over e = (s.heard ++ those, rest, m, (behind, longer front behind cut))
           heard_so NoMemory front behind cut over e = first_of front behind cut
           heard_so Peer front behind cut over e = absurd e
           heard_so (Cut left) front behind cut over e = absurd e
@@ -238,16 +241,16 @@ module _ (may_give : ℕ → Type 0) (owner : List ℕ) (stage : Stage) (talk : 
 -- ---- the last line
 
 -- what was heard in what was read, at an end that a line tells of
-told_first : (end : PipeEnd) (read : List ℕ) (heard : List Heard) (left : Option (List ℕ)) → IsTold end → IsHeard end read heard left → FirstHeard read heard
-told_first Peer read heard left t h = all_first read heard 0 h.0
-told_first (Cut rest) read heard left t h = all_first read heard rest h.0
-told_first Closed read heard left t h = all_first read heard 0 h.0
-told_first Limit read heard left t h = all_first read heard 0 h.0
-told_first (Bad status) read heard left t h = all_first read heard 0 h.0
-told_first ReadFault read heard left t h = absurd t
-told_first WriteFault read heard left t h = absurd t
-told_first NoMemory read heard left t h = absurd t
-told_first Bounded read heard left t h = absurd t
+told_reading : (end : PipeEnd) (read : List ℕ) (heard : List Heard) (left : Option (List ℕ)) → IsTold end → IsHeard end read heard left → (rest : ℕ) × Messages read heard rest
+told_reading Peer read heard left t h = (0, h.0)
+told_reading (Cut rest) read heard left t h = (rest, h.0)
+told_reading Closed read heard left t h = (0, h.0)
+told_reading Limit read heard left t h = (0, h.0)
+told_reading (Bad status) read heard left t h = (0, h.0)
+told_reading ReadFault read heard left t h = absurd t
+told_reading WriteFault read heard left t h = absurd t
+told_reading NoMemory read heard left t h = absurd t
+told_reading Bounded read heard left t h = absurd t
 
 told_stops : (may_give : ℕ → Type 0) (owner : List ℕ) (end : PipeEnd) (heard : List Heard) (written : List ℕ) → IsTold end → IsWritten may_give owner end heard written → IsStopped may_give owner heard written
 told_stops may_give owner Peer heard written t w = served_stops may_give owner heard written w
@@ -269,7 +272,9 @@ comes_to may_give owner end told old_input new_input old_output new_output (inr 
   heard = p.heard;
   written = p.written;
   reads = p.reads;
-  hears = told_first end p.read p.heard new_input t p.hears;
+  hears =
+      let r = told_reading end p.read p.heard new_input t p.hears in
+      (p.heard, r.0, r.1, ([], sym (append-nil p.heard)));
   serves = told_stops may_give owner end p.heard p.written t p.serves;
   writes = p.writes;
 })
@@ -278,7 +283,9 @@ comes_to may_give owner end told old_input new_input old_output new_output (inr 
   heard = p.heard;
   written = p.written;
   reads = p.reads;
-  hears = told_first end p.read p.heard new_input t p.hears;
+  hears =
+      let r = told_reading end p.read p.heard new_input t p.hears in
+      all_first p.read p.heard r.0 r.1;
   serves = told_stops may_give owner end p.heard p.written t p.serves;
   writes = p.writes;
 })

@@ -25,7 +25,12 @@ status_of Bounded = 14
 abbrev pub IsLastHeard : List Heard → Type 0
 IsLastHeard heard = (StaysOpen 0 heard → ⊥) × (bad_status heard ≡ None)
 
--- What was heard in the bytes that were read, and what is left of them, by how the connection ended.
+-- what is heard in the bytes begins so
+abbrev pub Hears : List ℕ → List Heard → Type 0
+Hears read heard = (all : List Heard) × (rest : ℕ) × Messages read all rest × ((more : List Heard) × (all ≡ heard ++ more))
+
+-- What was heard in the bytes that were read, and what is left of them, by how the connection ended. For want of memory the
+-- last of these bytes may not have been heard.
 abbrev pub IsHeard : PipeEnd → List ℕ → List Heard → Option (List ℕ) → Type 0
 IsHeard Peer read heard left = Messages read heard 0 × StaysOpen 0 heard × AtEnd left
 IsHeard (Cut rest) read heard left = Messages read heard rest × (0 < rest) × StaysOpen 0 heard × AtEnd left
@@ -34,7 +39,7 @@ IsHeard Limit read heard left = Messages read heard 0 × IsLastHeard heard × (l
 IsHeard (Bad status) read heard left = Messages read heard 0 × (bad_status heard ≡ Some status)
 IsHeard ReadFault read heard left = (rest : ℕ) × Messages read heard rest × StaysOpen 0 heard
 IsHeard Bounded read heard left = (rest : ℕ) × Messages read heard rest × StaysOpen 0 heard × (2 ^ 40 ≤ length read)
-IsHeard WriteFault read heard left = FirstHeard read heard
+IsHeard WriteFault read heard left = Hears read heard
 IsHeard NoMemory read heard left = FirstHeard read heard
 
 -- What was written of it. All was served; where a write failed or no memory was left, the bytes begin those of a session.

@@ -13,15 +13,13 @@ ghost use Rattle.pod_tool.specs.Turns.{Adds, Refuses, Turned, Writes, refusal_by
 use crate::keeper::{Keeper, clock_moment};
 use crate::status::PipeEnd;
 use crate::write::{write_all, write_out};
+use http_conn::REQUEST_LIMIT;
 use http_head::closes;
 use http_out::{Out, interim, memory_text};
 use pod_base::{Heard, Mem, Request};
 use pod_core::refusal;
 use pod_io::{Clock, Failed, Sink};
 use std::alloc::Global;
-
-/// The number of the last request of a connection.
-const LAST_REQUEST: u64 = 10_000;
 
 /// A connection that is answered: its pod, and how many of its requests were answered.
 #[derive(Drop)]
@@ -34,14 +32,14 @@ pub struct Talk {
 fn closes_after(request: &Request, number: u64) -> bool
     ensures { result ≡ closes_after request.now number }
 {
-    closes(request.minor, &request.fields) || number == LAST_REQUEST
+    closes(request.minor, &request.fields) || number == REQUEST_LIMIT
 }
 
 /// The end behind the last request of a connection, by its number.
 fn end_behind(number: u64) -> PipeEnd
     ensures { result ≡ (if number == most_requests then PipeEnd.Limit else PipeEnd.Closed) }
 {
-    if number == LAST_REQUEST {
+    if number == REQUEST_LIMIT {
         PipeEnd::Limit
     } else {
         PipeEnd::Closed
