@@ -7,6 +7,7 @@ use Rattle.http_conn.specs.Messages.{Messages, unfinished, in_head, FirstHeard, 
 use Rattle.http_conn.specs.Held.{Stands, rest_of}
 use Rattle.http_conn.specs.declared.stage.Stage.{Stage}
 use Rattle.http_conn.proofs.Endings.{ends_there, ended_rest}
+use Rattle.http_conn.proofs.Growing.{first_stays_first}
 use Rattle.http_conn.proofs.Reading.{stands_messages}
 use Rattle.http_out.specs.Text.{stays_in_line}
 use Rattle.pod_base.specs.declared.heard.Heard.{Heard}
@@ -14,7 +15,7 @@ use Rattle.pod_core.specs.State.{State}
 use Rattle.pod_tool.specs.Reads.{Reads, AtEnd}
 use Rattle.pod_tool.specs.Served.{IsNew, IsStopped}
 use Rattle.pod_tool.specs.Session.{requests_of}
-use Rattle.pod_tool.specs.Statuses.{IsHeard, IsWritten, IsTold, Pipes, ComesOf}
+use Rattle.pod_tool.specs.Statuses.{HearsFirst, IsHeard, IsWritten, IsTold, Pipes, ComesOf}
 use Rattle.pod_tool.specs.Talks.{Talks, IsSound, IsRefused, Ends, IsAll, TurnsIn}
 use Rattle.pod_tool.specs.Turns.{Adds}
 use Rattle.pod_tool.specs.declared.keeper.Keeper.{Keeper}
@@ -65,12 +66,16 @@ begins may_give stage keeper input output new stands = record {
   many = omega arith;
 }
 
--- what is heard first in a text and more
-first_heard : (text more : List ℕ) (hears those : List Heard) (rest : ℕ) → Messages text (hears ++ those) rest → FirstHeard (text ++ more) hears
-first_heard text more hears those rest m = record { front = text; behind = more; cut = refl; all = hears ++ those; rest = rest; messages = m; more = those; is = refl }
+-- what is heard in a front is heard first in the whole
+hears_first : (text : List ℕ) (hears : List Heard) → FirstHeard text hears → HearsFirst text hears
+hears_first text hears f = record { front = f; whole = λ all rest m. first_stays_first text hears all rest f m }
 
-all_first : (text : List ℕ) (hears : List Heard) (rest : ℕ) → Messages text hears rest → FirstHeard text hears
-all_first text hears rest m = record { front = text; behind = []; cut = append-nil text; all = hears; rest = rest; messages = m; more = []; is = sym (append-nil hears) }
+-- what is heard first in a text and more
+first_heard : (text more : List ℕ) (hears those : List Heard) (rest : ℕ) → Messages text (hears ++ those) rest → HearsFirst (text ++ more) hears
+first_heard text more hears those rest m = hears_first (text ++ more) hears (record { front = text; behind = more; cut = refl; all = hears ++ those; rest = rest; messages = m; more = those; is = refl })
+
+all_first : (text : List ℕ) (hears : List Heard) (rest : ℕ) → Messages text hears rest → HearsFirst text hears
+all_first text hears rest m = hears_first text hears (record { front = text; behind = []; cut = append-nil text; all = hears; rest = rest; messages = m; more = []; is = sym (append-nil hears) })
 
 module _ (may_give : ℕ → Type 0) (owner : List ℕ) (stage : Stage) (talk : Talk) (old_input new_input old_output new_output : Option (List ℕ)) (pieces : ℕ) (s : Serving may_give owner stage talk old_input new_input old_output new_output pieces) where
   messages : Messages s.text s.heard (rest_of stage)
@@ -221,7 +226,7 @@ module _ (may_give : ℕ → Type 0) (owner : List ℕ) (stage : Stage) (talk : 
           heard_so Limit front behind cut over e = (all_of front behind cut over e.1, (e.1, e.3), e.2)
           heard_so (Bad status) front behind cut over e = (all_of front behind cut over (λ open_still. not_bad 0 (s.heard ++ front) status open_still e.1), e.1)
           heard_so WriteFault front behind cut over e = (s.heard ++ those, rest, m, (behind, longer front behind cut))
-          heard_so NoMemory front behind cut over e = first_of front behind cut
+          heard_so NoMemory front behind cut over e = hears_first (s.text ++ piece) (s.heard ++ front) (first_of front behind cut)
           heard_so Peer front behind cut over e = absurd e
           heard_so (Cut left) front behind cut over e = absurd e
           heard_so ReadFault front behind cut over e = absurd e

@@ -29,6 +29,11 @@ IsLastHeard heard = (StaysOpen 0 heard → ⊥) × (bad_status heard ≡ None)
 abbrev pub Hears : List ℕ → List Heard → Type 0
 Hears read heard = (all : List Heard) × (rest : ℕ) × Messages read all rest × ((more : List Heard) × (all ≡ heard ++ more))
 
+-- what is heard in a front of the bytes begins so, and each reading of all of them does
+pub record HearsFirst (read : List ℕ) (heard : List Heard) : Type 0 where
+  pub front : FirstHeard read heard
+  pub whole : (all : List Heard) (rest : ℕ) → Messages read all rest → (more : List Heard) × (all ≡ heard ++ more)
+
 -- What was heard in the bytes that were read, and what is left of them, by how the connection ended. For want of memory the
 -- last of these bytes may not have been heard.
 abbrev pub IsHeard : PipeEnd → List ℕ → List Heard → Option (List ℕ) → Type 0
@@ -40,7 +45,7 @@ IsHeard (Bad status) read heard left = Messages read heard 0 × (bad_status hear
 IsHeard ReadFault read heard left = (rest : ℕ) × Messages read heard rest × StaysOpen 0 heard
 IsHeard Bounded read heard left = (rest : ℕ) × Messages read heard rest × StaysOpen 0 heard × (2 ^ 40 ≤ length read)
 IsHeard WriteFault read heard left = Hears read heard
-IsHeard NoMemory read heard left = FirstHeard read heard
+IsHeard NoMemory read heard left = HearsFirst read heard
 
 -- What was written of it. All was served; where a write failed or no memory was left, the bytes begin those of a session.
 abbrev pub IsWritten : (ℕ → Type 0) → List ℕ → PipeEnd → List Heard → List ℕ → Type 0
