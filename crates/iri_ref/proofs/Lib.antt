@@ -1,8 +1,8 @@
 pub mod Texts
-pub mod Cuts
+pub mod UniqueSplits
 pub mod Schemes
 pub mod Splits
 pub mod Paths
-pub mod Writing
+pub mod PathWriting
 pub mod Dots
 pub mod Resolving

@@ -16,18 +16,18 @@ scheme_text None = []
 scheme_text (Some scheme) = scheme ++ colon ∷ []
 
 -- What a mark leads in, with the mark, or nothing.
-abbrev pub led_by : List ℕ → Option (List ℕ) → List ℕ
-led_by mark None = []
-led_by mark (Some text) = mark ++ text
+abbrev pub prefixed : List ℕ → Option (List ℕ) → List ℕ
+prefixed mark None = []
+prefixed mark (Some text) = mark ++ text
 
 abbrev pub authority_text : Option (List ℕ) → List ℕ
-authority_text authority = led_by (codes "//") authority
+authority_text authority = prefixed (codes "//") authority
 
 abbrev pub query_text : Option (List ℕ) → List ℕ
-query_text query = led_by (codes "?") query
+query_text query = prefixed (codes "?") query
 
 abbrev pub fragment_text : Option (List ℕ) → List ℕ
-fragment_text fragment = led_by (codes "#") fragment
+fragment_text fragment = prefixed (codes "#") fragment
 
 -- The text of these components (section 5.3).
 abbrev pub recomposed : Components → List ℕ

@@ -2,6 +2,6 @@ pub mod Characters
 pub mod Components
 pub mod Segments
 pub mod Resolution
-pub mod Reading
-pub mod Writing
+pub mod Reference
+pub mod PathWriter
 pub mod Target

@@ -3,7 +3,7 @@ use Rattle.std.specs.Prelude.{◌≡◌, ℕ, if◌then◌else◌, List, [], ◌
 use Rattle.std.specs.List.{list_any}
 use Rattle.iri_ref.specs.Characters.{slash, is_slash}
 use Rattle.iri_ref.specs.Components.{Components, HasComponents, recomposed}
-use Rattle.iri_ref.specs.Segments.{without_dots, HasNoDots}
+use Rattle.iri_ref.specs.Segments.{remove_dot_segments, HasNoDotSegments}
 
 -- A path up to its last slash and with it: all but its last segment.
 abbrev pub up_to_last_slash : List ℕ → List ℕ
@@ -19,7 +19,7 @@ merged None base_path path = up_to_last_slash base_path ++ path
 -- The path that a reference with neither scheme nor authority leads to.
 abbrev pub path_from : Components → List ℕ → List ℕ
 path_from base [] = base.path
-path_from base (c ∷ cs) = without_dots (if is_slash c then c ∷ cs else merged base.authority base.path (c ∷ cs))
+path_from base (c ∷ cs) = remove_dot_segments (if is_slash c then c ∷ cs else merged base.authority base.path (c ∷ cs))
 
 -- The base's query counts only under an empty path with no query of its own.
 abbrev pub query_from : Components → List ℕ → Option (List ℕ) → Option (List ℕ)
@@ -32,7 +32,7 @@ abbrev pub in_scheme_of : Components → Components → Option (List ℕ) → Co
 in_scheme_of base ref (Some authority) = record {
   scheme = base.scheme;
   authority = Some authority;
-  path = without_dots ref.path;
+  path = remove_dot_segments ref.path;
   query = ref.query;
   fragment = ref.fragment;
 }
@@ -49,7 +49,7 @@ abbrev pub by_scheme : Components → Components → Option (List ℕ) → Compo
 by_scheme base ref (Some scheme) = record {
   scheme = Some scheme;
   authority = ref.authority;
-  path = without_dots ref.path;
+  path = remove_dot_segments ref.path;
   query = ref.query;
   fragment = ref.fragment;
 }
@@ -78,4 +78,4 @@ TakesScheme base ref text = (base_parts ref_parts parts : Components) → HasCom
 
 -- Read against the base once more, a text whose path has no dot segments stays as it is.
 abbrev pub StaysResolved : List ℕ → List ℕ → Type 0
-StaysResolved base text = (parts : Components) → HasComponents text parts → HasNoDots parts.path → IsResolved base text text
+StaysResolved base text = (parts : Components) → HasComponents text parts → HasNoDotSegments parts.path → IsResolved base text text

@@ -11,7 +11,7 @@ ghost use Rattle.iri_ref.specs.Resolution.{IsResolved, StaysResolved, TakesSchem
 ghost use Rattle.iri_ref.specs.declared.iri.IriFault.TheVariants.{NoMemory};
 
 use crate::characters::all_allowed;
-use crate::components::{components, is_absolute};
+use crate::components::{is_absolute, parse_components};
 use crate::target::transform;
 use std::alloc::{AllocError, Global};
 use std::cmp::Ordering;
@@ -164,8 +164,8 @@ impl Ord for Iri {
 fn resolve_text(alloc: Global, base: &str, reference: &str) -> Result<ArcStr, AllocError>
     ensures { IfOk result (λ text. IsResolved base.now reference.now (arc_str_bytes text)) }
 {
-    let target = transform(components(base), components(reference));
-    let text = target.text(alloc)?;
+    let target = transform(parse_components(base), parse_components(reference));
+    let text = target.recompose(alloc)?;
     ArcStr::from_string(text)
 }
 

@@ -6,7 +6,7 @@ mod components;
 mod iri;
 pub mod laws;
 mod target;
-mod writer;
+mod dot_segments;
 
 pub use iri::{Iri, IriFault, resolve};
 

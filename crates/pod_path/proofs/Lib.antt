@@ -1,10 +1,10 @@
-pub mod Pieces
-pub mod Measure
+pub mod SegmentLists
+pub mod SegmentCount
 pub mod Escaping
 pub mod Names
-pub mod ReadAgain
+pub mod NormalPaths
 pub mod Ends
-pub mod Places
-pub mod Around
-pub mod Above
+pub mod Suffixes
+pub mod Twins
+pub mod Ancestors
 pub mod Subjects

@@ -21,19 +21,19 @@ normal_escape high low =
     if is_unreserved byte then byte ∷ [] else percent ∷ upper high ∷ upper low ∷ []
 
 -- What stands before a text, where there is one.
-abbrev pub before : List ℕ → Option (List ℕ) → Option (List ℕ)
-before front None = None
-before front (Some text) = Some (front ++ text)
+abbrev pub prepend : List ℕ → Option (List ℕ) → Option (List ℕ)
+prepend prefix None = None
+prepend prefix (Some text) = Some (prefix ++ text)
 
 -- The text with each escape in its normal form; none where a % stands without two digits.
-abbrev pub unescaped : List ℕ → Option (List ℕ)
-unescaped [] = Some []
-unescaped (c ∷ []) = if c == percent then None else Some (c ∷ [])
-unescaped (c ∷ d ∷ []) = if c == percent then None else before (c ∷ []) (unescaped (d ∷ []))
-unescaped (c ∷ high ∷ low ∷ rest) =
+abbrev pub normalize_escapes : List ℕ → Option (List ℕ)
+normalize_escapes [] = Some []
+normalize_escapes (c ∷ []) = if c == percent then None else Some (c ∷ [])
+normalize_escapes (c ∷ d ∷ []) = if c == percent then None else prepend (c ∷ []) (normalize_escapes (d ∷ []))
+normalize_escapes (c ∷ high ∷ low ∷ rest) =
     if c == percent
-    then (if is_hex high && is_hex low then before (normal_escape high low) (unescaped rest) else None)
-    else before (c ∷ []) (unescaped (high ∷ low ∷ rest))
+    then (if is_hex high && is_hex low then prepend (normal_escape high low) (normalize_escapes rest) else None)
+    else prepend (c ∷ []) (normalize_escapes (high ∷ low ∷ rest))
 
 -- The fault says that an escape is bad, or that memory ran out.
 abbrev pub FailsEscape : PathFault → Option (List ℕ) → Type 0

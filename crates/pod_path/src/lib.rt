@@ -5,9 +5,9 @@ mod escapes;
 mod fault;
 pub mod laws;
 mod path;
-mod reading;
+mod normalize;
 mod segments;
-mod text;
+mod path_text;
 
 pub use fault::PathFault;
 pub use path::{Path, Taken};

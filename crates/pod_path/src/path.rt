@@ -2,12 +2,12 @@
 
 ghost use Rattle.std.specs.Prelude.{◌≡◌, ◌↔◌, ◌++◌, ◌∷◌, [], List, ℕ, Bool, true, false, IsTrue, IfOk, IfErr, IfSome, IfNone, Ok, Some, string_bytes, length, codes};
 ghost use Rattle.pod_path.specs.Norm.{IsPath, norm, FailsAs};
-ghost use Rattle.pod_path.specs.Places.{is_root, is_container, is_acl, is_meta, is_auxiliary, parent_of, twin_of, acl_of, meta_of, subject_of, IsUnder, member_text, uri_of, IsUriOf, IsName};
+ghost use Rattle.pod_path.specs.Hierarchy.{is_root, is_container, is_acl, is_meta, is_auxiliary, parent_of, twin_of, acl_of, meta_of, subject_of, IsUnder, member_text, uri_of, IsUriOf, IsName};
 
 use crate::fault::PathFault;
-use crate::reading::{behind_slash, read};
+use crate::normalize::{strip_first_slash, normalize_target};
 use crate::segments::ends_with;
-use crate::text::{above, before_end, before_fragment, behind_front, joined};
+use crate::path_text::{parent_text, strip_end, strip_fragment, strip_start, concatenate};
 use iri_ref::{Iri, IriFault};
 use pod_base::{Mem, NoMemory};
 use std::alloc::Global;
@@ -49,7 +49,7 @@ impl Path {
         // A normal path reads as itself.
         ensures again { IfOk result (λ path. norm path ≡ Ok path) }
     {
-        let text = read(alloc, target)?;
+        let text = normalize_target(alloc, target)?;
         Ok(Path { text })
     }
 
@@ -106,7 +106,7 @@ impl Path {
     }
 
     /// The path with this text.
-    fn of(alloc: Global, text: &str) -> Mem<Path>
+    fn from_text(alloc: Global, text: &str) -> Mem<Path>
         requires { IsPath text.now }
         ensures { IfOk result (λ path. path ≡ text.now) }
     {
@@ -115,11 +115,11 @@ impl Path {
     }
 
     /// The path with this text behind it.
-    fn with(&self, alloc: Global, end: &str) -> Mem<Path>
+    fn appended(&self, alloc: Global, end: &str) -> Mem<Path>
         requires { IsPath (self.now ++ end.now) }
         ensures { IfOk result (λ path. path ≡ self.now ++ end.now) }
     {
-        let text = joined(alloc, self.as_str(), end)?;
+        let text = concatenate(alloc, self.as_str(), end)?;
         Ok(Path { text })
     }
 
@@ -130,7 +130,7 @@ impl Path {
         if self.is_root() {
             return Ok(None);
         }
-        let parent = Path::of(alloc, above(self.as_str()))?;
+        let parent = Path::from_text(alloc, parent_text(self.as_str()))?;
         Ok(Some(parent))
     }
 
@@ -144,20 +144,20 @@ impl Path {
         if self.is_root() || self.is_auxiliary() {
             return Ok(None);
         }
-        let twin = self.other_end(alloc)?;
+        let twin = self.twin_text(alloc)?;
         Ok(Some(twin))
     }
 
     /// The path with or without the last slash.
-    fn other_end(&self, alloc: Global) -> Mem<Path>
+    fn twin_text(&self, alloc: Global) -> Mem<Path>
         requires root { is_root self.now ≡ false }
         requires auxiliary { is_auxiliary self.now ≡ false }
         ensures twin { IfOk result (λ twin. Some twin ≡ twin_of self.now) }
         ensures path { IsPath self.now }
     {
-        match before_end(self.as_str(), "/") {
-            Some(front) => Path::of(alloc, front),
-            None => self.with(alloc, "/"),
+        match strip_end(self.as_str(), "/") {
+            Some(prefix) => Path::from_text(alloc, prefix),
+            None => self.appended(alloc, "/"),
         }
     }
 
@@ -171,7 +171,7 @@ impl Path {
         if self.is_auxiliary() {
             return Ok(None);
         }
-        let acl = self.with(alloc, ".acl")?;
+        let acl = self.appended(alloc, ".acl")?;
         Ok(Some(acl))
     }
 
@@ -185,7 +185,7 @@ impl Path {
         if self.is_auxiliary() {
             return Ok(None);
         }
-        let meta = self.with(alloc, ".meta")?;
+        let meta = self.appended(alloc, ".meta")?;
         Ok(Some(meta))
     }
 
@@ -193,12 +193,12 @@ impl Path {
     pub fn subject(&self, alloc: Global) -> Mem<Option<Path>>
         ensures { IfOk result (λ subject. subject ≡ subject_of self.now) }
     {
-        if let Some(front) = before_end(self.as_str(), ".acl") {
-            let subject = Path::of(alloc, front)?;
+        if let Some(prefix) = strip_end(self.as_str(), ".acl") {
+            let subject = Path::from_text(alloc, prefix)?;
             return Ok(Some(subject));
         }
-        if let Some(front) = before_end(self.as_str(), ".meta") {
-            let subject = Path::of(alloc, front)?;
+        if let Some(prefix) = strip_end(self.as_str(), ".meta") {
+            let subject = Path::from_text(alloc, prefix)?;
             return Ok(Some(subject));
         }
         Ok(None)
@@ -208,7 +208,7 @@ impl Path {
     pub fn under(&self, other: &Path) -> bool
         ensures { IsTrue result ↔ IsUnder self.now other.now }
     {
-        match behind_front(self.as_str(), other.as_str()) {
+        match strip_start(self.as_str(), other.as_str()) {
             Some(rest) => other.is_container() && !rest.is_empty(),
             None => false,
         }
@@ -223,8 +223,8 @@ impl Path {
         // The container is the parent, where the name is one segment.
         ensures parent { IsName name.now → IfOk result (λ path. parent_of path ≡ Some self.now) }
     {
-        let front = joined(alloc, self.as_str(), name)?;
-        let text = joined(alloc, front.as_str(), if container { "/" } else { "" })?;
+        let prefix = concatenate(alloc, self.as_str(), name)?;
+        let text = concatenate(alloc, prefix.as_str(), if container { "/" } else { "" })?;
         Path::read(alloc, text.as_bytes())
     }
 
@@ -232,7 +232,7 @@ impl Path {
     pub fn uri(&self, alloc: Global, base: &Iri) -> Mem<Iri>
         ensures { IfOk result (λ iri. iri ≡ uri_of base.now self.now) }
     {
-        let text = joined(alloc, base.as_str(), behind_slash(self.as_str()))?;
+        let text = concatenate(alloc, base.as_str(), strip_first_slash(self.as_str()))?;
         match Iri::read(alloc, text.as_str()) {
             Ok(iri) => Ok(iri),
             Err(IriFault::NoMemory) => Err(NoMemory),
@@ -246,15 +246,15 @@ impl Path {
         ensures some { IfOk result (λ found. IfSome found (λ path. IsUriOf base.now uri.now path)) }
         ensures none { IfOk result (λ found. IfNone found ((path : List ℕ) → IsUriOf base.now uri.now path → ⊥)) }
     {
-        let Some(rest) = behind_front(before_fragment(uri), base.as_str()) else {
+        let Some(rest) = strip_start(strip_fragment(uri), base.as_str()) else {
             return Ok(None);
         };
-        let text = joined(alloc, "/", rest)?;
-        Path::read_same(alloc, text.as_str())
+        let text = concatenate(alloc, "/", rest)?;
+        Path::read_normal(alloc, text.as_str())
     }
 
     /// A text as a path, where it reads as itself.
-    fn read_same(alloc: Global, text: &str) -> Mem<Option<Path>>
+    fn read_normal(alloc: Global, text: &str) -> Mem<Option<Path>>
         ensures some { IfOk result (λ found. IfSome found (λ path. path ≡ text.now)) }
         ensures normal { IfOk result (λ found. IfSome found (λ path. norm text.now ≡ Ok path)) }
         ensures none { IfOk result (λ found. IfNone found (norm text.now ≡ Ok text.now → ⊥)) }

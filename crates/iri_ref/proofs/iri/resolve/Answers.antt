@@ -2,7 +2,7 @@ use Rattle.std.proofs.Common.{rules}
 use Rattle.std.specs.Arc.{arc_str_bytes}
 use Rattle.iri_ref.specs.Characters.{AllAllowed}
 use Rattle.iri_ref.specs.Resolution.{IsResolved}
-use Rattle.iri_ref.proofs.Resolving.{one_result, resolved_absolute, takes_scheme, stays_resolved}
+use Rattle.iri_ref.proofs.Resolving.{references_resolve_uniquely, resolved_absolute, takes_scheme, stays_resolved}
 use Rattle.iri_ref.proofs.iri.resolve.Goals as goal
 
 pub invariant_of-result : goal.invariant_of-result
@@ -20,7 +20,7 @@ returns-clause-absolute c =
 pub returns-clause-only : goal.returns-clause-only
 returns-clause-only c =
     let resolved : IsResolved c.args.base.now c.args.reference.now (arc_str_bytes c.in_ok-text.text) = search rules in
-    λ other h. one_result c.args.base.now c.args.reference.now other (arc_str_bytes c.in_ok-text.text) h resolved
+    λ other h. references_resolve_uniquely c.args.base.now c.args.reference.now other (arc_str_bytes c.in_ok-text.text) h resolved
 
 pub returns-clause-scheme : goal.returns-clause-scheme
 returns-clause-scheme c =

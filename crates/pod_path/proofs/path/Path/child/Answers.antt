@@ -2,8 +2,8 @@ use Rattle.std.proofs.Common.{◌≡◌, Ok, rules}
 use Rattle.std.specs.Prelude.{IfOk}
 use Rattle.std.proofs.lemmas.Result.{IfOk-weaker}
 use Rattle.pod_path.specs.Norm.{norm}
-use Rattle.pod_path.specs.Places.{member_text}
-use Rattle.pod_path.proofs.Above.{child_parent}
+use Rattle.pod_path.specs.Hierarchy.{member_text}
+use Rattle.pod_path.proofs.Ancestors.{child_parent}
 use Rattle.pod_path.proofs.path.Path.child.Goals as goal
 
 pub returns-clause-parent : goal.returns-clause-parent

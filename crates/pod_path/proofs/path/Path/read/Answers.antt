@@ -1,5 +1,5 @@
 use Rattle.std.specs.Prelude.{string_bytes}
-use Rattle.pod_path.proofs.ReadAgain.{is_path, norm_parts, norm_again}
+use Rattle.pod_path.proofs.NormalPaths.{is_path, norm_parts, norm_again}
 use Rattle.pod_path.proofs.path.Path.read.Goals as goal
 
 pub invariant_of-result : goal.invariant_of-result
