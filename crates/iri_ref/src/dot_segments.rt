@@ -46,7 +46,7 @@ fn parent_len(path: &[u8]) -> usize
 }
 
 /// Whether a segment is `.` or `..`.
-fn is_dot_segment(segment: &str) -> bool
+pub fn is_dot_segment(segment: &str) -> bool
     ensures { result ≡ is_dot_segment segment.now }
 {
     segment == "." || segment == ".."

@@ -8,7 +8,5 @@ pub mod laws;
 mod target;
 mod dot_segments;
 
+pub use dot_segments::is_dot_segment;
 pub use iri::{Iri, IriFault, resolve};
-
-#[cfg(test)]
-mod tests;

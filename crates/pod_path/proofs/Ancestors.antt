@@ -1,27 +1,30 @@
 -- Ancestors, members and URIs.
 use Rattle.std.proofs.Common.{◌≡◌, ◌≢◌, ℕ, zero, suc, ◌+◌, ◌<◌, ◌≤◌, Bool, true, false, not, cond, ◌||◌, eqb, List, [], ◌∷◌, ◌++◌, length, take, drop, reverse, Option, Some, None, Result, Ok, Err, refl, sym, ap, subst, ◌∙◌, arith, append_assoc, length-append, inl, inr}
-use Rattle.std.specs.Prelude.{IsTrue, IfOk, IfNone}
+use Rattle.std.specs.Prelude.{IsTrue, IfOk, IfNone, count_by}
 use Rattle.std.specs.List.{list_all, before_first, prefix_len, range_with_len}
 use Rattle.std.proofs.lemmas.Bool.{eqb-true}
 use Rattle.std.proofs.lemmas.Bool.Decides.{eqb_tells}
 use Rattle.std.proofs.Math.Dec.{eqb-suc-zero}
-use Rattle.std.proofs.lemmas.List.{append-nil, reverse-append, append_cancel_left, take_at}
+use Rattle.std.proofs.lemmas.List.{append-nil, reverse-append, append_cancel_left, same_from_push, take_at}
 use Rattle.iri_ref.specs.Characters.{slash, colon, hash, is_slash, is_hash, is_allowed, AllAllowed, Lacks}
 use Rattle.iri_ref.specs.Components.{IsAbsolute, fragment_text}
 use Rattle.iri_ref.specs.Resolution.{up_to_last_slash}
+use Rattle.iri_ref.specs.Segments.{segments, is_dot_segment}
 use Rattle.iri_ref.proofs.Schemes.{other_kind}
 use Rattle.iri_ref.proofs.Texts.{and_left, and_right, all_right, all_append, all_weaker}
 use Rattle.iri_ref.proofs.Paths.{up_to_cut}
-use Rattle.pod_path.specs.Characters.{is_path_character, is_question_mark}
-use Rattle.pod_path.specs.Escapes.{normalize_escapes}
-use Rattle.pod_path.specs.Norm.{is_empty, has_path_characters, IsPath, path_text_of, norm}
-use Rattle.pod_path.specs.Hierarchy.{root, is_root, is_container, without_end, trimmed, parent_of, IsParentChain, IsUnder, member_text, uri_of, IsUriOf, IsName}
+use Rattle.pod_path.specs.Characters.{is_path_character}
+use Rattle.iri_ref.specs.Characters.{is_question_mark}
+use Rattle.pod_path.specs.Escapes.{normalize_escapes, prepend}
+use Rattle.pod_path.specs.Norm.{is_empty, is_auxiliary_name, is_reserved_name, has_path_characters, IsPath, path_text_of, norm}
+use Rattle.pod_path.specs.Hierarchy.{root, is_root, is_container, is_auxiliary, without_end, trimmed, parent_of, twin_of, IsParentChain, IsUnder, IsInside, member_text, uri_of, IsUriOf, IsName, IsPlainName}
 use Rattle.pod_path.proofs.Escaping.{over, seam, plain, front_normal, still_lacks, still_some}
 use Rattle.pod_path.proofs.Names.{ends_is, ends_append, ends_starts, starts}
 use Rattle.pod_path.proofs.Ends.{not_ending, trimmed_some}
-use Rattle.pod_path.proofs.NormalPaths.{parts_of, norm_parts, limited, no_mark, path_lacks, lacks_before, read_unescaped, character_small}
-use Rattle.pod_path.proofs.Suffixes.{last_of, spelled_front, full_last, cut_last}
-use Rattle.pod_path.proofs.Twins.{not_equal, longer_root}
+use Rattle.pod_path.proofs.NormalPaths.{Parts, is_path, parts_of, norm_parts, limited, no_mark, path_lacks, lacks_before, read_unescaped, character_small}
+use Rattle.pod_path.proofs.Suffixes.{last_of, are, spelled_front, spelled_some, spelled_more, full_last, cut_last, Good, good_last, normal_of, free_of, unreserved_name, with_slash}
+use Rattle.pod_path.proofs.Twins.{not_equal, longer_root, closed_last, not_auxiliary, opened, open_root, open_plain}
+use Rattle.pod_path.proofs.LimitLaws.{depth_slashes, slashes_more, smaller_normal}
 
 -- ---- a container and what stands behind it
 
@@ -238,26 +241,84 @@ no_query self name container h n = lacks_before is_question_mark (member_text se
     by_kind true = refl
     by_kind false = refl
 
-pub child_parent : (self name : List ℕ) (container : Bool) (path : List ℕ) → IsPath self → IsTrue (is_container self) → IsName name → norm (member_text self name container) ≡ Ok path → parent_of path ≡ Some self
-child_parent self name container path h closed n e =
+-- what is read of a container's text, a name and perhaps a slash
+pub record ChildText (self : List ℕ) (container : Bool) (path : List ℕ) : Type 0 where
+  pub name : List ℕ
+  pub lacks : Lacks is_slash name
+  pub some : 0 < length name
+  pub whole : path ≡ self ++ (name ++ cond container (slash ∷ []) [])
+
+pub child_text : (self name : List ℕ) (container : Bool) (path : List ℕ) → IsPath self → IsTrue (is_container self) → IsName name → norm (member_text self name container) ≡ Ok path → ChildText self container path
+child_text self name container path h closed n e =
     let read : normalize_escapes (member_text self name container) ≡ Some path = read_unescaped (member_text self name container) path
     (ap path_text_of (sym (no_query self name container h n)) ∙ (limited (path_text_of (before_first is_question_mark (member_text self name container))) path e).0) in
     by_kind container (ap normalize_escapes (sym (append_assoc self name (cond container (slash ∷ []) []))) ∙ read)
   where
-    by_kind : (b : Bool) → normalize_escapes (self ++ (name ++ cond b (slash ∷ []) [])) ≡ Some path → parent_of path ≡ Some self
+    by_kind : (b : Bool) → normalize_escapes (self ++ (name ++ cond b (slash ∷ []) [])) ≡ Some path → ChildText self b path
     by_kind true r =
         let found = behind_container self (name ++ slash ∷ []) path h closed r in
         let parts = over_parts (normalize_escapes name) (Some (slash ∷ [])) found.0 (sym (seam name slash [] refl refl) ∙ found.1) in
         let end : parts.1 ≡ slash ∷ [] = (let both : Some parts.1 ≡ Some (slash ∷ []) = sym parts.3 in cc) in
         let name_read = read_name name parts.0 n parts.2 in
-        ap parent_of (found.2 ∙ ap (λ (t : List ℕ). self ++ t) (parts.4 ∙ ap (λ (t : List ℕ). parts.0 ++ t) end))
-        ∙ member_parent self parts.0 (slash ∷ []) closed name_read.lacks name_read.some (trims_closed self parts.0)
+        record { name = parts.0; lacks = name_read.lacks; some = name_read.some; whole = found.2 ∙ ap (λ (t : List ℕ). self ++ t) (parts.4 ∙ ap (λ (t : List ℕ). parts.0 ++ t) end) }
     by_kind false r =
         let found = behind_container self (name ++ []) path h closed r in
         let name_is : normalize_escapes name ≡ Some found.0 = ap normalize_escapes (sym (append-nil name)) ∙ found.1 in
         let name_read = read_name name found.0 n name_is in
-        ap parent_of (found.2 ∙ ap (λ (t : List ℕ). self ++ t) (sym (append-nil found.0)))
-        ∙ member_parent self found.0 [] closed name_read.lacks name_read.some (trims_open self found.0 name_read.lacks name_read.some)
+        record { name = found.0; lacks = name_read.lacks; some = name_read.some; whole = found.2 ∙ ap (λ (t : List ℕ). self ++ t) (sym (append-nil found.0)) }
+
+pub child_parent : (self : List ℕ) (container : Bool) (path : List ℕ) → IsTrue (is_container self) → ChildText self container path → parent_of path ≡ Some self
+child_parent self true path closed t =
+    ap parent_of t.whole ∙ member_parent self t.name (slash ∷ []) closed t.lacks t.some (trims_closed self t.name)
+child_parent self false path closed t =
+    ap parent_of t.whole ∙ member_parent self t.name [] closed t.lacks t.some (trims_open self t.name t.lacks t.some)
+
+pub child_container : (self : List ℕ) (container : Bool) (path : List ℕ) → ChildText self container path → is_container path ≡ container
+child_container self true path t =
+    ap is_container (t.whole ∙ sym (append_assoc self t.name (slash ∷ []))) ∙ ends_append (self ++ t.name) (slash ∷ [])
+child_container self false path t =
+    ap is_container (t.whole ∙ ap (λ (x : List ℕ). self ++ x) (append-nil t.name)) ∙ container_more self t.name t.some ∙ lacks_open t.name t.lacks
+
+-- ---- a name that needs no change
+
+plain_file : (self name : List ℕ) → Parts self → IsTrue (is_container self) → IsName name → IsTrue (list_all is_path_character name) → normalize_escapes name ≡ Some name → is_dot_segment name ≡ false → is_reserved_name name ≡ false
+    → Parts (self ++ name)
+plain_file self name p closed n characters escapes dots free =
+    let y = without_end 1 self in
+    let end : self ≡ y ++ slash ∷ [] = ends_is self (slash ∷ []) closed in
+    let normal : normalize_escapes y ≡ Some y = front_normal y [] (ap normalize_escapes (sym end) ∙ p.escapes ∙ ap (λ (t : List ℕ). Some t) end) in
+    let whole : self ++ name ≡ y ++ slash ∷ name = ap (λ (t : List ℕ). t ++ name) end ∙ append_assoc y (slash ∷ []) name in
+    let l = last_of self p.characters in
+    let empty : l.last ≡ [] = closed_last self y end l in
+    let g = good_last self p l in
+    let all : segments (drop 1 (self ++ name)) ≡ l.init ++ name ∷ [] = l.more name n.slashes ∙ ap (λ (t : List ℕ). l.init ++ (t ++ name) ∷ []) empty in
+    let good : Good l.init name = record { inside = g.inside; plain = dots; unnamed = g.unnamed; unreserved = free } in
+    record {
+      escapes =
+          ap normalize_escapes whole ∙ seam y slash name refl refl ∙ ap (λ (o : Option (List ℕ)). over o (normalize_escapes (slash ∷ name))) normal
+          ∙ ap (λ (o : Option (List ℕ)). over (Some y) o) (plain slash name refl ∙ ap (prepend (slash ∷ [])) escapes) ∙ ap (λ (t : List ℕ). Some t) (sym whole);
+      characters = spelled_more self name p.characters characters;
+      normal = normal_of (segments (drop 1 (self ++ name))) l.init name all good;
+      free = free_of (segments (drop 1 (self ++ name))) l.init name all good;
+    }
+
+pub plain_member : (self name : List ℕ) (container : Bool) → IsPath self → IsTrue (is_container self) → IsPlainName name container → IsPath (member_text self name container)
+plain_member self name container h closed n = by_kind container (parts_of self h) n.free
+  where
+    by_kind : (b : Bool) → Parts self → cond b (is_auxiliary_name name) (is_reserved_name name) ≡ false → IsPath (self ++ name ++ cond b (slash ∷ []) [])
+    by_kind false p free =
+        subst IsPath (sym (append-nil (self ++ name))) (is_path (self ++ name) (plain_file self name p closed n.segment n.characters n.escapes n.dots free))
+    by_kind true p free =
+        let file = plain_file self name p closed n.segment n.characters n.escapes n.dots (unreserved_name name free) in
+        let no_slash : is_container (self ++ name) ≡ false = container_more self name n.segment.some ∙ lacks_open name n.segment.slashes in
+        let l = last_of (self ++ name) file.characters in
+        let y = without_end 1 self in
+        let end : self ≡ y ++ slash ∷ [] = ends_is self (slash ∷ []) closed in
+        let m = last_of self p.characters in
+        let empty : m.last ≡ [] = closed_last self y end m in
+        let all : segments (drop 1 (self ++ name)) ≡ m.init ++ name ∷ [] = m.more name n.segment.slashes ∙ ap (λ (t : List ℕ). m.init ++ (t ++ name) ∷ []) empty in
+        let same : l.last ≡ name = (same_from_push l.init m.init l.last name (sym (are (self ++ name) l) ∙ all)).1 in
+        is_path ((self ++ name) ++ slash ∷ []) (with_slash (self ++ name) file no_slash (not_auxiliary (self ++ name) file.characters l (ap is_auxiliary_name same ∙ free)))
 
 -- ---- URIs
 
@@ -298,7 +359,7 @@ implied false b h k = absurd cc
 character_allowed : (c : ℕ) → IsTrue (is_path_character c) → IsTrue (is_allowed c)
 character_allowed c h = implied (is_path_character c) (is_allowed c) (tested (λ d. not (is_path_character d) || is_allowed d) 128 0 refl c (omega arith) (omega (arith, character_small c h))) h
 
-rest_allowed : (t : List ℕ) → IsTrue (has_path_characters t) → AllAllowed (drop 1 t)
+pub rest_allowed : (t : List ℕ) → IsTrue (has_path_characters t) → AllAllowed (drop 1 t)
 rest_allowed [] h = absurd cc
 rest_allowed (c ∷ cs) h = all_weaker is_path_character is_allowed character_allowed cs (and_right (is_slash c) _ h)
 
@@ -333,25 +394,61 @@ uri_back base path fragment lacks normal =
     by_fragment None h = ap (before_first is_hash) (append-nil (uri_of base path)) ∙ lacks_before is_hash (uri_of base path) h
     by_fragment (Some f) h = stops (uri_of base path) f h
 
--- ---- the answers of `under`
+-- ---- `under`
 
-pub under_test : (p q rest : List ℕ) (e : Bool) → IsTrue (has_path_characters p) → p ≡ q ++ rest → IsTrue (is_container q) → e ≡ eqb (length rest) 0 → (IsTrue (not e) → IsUnder p q) × (IsUnder p q → IsTrue (not e))
-under_test p q [] e characters whole closed is = (
+pub inside_under : (p q : List ℕ) → IsInside p q → IsUnder p q
+inside_under p q h = under_front p q h.rest h.whole h.container h.more
+
+pub under_inside : (p q : List ℕ) → IsTrue (has_path_characters p) → IsUnder p q → IsInside p q
+under_inside p q characters u =
+    let found = front_under p q u.0 characters u.1 in
+    record { container = found.closed; rest = found.rest; whole = found.whole; more = found.some }
+
+pub inside_test : (p q rest : List ℕ) (e : Bool) → p ≡ q ++ rest → IsTrue (is_container q) → e ≡ eqb (length rest) 0 → (IsTrue (not e) → IsInside p q) × (IsInside p q → IsTrue (not e))
+inside_test p q [] e whole closed is = (
   λ h. (let no : not e ≡ false = ap not is in absurd cc),
-  λ u. (let prefix = front_under p q u.0 characters u.1 in
-      let none : [] ≡ prefix.rest = append_cancel_left q [] prefix.rest (sym whole ∙ prefix.whole) in
-      absurd (omega (arith, prefix.some, ap length none))),
+  λ i. (let none : [] ≡ i.rest = append_cancel_left q [] i.rest (sym whole ∙ i.whole) in
+      absurd (omega (arith, i.more, ap length none))),
 )
-under_test p q (c ∷ cs) e characters whole closed is = (
-  λ h. under_front p q (c ∷ cs) whole closed (omega arith),
-  λ u. ap not (is ∙ eqb-suc-zero (length cs)),
+inside_test p q (c ∷ cs) e whole closed is = (
+  λ h. record { container = closed; rest = c ∷ cs; whole = whole; more = omega arith },
+  λ i. ap not (is ∙ eqb-suc-zero (length cs)),
 )
 
-pub under_closed : (p q : List ℕ) → IsTrue (has_path_characters p) → is_container q ≡ false → IsUnder p q → ⊥
-under_closed p q characters no_slash u = (let yes : true ≡ false = sym (front_under p q u.0 characters u.1).closed ∙ no_slash in cc)
+-- ---- parents of paths and of their twins
 
-pub under_none : (p q : List ℕ) → IsTrue (has_path_characters p) → ((rest : List ℕ) → p ≡ q ++ rest → ⊥) → IsUnder p q → ⊥
-under_none p q characters none u = (let prefix = front_under p q u.0 characters u.1 in none prefix.rest prefix.whole)
+pub parent_some : (p : List ℕ) → is_root p ≡ false → parent_of p ≡ Some (up_to_last_slash (trimmed p))
+parent_some p no_root = ap (λ (b : Bool). cond b None (Some (up_to_last_slash (trimmed p)))) no_root
+
+pub parent_normal : (p q : List ℕ) → IsPath p → IsPath q → IsFront q p → norm p ≡ Ok p → norm q ≡ Ok q
+parent_normal p q hp hq f e = smaller_normal q p hq
+    (omega (arith, ap length f.whole, length-append q f.rest))
+    (omega (arith, depth_slashes q f.characters, depth_slashes p (parts_of p hp).characters, ap (count_by is_slash) f.whole, slashes_more q f.rest))
+    e
+
+pub twin_parent : (t x : List ℕ) → IsPath t → twin_of t ≡ Some x → parent_of x ≡ parent_of t
+twin_parent t x h e = by_tests (is_root t) (is_auxiliary t) (is_container t) refl refl refl e
+  where
+    other : is_root t ≡ false → t ≡ root → ⊥
+    other no_root same = (let yes : true ≡ false = sym (ap is_root same) ∙ no_root in cc)
+
+    by_tests : (a b c : Bool) → is_root t ≡ a → is_auxiliary t ≡ b → is_container t ≡ c
+        → cond (a || b) None (cond c (Some (without_end 1 t)) (Some (t ++ slash ∷ []))) ≡ Some x → parent_of x ≡ parent_of t
+    by_tests true b c ea eb ec k = absurd cc
+    by_tests false true c ea eb ec k = absurd cc
+    by_tests false false true ea eb ec k =
+        let prefix = without_end 1 t in
+        let same : prefix ≡ x = cc in
+        let whole : t ≡ prefix ++ slash ∷ [] = ends_is t (slash ∷ []) ec in
+        let o = opened t prefix whole h ea in
+        ap parent_of (sym same)
+        ∙ parent_is prefix prefix (open_root prefix o) (ap (λ (b : Bool). cond b (without_end 1 prefix) prefix) (open_plain prefix o))
+        ∙ sym (parent_is t prefix (other ea) (ap (λ (b : Bool). cond b (without_end 1 t) t) ec))
+    by_tests false false false ea eb ec k =
+        let same : t ++ slash ∷ [] ≡ x = cc in
+        ap parent_of (sym same)
+        ∙ parent_is (t ++ slash ∷ []) t (longer_root t (slash ∷ []) (spelled_some t (parts_of t h).characters) (omega arith)) (trimmed_some t)
+        ∙ sym (parent_is t t (other ea) (ap (λ (b : Bool). cond b (without_end 1 t) t) ec))
 
 pub none_weaker : {X E P Q : Type 0} (r : Result (Option X) E) → (P → Q) → IfOk r (λ found. IfNone found P) → IfOk r (λ found. IfNone found Q)
 none_weaker (Ok None) f h = f h

@@ -8,7 +8,8 @@ use Rattle.std.proofs.lemmas.List.{take_all, take_at}
 use Rattle.iri_ref.specs.Characters.{slash, is_slash, Lacks}
 use Rattle.iri_ref.proofs.Schemes.{other_kind}
 use Rattle.iri_ref.proofs.Texts.{and_left, and_right, and_both, all_append}
-use Rattle.pod_path.specs.Characters.{percent, is_unreserved, is_between}
+use Rattle.pod_path.specs.Characters.{percent, is_unreserved}
+use Rattle.iri_ref.specs.Characters.{is_between}
 use Rattle.pod_path.specs.Escapes.{is_hex, hex_value, upper, normal_escape, prepend, normalize_escapes}
 
 -- ---- the part before the first mark

@@ -3,8 +3,10 @@ pub mod SegmentCount
 pub mod Escaping
 pub mod Names
 pub mod NormalPaths
+pub mod LimitLaws
 pub mod Ends
 pub mod Suffixes
 pub mod Twins
 pub mod Ancestors
 pub mod Subjects
+pub mod UriParts

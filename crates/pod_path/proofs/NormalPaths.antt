@@ -8,9 +8,11 @@ use Rattle.iri_ref.specs.Characters.{slash, is_slash, Lacks}
 use Rattle.iri_ref.specs.Segments.{segments}
 use Rattle.iri_ref.proofs.Schemes.{other_kind}
 use Rattle.iri_ref.proofs.Texts.{and_left, and_right, and_both, all_weaker}
+use Rattle.pod_path.specs.declared.limits.TheConstants.{PATH_BYTES_LIMIT, PATH_SEGMENTS_LIMIT}
 use Rattle.pod_path.specs.declared.fault.PathFault.{PathFault}
 use Rattle.pod_path.specs.declared.fault.PathFault.TheVariants.{NotNormal, Reserved, TooLong, TooDeep}
-use Rattle.pod_path.specs.Characters.{is_letter_or_digit, is_unreserved, is_path_character, is_between, is_question_mark}
+use Rattle.pod_path.specs.Characters.{is_letter_or_digit, is_unreserved, is_path_character}
+use Rattle.iri_ref.specs.Characters.{is_between, is_question_mark}
 use Rattle.pod_path.specs.Escapes.{normalize_escapes}
 use Rattle.pod_path.specs.Norm.{are_normal, are_reserved, segment_count, if_counted, has_path_characters, checked_text, checked_escapes, path_text_of, IsPath, depth, within_limits, norm}
 use Rattle.pod_path.proofs.Escaping.{unescaped_again}
@@ -120,15 +122,15 @@ of_ok path = Ok path
 
 pub limited : (read : Result (List ℕ) PathFault) (t : List ℕ) → within_limits read ≡ Ok t → (read ≡ Ok t) × (within_limits (Ok t) ≡ Ok t)
 limited (Err fault) t e = absurd cc
-limited (Ok path) t e = by_tests (ltb 1024 (length path)) (ltb 32 (depth path)) refl refl e
+limited (Ok path) t e = by_tests (ltb PATH_BYTES_LIMIT (length path)) (ltb PATH_SEGMENTS_LIMIT (depth path)) refl refl e
   where
-    by_tests : (a b : Bool) → ltb 1024 (length path) ≡ a → ltb 32 (depth path) ≡ b → cond a (Err TooLong) (cond b (Err TooDeep) (Ok path)) ≡ Ok t → (of_ok path ≡ Ok t) × (within_limits (Ok t) ≡ Ok t)
+    by_tests : (a b : Bool) → ltb PATH_BYTES_LIMIT (length path) ≡ a → ltb PATH_SEGMENTS_LIMIT (depth path) ≡ b → cond a (Err TooLong) (cond b (Err TooDeep) (Ok path)) ≡ Ok t → (of_ok path ≡ Ok t) × (within_limits (Ok t) ≡ Ok t)
     by_tests true b ea eb h = absurd cc
     by_tests false true ea eb h = absurd cc
     by_tests false false ea eb h = (
       h,
       (let same : path ≡ t = cc in subst (λ (x : List ℕ). within_limits (Ok x) ≡ Ok x) same
-          (ap (λ (b : Bool). cond b (Err TooLong) (cond (ltb 32 (depth path)) (Err TooDeep) (Ok path))) ea ∙ ap (λ (b : Bool). cond b (Err TooDeep) (Ok path)) eb)),
+          (ap (λ (b : Bool). cond b (Err TooLong) (cond (ltb PATH_SEGMENTS_LIMIT (depth path)) (Err TooDeep) (Ok path))) ea ∙ ap (λ (b : Bool). cond b (Err TooDeep) (Ok path)) eb)),
     )
 
 pub no_mark : (c : ℕ) → IsTrue (is_path_character c) → IsTrue (not (is_question_mark c))
@@ -165,3 +167,7 @@ norm_again target t e =
     let limits = limited (path_text_of (before_first is_question_mark target)) t e in
     let parts = norm_parts target t e in
     ap within_limits (ap path_text_of (path_mark t parts) ∙ is_path t parts) ∙ limits.1
+
+-- of a path, reading judges the limits alone
+pub norm_limits : (p : List ℕ) → IsPath p → norm p ≡ within_limits (Ok p)
+norm_limits p h = ap within_limits (ap path_text_of (path_mark p (parts_of p h)) ∙ h)

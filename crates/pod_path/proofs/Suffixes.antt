@@ -23,7 +23,7 @@ not_true : (b : Bool) → IsTrue (not b) → b ≡ false
 not_true true h = absurd cc
 not_true false h = refl
 
-neither : (a b : Bool) → (a || b) ≡ false → (a ≡ false) × (b ≡ false)
+pub neither : (a b : Bool) → (a || b) ≡ false → (a ≡ false) × (b ≡ false)
 neither true b e = absurd cc
 neither false b e = (refl, e)
 
@@ -153,7 +153,7 @@ good_last t p l = good_of (segments (drop 1 t)) l.init l.last (are t l) p.normal
 
 -- ---- spelling
 
-spelled_more : (t e : List ℕ) → IsTrue (has_path_characters t) → IsTrue (list_all is_path_character e) → IsTrue (has_path_characters (t ++ e))
+pub spelled_more : (t e : List ℕ) → IsTrue (has_path_characters t) → IsTrue (list_all is_path_character e) → IsTrue (has_path_characters (t ++ e))
 spelled_more [] e h he = absurd cc
 spelled_more (c ∷ cs) e h he = and_both (is_slash c) _ (and_left _ (list_all is_path_character cs) h) (all_append is_path_character cs e (and_right (is_slash c) _ h) he)
 
@@ -206,7 +206,7 @@ name_of u last h =
 pub plain_name : (t : List ℕ) (l : Last t) → is_auxiliary t ≡ false → is_auxiliary_name l.last ≡ false
 plain_name t l h = name_of l.u l.last (ap is_auxiliary (sym l.whole) ∙ h)
 
-unreserved_name : (s : List ℕ) → is_auxiliary_name s ≡ false → is_reserved_name s ≡ false
+pub unreserved_name : (s : List ℕ) → is_auxiliary_name s ≡ false → is_reserved_name s ≡ false
 unreserved_name s h = by_test (is_reserved_name s) refl
   where
     by_test : (b : Bool) → is_reserved_name s ≡ b → b ≡ false

@@ -50,13 +50,16 @@ not_auxiliary t characters l plain = both_false _ _ (not_ending t (codes ".acl")
 
 -- ---- twins
 
-open_root : (t : List ℕ) → Open t → t ≡ root → ⊥
+pub open_root : (t : List ℕ) → Open t → t ≡ root → ⊥
 open_root t o e = (let empty : true ≡ false = ap is_empty (sym (closed_last t [] e o.last)) ∙ o.full in cc)
+
+pub open_plain : (t : List ℕ) → Open t → is_container t ≡ false
+open_plain t o = not_ending t (slash ∷ []) (λ y e. (let empty : true ≡ false = ap is_empty (sym (closed_last t y e o.last)) ∙ o.full in cc))
 
 pub open_twin : (t : List ℕ) → Open t → twin_of t ≡ Some (t ++ slash ∷ [])
 open_twin t o =
     let plain = not_auxiliary t o.parts.characters o.last o.plain in
-    let no_slash : is_container t ≡ false = not_ending t (slash ∷ []) (λ y e. (let empty : true ≡ false = ap is_empty (sym (closed_last t y e o.last)) ∙ o.full in cc)) in
+    let no_slash = open_plain t o in
     ap (λ (b : Bool). cond b None (cond (is_container t) (Some (without_end 1 t)) (Some (t ++ slash ∷ [])))) (both_false _ _ (not_equal t root (open_root t o)) plain)
     ∙ ap (λ (b : Bool). cond b (Some (without_end 1 t)) (Some (t ++ slash ∷ []))) no_slash
 

@@ -2,7 +2,8 @@
 use Rattle.std.specs.Prelude.{◌≡◌, ℕ, ◌+◌, ◌-◌, ◌*◌, Bool, ◌&&◌, ◌||◌, ◌==◌, nat_le, if◌then◌else◌, List, [], ◌∷◌, ◌++◌, Option, Some, None}
 use Rattle.pod_path.specs.declared.fault.PathFault.{PathFault}
 use Rattle.pod_path.specs.declared.fault.PathFault.TheVariants.{BadEscape, NotNormal, Reserved, TooLong, TooDeep, NoMemory}
-use Rattle.pod_path.specs.Characters.{percent, is_between, is_unreserved}
+use Rattle.pod_path.specs.Characters.{percent, is_unreserved}
+use Rattle.iri_ref.specs.Characters.{is_between}
 
 abbrev pub is_hex : ℕ → Bool
 is_hex c = is_between 48 c 57 || (is_between 65 c 70 || is_between 97 c 102)

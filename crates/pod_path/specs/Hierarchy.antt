@@ -1,10 +1,12 @@
 -- Paths and what stands about them, as functions of the text.
-use Rattle.std.specs.Prelude.{◌≡◌, ℕ, ◌-◌, ◌<◌, Bool, ◌||◌, nat_eq, bytes_eq, codes, if◌then◌else◌, List, [], ◌∷◌, ◌++◌, length, take, drop, Option, Some, None, Ok}
-use Rattle.std.specs.List.{ends_with, before_first}
-use Rattle.iri_ref.specs.Characters.{slash, is_hash, Lacks, is_slash}
+use Rattle.std.specs.Prelude.{◌≡◌, ℕ, ◌-◌, ◌<◌, Bool, false, IsTrue, ◌||◌, nat_eq, bytes_eq, codes, if◌then◌else◌, List, [], ◌∷◌, ◌++◌, length, take, drop, Option, Some, None, Ok}
+use Rattle.std.specs.List.{ends_with, before_first, list_all}
+use Rattle.iri_ref.specs.Characters.{slash, is_hash, is_question_mark, Lacks, is_slash}
 use Rattle.iri_ref.specs.Resolution.{up_to_last_slash}
-use Rattle.pod_path.specs.Characters.{is_question_mark}
-use Rattle.pod_path.specs.Norm.{norm}
+use Rattle.iri_ref.specs.Segments.{is_dot_segment}
+use Rattle.pod_path.specs.Characters.{is_path_character}
+use Rattle.pod_path.specs.Escapes.{normalize_escapes}
+use Rattle.pod_path.specs.Norm.{norm, is_auxiliary_name, is_reserved_name}
 
 -- "/"
 abbrev pub root : List ℕ
@@ -61,7 +63,14 @@ IsParentChain path (above ∷ chain) other = (parent_of path ≡ Some above) × 
 abbrev pub IsUnder : List ℕ → List ℕ → Type 0
 IsUnder path other = (chain : List (List ℕ)) × IsParentChain path chain other
 
--- The text of a path, and a name in it.
+-- The other path is a container, and the path is its text and more.
+pub record IsInside (path other : List ℕ) : Type 0 where
+  pub container : IsTrue (is_container other)
+  pub rest : List ℕ
+  pub whole : path ≡ other ++ rest
+  pub more : 0 < length rest
+
+-- The text of a container, a name in it, and a slash where the member is a container.
 abbrev pub member_text : List ℕ → List ℕ → Bool → List ℕ
 member_text path name container = path ++ name ++ (if container then slash ∷ [] else [])
 
@@ -79,3 +88,12 @@ pub record IsName (name : List ℕ) : Type 0 where
   pub some : 0 < length name
   pub slashes : Lacks is_slash name
   pub queries : Lacks is_question_mark name
+
+-- A name that is part of a path as it is: one segment of path characters whose escapes are normal. It is no dot
+-- segment, no name of an auxiliary where it is a container's, and no reserved name elsewhere.
+pub record IsPlainName (name : List ℕ) (container : Bool) : Type 0 where
+  pub segment : IsName name
+  pub characters : IsTrue (list_all is_path_character name)
+  pub escapes : normalize_escapes name ≡ Some name
+  pub dots : is_dot_segment name ≡ false
+  pub free : (if container then is_auxiliary_name name else is_reserved_name name) ≡ false

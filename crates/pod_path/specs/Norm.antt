@@ -1,11 +1,13 @@
 -- The normal path of a request's target, or the first fault.
-use Rattle.std.specs.Prelude.{◌≡◌, ℕ, Bool, true, false, not, ◌&&◌, ◌||◌, nat_eq, nat_lt, bytes_eq, codes, if◌then◌else◌, List, [], ◌∷◌, length, drop, Option, Some, None, Result, Ok, Err}
+use Rattle.std.specs.Prelude.{◌≡◌, ℕ, Bool, true, false, not, ◌&&◌, ◌||◌, nat_eq, nat_le, nat_lt, bytes_eq, codes, if◌then◌else◌, List, [], ◌∷◌, length, drop, Option, Some, None, Result, Ok, Err}
 use Rattle.std.specs.List.{list_all, list_any, ends_with, before_first}
 use Rattle.iri_ref.specs.Characters.{is_slash}
 use Rattle.iri_ref.specs.Segments.{segments, is_dot_segment}
+use Rattle.pod_path.specs.declared.limits.TheConstants.{PATH_BYTES_LIMIT, PATH_SEGMENTS_LIMIT}
 use Rattle.pod_path.specs.declared.fault.PathFault.{PathFault}
 use Rattle.pod_path.specs.declared.fault.PathFault.TheVariants.{BadEscape, NotNormal, Reserved, TooLong, TooDeep, NoMemory}
-use Rattle.pod_path.specs.Characters.{is_question_mark, is_path_character}
+use Rattle.pod_path.specs.Characters.{is_path_character}
+use Rattle.iri_ref.specs.Characters.{is_question_mark}
 use Rattle.pod_path.specs.Escapes.{normalize_escapes}
 
 abbrev pub is_empty : List ℕ → Bool
@@ -38,11 +40,11 @@ are_reserved [] = false
 are_reserved (s ∷ []) = is_reserved_name s
 are_reserved (s ∷ t ∷ ss) = is_auxiliary_name s || are_reserved (t ∷ ss)
 
--- How many segments these are, the first behind the first slash, or why they stand in no path.
+-- How many segments these are, or why they are those of no path.
 abbrev pub segment_count : List (List ℕ) → Result ℕ PathFault
 segment_count ss = if are_normal ss then (if are_reserved ss then Err Reserved else Ok (length ss)) else Err NotNormal
 
--- What is if_counted, where it can be.
+-- The text, where its segments are counted.
 abbrev pub if_counted : List ℕ → Result ℕ PathFault → Result (List ℕ) PathFault
 if_counted text (Ok count) = Ok text
 if_counted text (Err fault) = Err fault
@@ -75,11 +77,24 @@ depth text = length (segments (drop 1 text))
 -- Steps 4 and 5: the limits of bytes and segments.
 abbrev pub within_limits : Result (List ℕ) PathFault → Result (List ℕ) PathFault
 within_limits (Err fault) = Err fault
-within_limits (Ok path) = if nat_lt 1024 (length path) then Err TooLong else (if nat_lt 32 (depth path) then Err TooDeep else Ok path)
+within_limits (Ok path) = if nat_lt PATH_BYTES_LIMIT (length path) then Err TooLong else (if nat_lt PATH_SEGMENTS_LIMIT (depth path) then Err TooDeep else Ok path)
+
+-- Has the path at most 1,024 bytes and 32 segments?
+abbrev pub is_within_limits : List ℕ → Bool
+is_within_limits path = nat_le (length path) PATH_BYTES_LIMIT && nat_le (depth path) PATH_SEGMENTS_LIMIT
 
 -- The normal path of a target, without its query, or the fault of the first step that fails.
 abbrev pub norm : List ℕ → Result (List ℕ) PathFault
 norm target = within_limits (path_text_of (before_first is_question_mark target))
+
+-- A limit was passed, or memory ran out.
+abbrev pub IsLimitFault : PathFault → Type 0
+IsLimitFault TooLong = Unit {0}
+IsLimitFault TooDeep = Unit {0}
+IsLimitFault NoMemory = Unit {0}
+IsLimitFault BadEscape = ⊥
+IsLimitFault NotNormal = ⊥
+IsLimitFault Reserved = ⊥
 
 -- Memory ran out, or reading has this fault.
 abbrev pub FailsAs : PathFault → Result (List ℕ) PathFault → Type 0

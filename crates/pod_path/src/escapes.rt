@@ -2,7 +2,8 @@
 
 ghost use Rattle.std.specs.Prelude.{◌≡◌, ◌++◌, ◌∷◌, [], ◌+◌, ◌*◌, ◌<◌, IsTrue, IfSome, IfNone, OnOk, IfOk, IfErr, is_some, Some, None, length};
 ghost use Rattle.std.specs.List.{before_first, position};
-ghost use Rattle.pod_path.specs.Characters.{percent, is_unreserved, is_question_mark};
+ghost use Rattle.pod_path.specs.Characters.{percent, is_unreserved};
+ghost use Rattle.iri_ref.specs.Characters.{is_question_mark};
 ghost use Rattle.pod_path.specs.Escapes.{is_hex, hex_value, upper, normal_escape, prepend, normalize_escapes, FailsEscape};
 
 use crate::fault::PathFault;

@@ -1,8 +1,9 @@
 //! Why a text is no path.
 
 ghost use Rattle.std.specs.Prelude.{◌≡◌};
-ghost use Rattle.pod_path.specs.declared.fault.PathFault.TheVariants.{NoMemory};
+ghost use Rattle.pod_path.specs.declared.fault.PathFault.TheVariants as variants;
 
+use pod_base::NoMemory;
 use std::alloc::{AllocError, AllocFailed};
 use thiserror::Error;
 
@@ -31,7 +32,7 @@ pub enum PathFault {
 }
 
 impl From<AllocError> for PathFault {
-    ghost from_gives = { λ _ fault. fault ≡ NoMemory };
+    ghost from_gives = { λ _ fault. fault ≡ variants.NoMemory };
 
     fn from(_: AllocError) -> PathFault {
         PathFault::NoMemory
@@ -39,9 +40,17 @@ impl From<AllocError> for PathFault {
 }
 
 impl<T: Drop> From<AllocFailed<T>> for PathFault {
-    ghost from_gives = { λ _ fault. fault ≡ NoMemory };
+    ghost from_gives = { λ _ fault. fault ≡ variants.NoMemory };
 
     fn from(_: AllocFailed<T>) -> PathFault {
+        PathFault::NoMemory
+    }
+}
+
+impl From<NoMemory> for PathFault {
+    ghost from_gives = { λ _ fault. fault ≡ variants.NoMemory };
+
+    fn from(_: NoMemory) -> PathFault {
         PathFault::NoMemory
     }
 }

@@ -4,13 +4,13 @@
 mod escapes;
 mod fault;
 pub mod laws;
-mod path;
+mod limits;
 mod normalize;
-mod segments;
+mod path;
 mod path_text;
+mod segments;
+mod uri;
 
 pub use fault::PathFault;
+pub use limits::{PATH_BYTES_LIMIT, PATH_SEGMENTS_LIMIT};
 pub use path::{Path, Taken};
-
-#[cfg(test)]
-mod tests;

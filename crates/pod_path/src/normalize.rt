@@ -3,16 +3,11 @@
 ghost use Rattle.std.specs.Prelude.{◌≡◌, true, false, IfSome, IfNone, IfOk, IfErr, Ok, Err, drop, string_bytes};
 ghost use Rattle.pod_path.specs.Norm.{has_path_characters, path_text_of, depth, norm, FailsAs};
 
-use crate::escapes::{strip_query, normalize_escapes};
+use crate::escapes::{normalize_escapes, strip_query};
 use crate::fault::PathFault;
+use crate::limits::{PATH_BYTES_LIMIT, PATH_SEGMENTS_LIMIT};
 use crate::segments::{are_path_characters, count_segments};
 use std::alloc::Global;
-
-/// The most bytes that a path has which is read.
-const MAX_LEN: usize = 1_024;
-
-/// The most segments that a path has which is read.
-const MAX_DEPTH: usize = 32;
 
 /// Whether the bytes are a slash, and then characters of paths.
 fn has_path_characters(bytes: &[u8]) -> bool
@@ -45,7 +40,7 @@ pub(crate) fn strip_first_slash(text: &str) -> &str
 }
 
 /// A path of any length and depth, and its depth: steps 1 to 3.
-fn normalize_text(alloc: Global, text: &[u8]) -> Result<(String, usize), PathFault>
+pub(crate) fn normalize_text(alloc: Global, text: &[u8]) -> Result<(String, usize), PathFault>
     ensures text { IfOk result (λ read. path_text_of text.now ≡ Ok (string_bytes read.0)) }
     ensures depth { IfOk result (λ read. read.1 ≡ depth (string_bytes read.0)) }
     ensures fault { IfErr result (λ fault. FailsAs fault (path_text_of text.now)) }
@@ -64,10 +59,10 @@ pub(crate) fn normalize_target(alloc: Global, target: &[u8]) -> Result<String, P
     ensures fault { IfErr result (λ fault. FailsAs fault (norm target.now)) }
 {
     let (text, depth) = normalize_text(alloc, strip_query(target))?;
-    if text.len() > MAX_LEN {
+    if text.len() > PATH_BYTES_LIMIT {
         return Err(PathFault::TooLong);
     }
-    if depth > MAX_DEPTH {
+    if depth > PATH_SEGMENTS_LIMIT {
         return Err(PathFault::TooDeep);
     }
     Ok(text)

@@ -7,12 +7,7 @@ ghost use Rattle.pod_path.specs.Characters.{is_unreserved, is_path_character};
 ghost use Rattle.pod_path.specs.Norm.{is_empty, is_auxiliary_name, has_reserved_end, is_dot_auxiliary, is_reserved_name, are_normal, are_reserved, segment_count};
 
 use crate::fault::PathFault;
-
-fn is_dot_segment(segment: &str) -> bool
-    ensures { result ≡ is_dot_segment segment.now }
-{
-    segment == "." || segment == ".."
-}
+use iri_ref::is_dot_segment;
 
 /// Whether a text ends with this one.
 pub(crate) fn ends_with(text: &str, end: &str) -> bool

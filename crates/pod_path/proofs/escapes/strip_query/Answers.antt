@@ -1,5 +1,5 @@
 use Rattle.std.proofs.Common.{sym, ◌∙◌}
-use Rattle.pod_path.specs.Characters.{is_question_mark}
+use Rattle.iri_ref.specs.Characters.{is_question_mark}
 use Rattle.pod_path.proofs.Escaping.{position_some, position_none}
 use Rattle.pod_path.proofs.escapes.strip_query.Goals as goal
 
