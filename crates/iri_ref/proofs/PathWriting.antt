@@ -19,7 +19,7 @@ split_point bytes start (suc n) le whole prefix short at =
     let read : get_or bytes (start + suc n) 0 ≡ slash = sym (get_or-drop start bytes (suc n) 0) ∙ at (omega arith) in
     (omega (arith, length-drop start bytes), λ pos lt high. absurd (omega arith))
 
--- what a writer that wrote these bytes stands for
+-- the state of a writer that wrote these bytes
 abbrev pub written : List ℕ → ℕ → Bool → WriterState
 written bytes start begun = record { before = take start bytes; path = cond begun (Some (drop start bytes)) None }
 
@@ -35,7 +35,7 @@ taken_back w bytes after start n begun view cut prefix =
     by_begun false e p = tt
     by_begun true e p = λ i. record { before = e i; path = Some (p i) }
 
--- a writer's path, and what stands before it as ever
+-- a writer's path, and the text before it as ever
 abbrev pub with_path : WriterState → Option (List ℕ) → WriterState
 with_path w path = record { before = w.before; path = path }
 

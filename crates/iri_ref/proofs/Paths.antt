@@ -70,6 +70,6 @@ up_to_cut (c ∷ prefix) rest h =
     ap (λ (b : Bool). cond b (c ∷ up_to_last_slash (prefix ++ slash ∷ rest)) []) (has_slash (c ∷ prefix) rest)
     ∙ ap (λ (t : List ℕ). c ∷ t) (up_to_cut prefix rest h)
 
--- what is written behind a place leaves what stands before it
+-- writing after a position leaves the text before it
 pub text_before : (bytes more : List ℕ) (start : ℕ) → start ≤ length bytes → IsUtf8 (take start bytes) → IsUtf8 (take start (bytes ++ more))
 text_before bytes more start le h = subst IsUtf8 (sym (take-append-le start bytes more le)) h

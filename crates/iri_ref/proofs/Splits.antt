@@ -144,7 +144,7 @@ weaker_authority : (test : ℕ → Bool) (a : Option (List ℕ)) → ((c : ℕ) 
 weaker_authority test None w h = tt
 weaker_authority test (Some x) w h = all_weaker _ _ w x h
 
--- the text behind a scheme, in three parts
+-- the text after a scheme, in three parts
 regrouped : (c : Components) → authority_text c.authority ++ (c.path ++ (query_text c.query ++ fragment_text c.fragment)) ≡ ((authority_text c.authority ++ c.path) ++ query_text c.query) ++ fragment_text c.fragment
 regrouped c =
     sym (append_assoc (authority_text c.authority ++ c.path) (query_text c.query) (fragment_text c.fragment)

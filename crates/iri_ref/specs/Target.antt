@@ -1,4 +1,4 @@
--- What a reference leads to, as slices of the base and of the reference.
+-- The target of a reference, as slices of the base and of the reference.
 use Rattle.std.specs.Prelude.{ℕ, List, ◌∷◌, ◌++◌, Option, Some, None, option_copied}
 use Rattle.iri_ref.specs.declared.target.TargetPath.{TargetPath}
 use Rattle.iri_ref.specs.declared.target.TargetPath.TheVariants.{Unchanged, WithoutDots}
@@ -14,7 +14,8 @@ joined_path (Some prefix) path = prefix ++ slash ∷ path
 
 abbrev pub target_path_text : TargetPath → List ℕ
 target_path_text (Unchanged path) = path.now
-target_path_text (WithoutDots prefix path) = remove_dot_segments (joined_path (option_copied prefix) path.now)
+target_path_text (WithoutDots prefix path) = remove_dot_segments
+    (joined_path (option_copied prefix) path.now)
 
 abbrev pub target_of : Target → Components
 target_of t = record {

@@ -1,13 +1,15 @@
-//! A reference taken apart.
+//! The components of a reference (RFC 3986, section 3 and appendix B).
 
-ghost use Rattle.std.specs.Prelude.{◌≡◌, [], ◌<◌, ◌==◌, ◌↔◌, ◌++◌, ◌∷◌, List, ℕ, IsTrue, IfSome, IfNone, OnSome, option_copied};
+ghost use Rattle.std.specs.Prelude.{◌≡◌, [], ◌<◌, ◌==◌, ◌↔◌, ◌++◌, ◌∷◌, List, ℕ, IsTrue, IfSome};
+ghost use Rattle.std.specs.Prelude.{IfNone, OnSome, option_copied};
 ghost use Rattle.iri_ref.specs.Characters.{Lacks, slash, is_slash};
-ghost use Rattle.iri_ref.specs.Components.{HasComponents, BeginsWithScheme, HasScheme, IsAbsolute, IsEmptyOrRooted, authority_text, prefixed};
+ghost use Rattle.iri_ref.specs.Components.{HasComponents, BeginsWithScheme, HasScheme, IsAbsolute};
+ghost use Rattle.iri_ref.specs.Components.{IsEmptyOrRooted, authority_text, prefixed};
 ghost use Rattle.iri_ref.specs.Reference.{components_of};
 
 use crate::characters::{all_allowed, is_scheme};
 
-/// The five components of a reference (RFC 3986, section 3), without the delimiters that begin or end them.
+/// The five components of a reference, without the delimiters that begin or end them.
 #[derive(Clone, Copy)]
 pub(crate) struct Reference<'a> {
     pub(crate) scheme: Option<&'a str>,
@@ -19,7 +21,8 @@ pub(crate) struct Reference<'a> {
 
 /// The scheme of a text and what follows its colon, or the text.
 fn split_scheme(text: &str) -> (Option<&str>, &str)
-    ensures some { IfSome (option_copied result.0) (λ scheme. BeginsWithScheme text.now scheme result.1.now) }
+    ensures some { IfSome (option_copied result.0)
+        (λ scheme. BeginsWithScheme text.now scheme result.1.now) }
     ensures none { IfNone (option_copied result.0) (HasScheme text.now → ⊥) }
     ensures rest { IfNone (option_copied result.0) (result.1.now ≡ text.now) }
 {
@@ -68,7 +71,8 @@ fn split_authority(text: &str) -> (Option<&str>, &str)
     ensures whole { text.now ≡ authority_text (option_copied result.0) ++ result.1.now }
     ensures authority { IfSome (option_copied result.0) (λ authority. Lacks is_slash authority) }
     ensures rooted { OnSome (option_copied result.0) (IsEmptyOrRooted result.1.now) }
-    ensures none { IfNone (option_copied result.0) ((rest : List ℕ) → result.1.now ≡ slash ∷ slash ∷ rest → ⊥) }
+    ensures none { IfNone (option_copied result.0) ((rest : List ℕ)
+        → result.1.now ≡ slash ∷ slash ∷ rest → ⊥) }
 {
     let Some(rest) = text.strip_prefix("//") else {
         return (None, text);

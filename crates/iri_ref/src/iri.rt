@@ -1,6 +1,7 @@
-//! Absolute IRIs.
+//! [`Iri`]: absolute IRIs, and [`resolve`], which resolves a reference against one.
 
-ghost use Rattle.std.specs.Prelude.{◌≡◌, ◌↔◌, ◌++◌, IfOk, IsErrOf, List, ℕ, string_bytes, nat_eq, Some};
+ghost use Rattle.std.specs.Prelude.{◌≡◌, ◌↔◌, ◌++◌, IfOk, IsErrOf, List, ℕ, string_bytes, nat_eq};
+ghost use Rattle.std.specs.Prelude.{Some};
 ghost use Rattle.std.specs.Arc.{arc_str_bytes};
 ghost use Rattle.std.specs.Cmp.{partial_equiv_from_equiv};
 ghost use Rattle.std.specs.Cmp.Lexicographic.{slice_cmp};
@@ -19,8 +20,8 @@ use std::marker::Model;
 use std::sync::ArcStr;
 use thiserror::Error;
 
-/// An absolute IRI, kept as it was written. Contracts see it as its list of bytes, which has a scheme and no
-/// character that Turtle's IRIREF forbids.
+/// An absolute IRI, as it was written. Contracts see the list of its bytes, which has a scheme and
+/// no character that IRIREF (RDF 1.1 Turtle, section 6.5) forbids. A copy shares its memory.
 #[derive(Debug, Drop)]
 pub struct Iri {
     text: ArcStr,
@@ -38,10 +39,10 @@ impl Model for Iri {
     ghost invariant = { λ iri. IsAbsolute (arc_str_bytes iri.text) };
 }
 
-/// Why there is no IRI.
+/// Why a call returns no IRI.
 #[derive(Clone, Copy, Debug, PartialEq, Eq, Error)]
 pub enum IriFault {
-    /// The text has a forbidden character, or names no scheme where it must.
+    /// The text has a forbidden character, or no scheme where it needs one.
     #[error("no reference")]
     BadReference,
     /// Memory ran out.
@@ -58,7 +59,8 @@ impl From<AllocError> for IriFault {
 }
 
 impl Iri {
-    /// Reads an absolute IRI: a text with a scheme and no forbidden character.
+    /// Parses an absolute IRI: a text with a scheme and no forbidden character. It fails with
+    /// `BadReference` on every other text.
     pub fn read(alloc: Global, text: &str) -> Result<Iri, IriFault>
         ensures text { IfOk result (λ iri. iri ≡ text.now) }
         ensures absolute { IfOk result (λ _. IsAbsolute text.now) }
@@ -88,7 +90,8 @@ impl Iri {
         Ok(Iri { text })
     }
 
-    /// The IRI with `end` after its text, in memory of its own.
+    /// The IRI with `end` after its text, in one new piece of memory. It fails with `BadReference`
+    /// exactly where `end` has a forbidden character.
     pub fn appended(&self, alloc: Global, end: &str) -> Result<Iri, IriFault>
         ensures text { IfOk result (λ iri. iri ≡ self.now ++ end.now) }
         ensures absolute { IfOk result (λ iri. IsAbsolute iri) }
@@ -160,7 +163,7 @@ impl Ord for Iri {
     }
 }
 
-/// The text that a reference names, read against a base.
+/// The text of a reference that is resolved against a base.
 fn resolve_text(alloc: Global, base: &str, reference: &str) -> Result<ArcStr, AllocError>
     ensures { IfOk result (λ text. IsResolved base.now reference.now (arc_str_bytes text)) }
 {
@@ -169,14 +172,16 @@ fn resolve_text(alloc: Global, base: &str, reference: &str) -> Result<ArcStr, Al
     ArcStr::from_string(text)
 }
 
-/// The IRI that a reference names, read against a base: RFC 3986, section 5.2, strict.
+/// Resolves a reference against a base (RFC 3986, section 5.2, strict). It fails with
+/// `BadReference` exactly where the reference has a forbidden character.
 pub fn resolve(alloc: Global, base: &Iri, reference: &str) -> Result<Iri, IriFault>
     ensures resolved { IfOk result (λ iri. IsResolved base.now reference.now iri) }
     ensures absolute { IfOk result (λ iri. IsAbsolute iri) }
     ensures bad_reference { IsErrOf result IriFault.BadReference ↔ (AllAllowed reference.now → ⊥) }
 
     // No other text is the result.
-    ensures only { IfOk result (λ iri. (text : List ℕ) → IsResolved base.now reference.now text → text ≡ iri) }
+    ensures only { IfOk result (λ iri. (text : List ℕ) → IsResolved base.now reference.now text
+        → text ≡ iri) }
     ensures scheme { IfOk result (λ iri. TakesScheme base.now reference.now iri) }
     ensures again { IfOk result (λ iri. StaysResolved base.now iri) }
 {

@@ -1,10 +1,12 @@
-//! What a reference leads to from its base, before it is written.
+//! The target of a reference and its base (RFC 3986, section 5.2.2), before it is written.
 
-ghost use Rattle.std.specs.Prelude.{◌≡◌, [], ◌∷◌, ◌++◌, List, ℕ, IfOk, IfSome, IfNone, OnOk, option_copied, string_bytes};
+ghost use Rattle.std.specs.Prelude.{◌≡◌, [], ◌∷◌, ◌++◌, List, ℕ, IfOk, IfSome, IfNone, OnOk};
+ghost use Rattle.std.specs.Prelude.{option_copied, string_bytes};
 ghost use Rattle.iri_ref.specs.Characters.{slash, is_slash, Lacks};
 ghost use Rattle.iri_ref.specs.Components.{Components, recomposed, scheme_text, prefixed};
 ghost use Rattle.iri_ref.specs.Reference.{components_of};
-ghost use Rattle.iri_ref.specs.Resolution.{transformed, path_from, query_from, up_to_last_slash, merged};
+ghost use Rattle.iri_ref.specs.Resolution.{transformed, path_from, query_from, up_to_last_slash};
+ghost use Rattle.iri_ref.specs.Resolution.{merged};
 ghost use Rattle.iri_ref.specs.Target.{joined_path, target_path_text, target_of};
 
 use crate::components::Reference;
@@ -14,13 +16,13 @@ use std::alloc::{AllocError, Global};
 /// The path of a target.
 #[derive(Clone, Copy)]
 pub(crate) enum TargetPath<'a> {
-    /// This path as it stands.
+    /// This path, unchanged.
     Unchanged(&'a str),
-    /// This path without its dot segments; where there is a first text, it stands before the path with a slash.
+    /// This path without its dot segments; a prefix precedes it with a slash.
     WithoutDots(Option<&'a str>, &'a str),
 }
 
-/// The components of what a reference leads to.
+/// The components of a target.
 #[derive(Clone, Copy)]
 pub(crate) struct Target<'a> {
     pub(crate) scheme: Option<&'a str>,
@@ -32,7 +34,8 @@ pub(crate) struct Target<'a> {
 
 /// A path before its last slash.
 fn strip_last_segment(path: &str) -> Option<&str>
-    ensures some { IfSome (option_copied result) (λ prefix. up_to_last_slash path.now ≡ prefix ++ slash ∷ []) }
+    ensures some { IfSome (option_copied result)
+        (λ prefix. up_to_last_slash path.now ≡ prefix ++ slash ∷ []) }
     ensures none { IfNone (option_copied result) (up_to_last_slash path.now ≡ []) }
 {
     match path.rsplit_once('/') {
@@ -41,7 +44,7 @@ fn strip_last_segment(path: &str) -> Option<&str>
     }
 }
 
-/// The path that a reference with neither scheme nor authority leads to.
+/// The target's path where the reference has neither scheme nor authority.
 fn choose_path<'a>(base: Reference<'a>, path: &'a str) -> TargetPath<'a>
     ensures { target_path_text result ≡ path_from (components_of base.entry) path.entry.now }
 {
@@ -57,9 +60,11 @@ fn choose_path<'a>(base: Reference<'a>, path: &'a str) -> TargetPath<'a>
     TargetPath::WithoutDots(strip_last_segment(base.path), path)
 }
 
-/// The transform of section 5.2.2, strict: a scheme in the reference counts even where it is the base's.
+/// The transform of section 5.2.2, strict: a scheme in the reference counts even where it is the
+/// base's.
 pub(crate) fn transform<'a>(base: Reference<'a>, reference: Reference<'a>) -> Target<'a>
-    ensures { target_of result ≡ transformed (components_of base.entry) (components_of reference.entry) }
+    ensures { target_of result ≡ transformed (components_of base.entry)
+        (components_of reference.entry) }
 {
     if reference.scheme.is_some() {
         return Target {
@@ -98,9 +103,10 @@ fn component_len(component: Option<&str>) -> usize {
     component.map_or(0, |text| text.len())
 }
 
-/// Writes a component behind its mark, where there is one.
+/// Writes a component after its mark, where there is one.
 fn push_component(text: &mut String, mark: &str, component: Option<&str>) -> Result<(), AllocError>
-    ensures { OnOk result (string_bytes text.new ≡ string_bytes text.old ++ prefixed mark.now (option_copied component.entry)) }
+    ensures { OnOk result (string_bytes text.new ≡ string_bytes text.old
+        ++ prefixed mark.now (option_copied component.entry)) }
 {
     if let Some(component) = component {
         text.push_str(mark)?;
@@ -111,7 +117,8 @@ fn push_component(text: &mut String, mark: &str, component: Option<&str>) -> Res
 
 /// Writes a scheme and its colon, where there is one.
 fn push_scheme(text: &mut String, scheme: Option<&str>) -> Result<(), AllocError>
-    ensures { OnOk result (string_bytes text.new ≡ string_bytes text.old ++ scheme_text (option_copied scheme.entry)) }
+    ensures { OnOk result (string_bytes text.new ≡ string_bytes text.old
+        ++ scheme_text (option_copied scheme.entry)) }
 {
     if let Some(scheme) = scheme {
         text.push_str(scheme)?;
@@ -125,13 +132,16 @@ impl<'a> TargetPath<'a> {
     fn max_len(&self) -> usize {
         match *self {
             TargetPath::Unchanged(path) => path.len(),
-            TargetPath::WithoutDots(prefix, path) => component_len(prefix).saturating_add(path.len()),
+            TargetPath::WithoutDots(prefix, path) => component_len(prefix).saturating_add(
+                path.len(),
+            ),
         }
     }
 
     /// Writes the path at the end of a text.
     fn push_onto(self, mut text: String) -> Result<String, AllocError>
-        ensures { IfOk result (λ more. string_bytes more ≡ string_bytes text ++ target_path_text self.entry) }
+        ensures { IfOk result (λ more. string_bytes more ≡ string_bytes text
+            ++ target_path_text self.entry) }
     {
         match self {
             TargetPath::Unchanged(path) => {

@@ -26,7 +26,7 @@ use Rattle.pod_path.proofs.Suffixes.{last_of, are, spelled_front, spelled_some, 
 use Rattle.pod_path.proofs.Twins.{not_equal, longer_root, closed_last, not_auxiliary, opened, open_root, open_plain}
 use Rattle.pod_path.proofs.LimitLaws.{depth_slashes, slashes_more, smaller_normal}
 
--- ---- a container and what stands behind it
+-- ---- a container and what follows it
 
 starts_front : (xs ys : List ℕ) → 0 < length xs → starts (slash ∷ []) (xs ++ ys) ≡ starts (slash ∷ []) xs
 starts_front [] ys some = absurd (omega arith)
@@ -43,7 +43,7 @@ container_more q rest some =
 parent_is : (p t : List ℕ) → (p ≡ root → ⊥) → trimmed p ≡ t → parent_of p ≡ Some (up_to_last_slash t)
 parent_is p t other e = ap (λ (b : Bool). cond b None (Some (up_to_last_slash (trimmed p)))) (not_equal p root other) ∙ ap (λ (x : List ℕ). Some (up_to_last_slash x)) e
 
--- what stands behind a container, without a slash at its end
+-- what follows a container, without a slash at its end
 record Inside (q rest : List ℕ) : Type 0 where
   x : List ℕ
   trims : trimmed (q ++ rest) ≡ q ++ x
@@ -219,7 +219,7 @@ over_parts None p path h = absurd cc
 over_parts (Some x) None path h = absurd cc
 over_parts (Some x) (Some y) path h = (let same : path ≡ x ++ y = cc in (x, y, refl, refl, same))
 
--- the escapes of a container and of what stands behind it are apart
+-- the escapes of a container and of what follows it are apart
 behind_container : (self rest path : List ℕ) → IsPath self → IsTrue (is_container self) → normalize_escapes (self ++ rest) ≡ Some path → (n : List ℕ) × (normalize_escapes rest ≡ Some n) × (path ≡ self ++ n)
 behind_container self rest path h closed e =
     let y = without_end 1 self in

@@ -10,7 +10,7 @@ use Rattle.iri_ref.specs.Segments.{is_double_dot, is_dot_segment}
 use Rattle.pod_path.specs.Norm.{is_auxiliary_name, is_dot_auxiliary, is_reserved_name}
 use Rattle.pod_path.specs.Hierarchy.{without_end}
 
--- ---- an end, and what stands before it
+-- ---- an end, and the text before it
 
 pub ends_is : (text end : List ℕ) → IsTrue (ends_with nat_eq text end) → text ≡ without_end (length end) text ++ end
 ends_is text end h =

@@ -7,7 +7,7 @@ use Rattle.pod_path.specs.declared.fault.PathFault.TheVariants.{NotNormal, Reser
 use Rattle.pod_path.specs.Norm.{is_empty, are_normal, are_reserved, is_auxiliary_name, is_reserved_name, segment_count}
 use Rattle.pod_path.proofs.SegmentLists.{some_segments, segments_cut, segments_lacking}
 
--- what is left behind others, of which some may be reserved; count is that of the first that is left
+-- what is left after others, of which some may be reserved; count is that of the first that is left
 abbrev pub goes_on : Bool → ℕ → List (List ℕ) → Result ℕ PathFault
 goes_on reserved count [] = Err NotNormal
 goes_on reserved count (s ∷ ss) = cond (are_normal (s ∷ ss)) (cond (reserved || are_reserved (s ∷ ss)) (Err Reserved) (Ok (count + length ss))) (Err NotNormal)

@@ -13,6 +13,6 @@ is_letter_or_digit c = is_between 97 c 122 || (is_between 65 c 90 || is_between 
 abbrev pub is_unreserved : ℕ → Bool
 is_unreserved c = is_letter_or_digit c || list_any (λ d. c == d) (codes "-._~")
 
--- what may stand in a path: % begins an escape
+-- a character of a path; % begins an escape
 abbrev pub is_path_character : ℕ → Bool
 is_path_character c = is_unreserved c || list_any (λ d. c == d) (codes "!$&'()*+,;=:@/%")

@@ -1,5 +1,8 @@
--- Paths and what stands about them, as functions of the text.
-use Rattle.std.specs.Prelude.{◌≡◌, ℕ, ◌-◌, ◌<◌, Bool, false, IsTrue, ◌||◌, nat_eq, bytes_eq, codes, if◌then◌else◌, List, [], ◌∷◌, ◌++◌, length, take, drop, Option, Some, None, Ok}
+-- The paths about a path, as functions of the text: parent, twin, auxiliaries, ancestors, members,
+-- URI.
+use Rattle.std.specs.Prelude.{◌≡◌, ℕ, ◌-◌, ◌<◌, Bool, false, IsTrue, ◌||◌, nat_eq, bytes_eq, codes}
+use Rattle.std.specs.Prelude.{if◌then◌else◌, List, [], ◌∷◌, ◌++◌, length, take, drop, Option, Some}
+use Rattle.std.specs.Prelude.{None, Ok}
 use Rattle.std.specs.List.{ends_with, before_first, list_all}
 use Rattle.iri_ref.specs.Characters.{slash, is_hash, is_question_mark, Lacks, is_slash}
 use Rattle.iri_ref.specs.Resolution.{up_to_last_slash}
@@ -42,7 +45,8 @@ parent_of path = if is_root path then None else Some (up_to_last_slash (trimmed 
 
 -- The same text with or without the last slash.
 abbrev pub twin_of : List ℕ → Option (List ℕ)
-twin_of path = if is_root path || is_auxiliary path then None else (if is_container path then Some (without_end 1 path) else Some (path ++ slash ∷ []))
+twin_of path = if is_root path || is_auxiliary path then None
+    else (if is_container path then Some (without_end 1 path) else Some (path ++ slash ∷ []))
 
 abbrev pub acl_of : List ℕ → Option (List ℕ)
 acl_of path = if is_auxiliary path then None else Some (path ++ codes ".acl")
@@ -50,14 +54,16 @@ acl_of path = if is_auxiliary path then None else Some (path ++ codes ".acl")
 abbrev pub meta_of : List ℕ → Option (List ℕ)
 meta_of path = if is_auxiliary path then None else Some (path ++ codes ".meta")
 
--- What an ACL or a description is of.
+-- The subject of an ACL or a description.
 abbrev pub subject_of : List ℕ → Option (List ℕ)
-subject_of path = if is_acl path then Some (without_end 4 path) else (if is_meta path then Some (without_end 5 path) else None)
+subject_of path = if is_acl path then Some (without_end 4 path)
+    else (if is_meta path then Some (without_end 5 path) else None)
 
--- From the path these lead up to the other, each the parent of the one before.
+-- These are parents, each of the one before, from the path up to the other.
 abbrev pub IsParentChain : List ℕ → List (List ℕ) → List ℕ → Type 0
 IsParentChain path [] other = parent_of path ≡ Some other
-IsParentChain path (above ∷ chain) other = (parent_of path ≡ Some above) × IsParentChain above chain other
+IsParentChain path (above ∷ chain) other = (parent_of path ≡ Some above)
+    × IsParentChain above chain other
 
 -- The other path is an ancestor of the path.
 abbrev pub IsUnder : List ℕ → List ℕ → Type 0
@@ -89,8 +95,9 @@ pub record IsName (name : List ℕ) : Type 0 where
   pub slashes : Lacks is_slash name
   pub queries : Lacks is_question_mark name
 
--- A name that is part of a path as it is: one segment of path characters whose escapes are normal. It is no dot
--- segment, no name of an auxiliary where it is a container's, and no reserved name elsewhere.
+-- A name that is part of a path as it is: one segment of path characters whose escapes are normal.
+-- It is no dot segment, no name of an auxiliary where it is a container's, and no reserved name
+-- elsewhere.
 pub record IsPlainName (name : List ℕ) (container : Bool) : Type 0 where
   pub segment : IsName name
   pub characters : IsTrue (list_all is_path_character name)

@@ -1,10 +1,12 @@
 //! Escapes in their normal form.
 
-ghost use Rattle.std.specs.Prelude.{◌≡◌, ◌++◌, ◌∷◌, [], ◌+◌, ◌*◌, ◌<◌, IsTrue, IfSome, IfNone, OnOk, IfOk, IfErr, is_some, Some, None, length};
+ghost use Rattle.std.specs.Prelude.{◌≡◌, ◌++◌, ◌∷◌, [], ◌+◌, ◌*◌, ◌<◌, IsTrue, IfSome, IfNone};
+ghost use Rattle.std.specs.Prelude.{OnOk, IfOk, IfErr, is_some, Some, None, length};
 ghost use Rattle.std.specs.List.{before_first, position};
 ghost use Rattle.pod_path.specs.Characters.{percent, is_unreserved};
 ghost use Rattle.iri_ref.specs.Characters.{is_question_mark};
-ghost use Rattle.pod_path.specs.Escapes.{is_hex, hex_value, upper, normal_escape, prepend, normalize_escapes, FailsEscape};
+ghost use Rattle.pod_path.specs.Escapes.{is_hex, hex_value, upper, normal_escape, prepend};
+ghost use Rattle.pod_path.specs.Escapes.{normalize_escapes, FailsEscape};
 
 use crate::fault::PathFault;
 use std::alloc::{AllocError, Global};
@@ -56,9 +58,12 @@ fn push_escape(text: &mut Vec<u8>, byte: u8, high: u8, low: u8) -> Result<(), Al
 
 /// Writes the escape whose digits begin a text, and gives what follows them.
 fn push_first_escape<'a>(bytes: &mut Vec<u8>, digits: &'a [u8]) -> Result<&'a [u8], PathFault>
-    ensures text { IfOk result (λ rest. prepend bytes.old.items (normalize_escapes (percent ∷ digits.entry.now)) ≡ prepend bytes.new.items (normalize_escapes rest.now)) }
+    ensures text { IfOk result (λ rest. prepend bytes.old.items
+        (normalize_escapes (percent ∷ digits.entry.now))
+        ≡ prepend bytes.new.items (normalize_escapes rest.now)) }
     ensures shorter { IfOk result (λ rest. length rest.now < length digits.entry.now) }
-    ensures fault { IfErr result (λ fault. FailsEscape fault (normalize_escapes (percent ∷ digits.entry.now))) }
+    ensures fault { IfErr result (λ fault. FailsEscape fault
+        (normalize_escapes (percent ∷ digits.entry.now))) }
 {
     let [high, low, rest @ ..] = digits else {
         return Err(PathFault::BadEscape);

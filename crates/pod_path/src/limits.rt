@@ -1,12 +1,13 @@
-//! The limits of a path that is read.
+//! The limits of a path that is parsed.
 
 ghost use Rattle.std.specs.Prelude.{◌≡◌, ◌&&◌, nat_le};
-ghost use Rattle.pod_path.specs.declared.limits.TheConstants.{PATH_BYTES_LIMIT, PATH_SEGMENTS_LIMIT};
+ghost use Rattle.pod_path.specs.declared.limits.TheConstants.{PATH_BYTES_LIMIT};
+ghost use Rattle.pod_path.specs.declared.limits.TheConstants.{PATH_SEGMENTS_LIMIT};
 
-/// The most bytes of a path that is read.
+/// The most bytes of a path that is parsed.
 pub const PATH_BYTES_LIMIT: usize = 1_024;
 
-/// The most segments of a path that is read. The empty text after a last slash is one.
+/// The most segments of a path that is parsed. The empty text after a last slash is one.
 pub const PATH_SEGMENTS_LIMIT: usize = 32;
 
 /// Whether so many bytes and segments are within the limits.

@@ -1,6 +1,7 @@
-//! Reading a path, up to its limits.
+//! The steps by which a target is parsed to its normal path.
 
-ghost use Rattle.std.specs.Prelude.{◌≡◌, true, false, IfSome, IfNone, IfOk, IfErr, Ok, Err, drop, string_bytes};
+ghost use Rattle.std.specs.Prelude.{◌≡◌, true, false, IfSome, IfNone, IfOk, IfErr, Ok, Err, drop};
+ghost use Rattle.std.specs.Prelude.{string_bytes};
 ghost use Rattle.pod_path.specs.Norm.{has_path_characters, path_text_of, depth, norm, FailsAs};
 
 use crate::escapes::{normalize_escapes, strip_query};
@@ -31,7 +32,7 @@ fn into_path_text(bytes: Vec<u8>) -> Option<String>
     Some(String::from_utf8(bytes).unwrap())
 }
 
-/// A text behind its first slash.
+/// A text after its first slash.
 pub(crate) fn strip_first_slash(text: &str) -> &str
     requires { has_path_characters text.now ≡ true }
     ensures { result.now ≡ drop 1 text.now }
@@ -39,7 +40,7 @@ pub(crate) fn strip_first_slash(text: &str) -> &str
     &text[1..]
 }
 
-/// A path of any length and depth, and its depth: steps 1 to 3.
+/// Steps 1 to 3: the path of a text, of any length, and how many segments it has.
 pub(crate) fn normalize_text(alloc: Global, text: &[u8]) -> Result<(String, usize), PathFault>
     ensures text { IfOk result (λ read. path_text_of text.now ≡ Ok (string_bytes read.0)) }
     ensures depth { IfOk result (λ read. read.1 ≡ depth (string_bytes read.0)) }
@@ -53,7 +54,7 @@ pub(crate) fn normalize_text(alloc: Global, text: &[u8]) -> Result<(String, usiz
     Ok((text, depth))
 }
 
-/// The normal path of a target, without its query: steps 1 to 5.
+/// Steps 1 to 5: the normal path of a target, without its query.
 pub(crate) fn normalize_target(alloc: Global, target: &[u8]) -> Result<String, PathFault>
     ensures path { IfOk result (λ path. norm target.now ≡ Ok (string_bytes path)) }
     ensures fault { IfErr result (λ fault. FailsAs fault (norm target.now)) }

@@ -1,12 +1,17 @@
 //! [`Path`]: the path of a resource, and the paths about it.
 
-ghost use Rattle.std.specs.Prelude.{◌≡◌, ◌↔◌, ◌++◌, ◌∷◌, ◌<◌, [], List, ℕ, Bool, true, false, IsTrue, IfOk, IfErr, IfSome, IfNone, Ok, Some, string_bytes, length, codes, nat_eq};
+ghost use Rattle.std.specs.Prelude.{◌≡◌, ◌↔◌, ◌++◌, ◌∷◌, ◌<◌, [], List, ℕ, Bool, true, false};
+ghost use Rattle.std.specs.Prelude.{IsTrue, IfOk, IfErr, IfSome, IfNone, Ok, Some, string_bytes};
+ghost use Rattle.std.specs.Prelude.{length, codes, nat_eq};
 ghost use Rattle.std.specs.Cmp.{partial_equiv_from_equiv};
 ghost use Rattle.std.specs.Cmp.Lexicographic.{slice_cmp};
 ghost use Rattle.std.specs.Ordering.{nat_cmp};
 ghost use Rattle.iri_ref.specs.Characters.{slash};
 ghost use Rattle.pod_path.specs.Norm.{IsPath, norm, FailsAs, IsLimitFault, is_within_limits, depth};
-ghost use Rattle.pod_path.specs.Hierarchy.{is_root, is_container, is_acl, is_meta, is_auxiliary, parent_of, twin_of, acl_of, meta_of, subject_of, IsUnder, IsInside, member_text, uri_of, IsUriOf, IsName, IsPlainName};
+ghost use Rattle.pod_path.specs.Hierarchy.{is_root, is_container, is_acl, is_meta, is_auxiliary};
+ghost use Rattle.pod_path.specs.Hierarchy.{parent_of, twin_of, acl_of, meta_of, subject_of};
+ghost use Rattle.pod_path.specs.Hierarchy.{IsUnder, IsInside, member_text, uri_of, IsUriOf, IsName};
+ghost use Rattle.pod_path.specs.Hierarchy.{IsPlainName};
 
 use crate::fault::PathFault;
 use crate::limits::is_within;
@@ -22,8 +27,8 @@ use std::alloc::Global;
 use std::cmp::Ordering;
 use std::marker::Model;
 
-/// The path of a resource, in its normal form. Contracts see its text, which the first three steps of reading leave
-/// as it is. A copy shares its memory.
+/// The path of a resource, in its normal form. Contracts see its text, which the first three steps
+/// of parsing leave as it is. A copy shares its memory.
 #[derive(Debug, Drop)]
 pub struct Path {
     text: Text,
@@ -98,13 +103,13 @@ impl Ord for Path {
 }
 
 impl Path {
-    /// The normal path of a target, without its query. The limits are [`PATH_BYTES_LIMIT`] and
-    /// [`PATH_SEGMENTS_LIMIT`].
+    /// Parses a target without its query to its normal path. The limits are
+    /// [`crate::PATH_BYTES_LIMIT`] and [`crate::PATH_SEGMENTS_LIMIT`].
     pub fn read(alloc: Global, target: &[u8]) -> Result<Path, PathFault>
         ensures path { IfOk result (λ path. norm target.now ≡ Ok path) }
         ensures fault { IfErr result (λ fault. FailsAs fault (norm target.now)) }
 
-        // A normal path reads as itself.
+        // A normal path parses to itself.
         ensures again { IfOk result (λ path. norm path ≡ Ok path) }
     {
         let text = normalize_target(alloc, target)?;
@@ -112,8 +117,8 @@ impl Path {
         Ok(Path { text })
     }
 
-    /// The path with this text: some exactly where steps 1 to 3 of reading leave the text as it is. It may pass the
-    /// limits.
+    /// The path with this text: `Some` exactly where steps 1 to 3 of parsing leave the text as it
+    /// is. It may pass the limits.
     pub fn of_text(alloc: Global, text: &str) -> Mem<Option<Path>>
         ensures some { IfOk result (λ found. IfSome found (λ path. path ≡ text.now)) }
         ensures path { IfOk result (λ found. IfSome found (λ _. IsPath text.now)) }
@@ -148,11 +153,12 @@ impl Path {
         Ok(Path { text })
     }
 
-    /// Whether the path has at most [`PATH_BYTES_LIMIT`] bytes and [`PATH_SEGMENTS_LIMIT`] segments.
+    /// Whether the path has at most [`crate::PATH_BYTES_LIMIT`] bytes and
+    /// [`crate::PATH_SEGMENTS_LIMIT`] segments.
     pub fn is_within_limits(&self) -> bool
         ensures limits { result ≡ is_within_limits self.now }
 
-        // These are the paths that read as themselves.
+        // These are the paths that parse to themselves.
         ensures normal { IsTrue result ↔ norm self.now ≡ Ok self.now }
     {
         let text = self.as_str();
@@ -218,9 +224,12 @@ impl Path {
     /// The container just above; none at the root alone.
     pub fn parent(&self, alloc: Global) -> Mem<Option<Path>>
         ensures parent { IfOk result (λ parent. parent ≡ parent_of self.now) }
-        ensures container { IfOk result (λ parent. IfSome parent (λ text. is_container text ≡ true)) }
-        ensures shorter { IfOk result (λ parent. IfSome parent (λ text. length text < length self.now)) }
-        ensures normal { norm self.now ≡ Ok self.now → IfOk result (λ parent. IfSome parent (λ text. norm text ≡ Ok text)) }
+        ensures container { IfOk result (λ parent. IfSome parent
+            (λ text. is_container text ≡ true)) }
+        ensures shorter { IfOk result (λ parent. IfSome parent
+            (λ text. length text < length self.now)) }
+        ensures normal { norm self.now ≡ Ok self.now
+            → IfOk result (λ parent. IfSome parent (λ text. norm text ≡ Ok text)) }
     {
         if self.is_root() {
             return Ok(None);
@@ -235,7 +244,8 @@ impl Path {
 
         // Its twin is the path.
         ensures back { IfOk result (λ twin. IfSome twin (λ text. twin_of text ≡ Some self.now)) }
-        ensures parent { IfOk result (λ twin. IfSome twin (λ text. parent_of text ≡ parent_of self.now)) }
+        ensures parent { IfOk result (λ twin. IfSome twin
+            (λ text. parent_of text ≡ parent_of self.now)) }
     {
         if self.is_root() || self.is_auxiliary() {
             return Ok(None);
@@ -285,13 +295,15 @@ impl Path {
         Ok(Some(meta))
     }
 
-    /// What an ACL or a description is of; none where the path is neither.
+    /// The subject of an ACL or a description; none where the path is neither.
     pub fn subject(&self, alloc: Global) -> Mem<Option<Path>>
         ensures subject { IfOk result (λ subject. subject ≡ subject_of self.now) }
 
         // Its ACL, or its description, is the path.
-        ensures acl_back { is_acl self.now ≡ true → IfOk result (λ subject. IfSome subject (λ text. acl_of text ≡ Some self.now)) }
-        ensures meta_back { is_meta self.now ≡ true → IfOk result (λ subject. IfSome subject (λ text. meta_of text ≡ Some self.now)) }
+        ensures acl_back { is_acl self.now ≡ true
+            → IfOk result (λ subject. IfSome subject (λ text. acl_of text ≡ Some self.now)) }
+        ensures meta_back { is_meta self.now ≡ true
+            → IfOk result (λ subject. IfSome subject (λ text. meta_of text ≡ Some self.now)) }
     {
         match subject_text(self.as_str()) {
             Some(text) => {
@@ -310,19 +322,22 @@ impl Path {
         is_inside(self.as_str(), other.as_str())
     }
 
-    /// The path of a member by its name. The path must be a container. The limits are those of `read`.
+    /// The path of a member of this container by its name. The limits are those of `read`.
     pub fn child(&self, alloc: Global, name: &str, container: bool) -> Result<Path, PathFault>
         requires { is_container self.now ≡ true }
-        ensures path { IfOk result (λ path. norm (member_text self.now name.now container) ≡ Ok path) }
-        ensures fault { IfErr result (λ fault. FailsAs fault (norm (member_text self.now name.now container))) }
+        ensures path { IfOk result (λ path. norm (member_text self.now name.now container)
+            ≡ Ok path) }
+        ensures fault { IfErr result (λ fault. FailsAs fault
+            (norm (member_text self.now name.now container))) }
         ensures normal { IfOk result (λ path. norm path ≡ Ok path) }
 
-        // Where the name is one segment, the path is the parent, and the member is a container as asked.
+        // Where the name is one segment, the path is the parent, and `container` decides the kind.
         ensures parent { IsName name.now → IfOk result (λ path. parent_of path ≡ Some self.now) }
         ensures container { IsName name.now → IfOk result (λ path. is_container path ≡ container) }
 
         // A name that needs no change is part of the member's path as it is, and only limits fault.
-        ensures plain { IsPlainName name.now container → IfOk result (λ path. path ≡ member_text self.now name.now container) }
+        ensures plain { IsPlainName name.now container
+            → IfOk result (λ path. path ≡ member_text self.now name.now container) }
         ensures limits { IsPlainName name.now container → IfErr result IsLimitFault }
     {
         let text = member_text(alloc, self.as_str(), name, container)?;
@@ -340,11 +355,13 @@ impl Path {
         }
     }
 
-    /// The normal path of a URI, without its fragment; none exactly where it is that of no normal path. The limits
-    /// are those of `read`. After the base it looks at no more than [`PATH_BYTES_LIMIT`] bytes of the URI.
+    /// The normal path of a URI without its fragment; none exactly where it is that of no normal
+    /// path. The limits are those of `read`. After the base it reads at most
+    /// [`crate::PATH_BYTES_LIMIT`] bytes.
     pub fn of_uri(alloc: Global, base: &Iri, uri: &str) -> Mem<Option<Path>>
         ensures some { IfOk result (λ found. IfSome found (λ path. IsUriOf base.now uri.now path)) }
-        ensures none { IfOk result (λ found. IfNone found ((path : List ℕ) → IsUriOf base.now uri.now path → ⊥)) }
+        ensures none { IfOk result (λ found. IfNone found ((path : List ℕ)
+            → IsUriOf base.now uri.now path → ⊥)) }
     {
         let Some(part) = uri_part(base.as_str(), uri) else {
             return Ok(None);
@@ -352,11 +369,13 @@ impl Path {
         Path::read_after_slash(alloc, part)
     }
 
-    /// The path of a slash and these bytes, where it reads as itself.
+    /// The path of a slash and these bytes, where it parses to itself.
     fn read_after_slash(alloc: Global, part: &[u8]) -> Mem<Option<Path>>
         ensures some { IfOk result (λ found. IfSome found (λ path. path ≡ slash ∷ part.now)) }
-        ensures normal { IfOk result (λ found. IfSome found (λ path. norm (slash ∷ part.now) ≡ Ok path)) }
-        ensures none { IfOk result (λ found. IfNone found (norm (slash ∷ part.now) ≡ Ok (slash ∷ part.now) → ⊥)) }
+        ensures normal { IfOk result (λ found. IfSome found
+            (λ path. norm (slash ∷ part.now) ≡ Ok path)) }
+        ensures none { IfOk result (λ found. IfNone found
+            (norm (slash ∷ part.now) ≡ Ok (slash ∷ part.now) → ⊥)) }
     {
         let mut text = Vec::with_capacity(alloc, part.len().saturating_add(1))?;
         text.push(b'/')?;
@@ -364,7 +383,7 @@ impl Path {
         Path::read_normal(alloc, &text)
     }
 
-    /// A text as a path, where it reads as itself.
+    /// A text as a path, where it parses to itself.
     fn read_normal(alloc: Global, text: &[u8]) -> Mem<Option<Path>>
         ensures some { IfOk result (λ found. IfSome found (λ path. path ≡ text.now)) }
         ensures normal { IfOk result (λ found. IfSome found (λ path. norm text.now ≡ Ok path)) }

@@ -1,25 +1,30 @@
 //! The texts of the paths about a path: its parent, its subject, its members.
 
-ghost use Rattle.std.specs.Prelude.{◌≡◌, ◌↔◌, ◌++◌, List, ℕ, ◌∷◌, [], IsTrue, if◌then◌else◌, IfSome, IfNone, IfOk, nat_eq, option_copied, string_bytes, bytes_eq, codes, count_by};
+ghost use Rattle.std.specs.Prelude.{◌≡◌, ◌↔◌, ◌++◌, List, ℕ, ◌∷◌, [], IsTrue, if◌then◌else◌};
+ghost use Rattle.std.specs.Prelude.{IfSome, IfNone, IfOk, nat_eq, option_copied, string_bytes};
+ghost use Rattle.std.specs.Prelude.{bytes_eq, codes, count_by};
 ghost use Rattle.iri_ref.specs.Characters.{slash, is_slash};
 ghost use Rattle.iri_ref.specs.Resolution.{up_to_last_slash};
-ghost use Rattle.pod_path.specs.Hierarchy.{trimmed, is_root, is_container, is_acl, is_meta, is_auxiliary, subject_of, member_text, IsInside};
+ghost use Rattle.pod_path.specs.Hierarchy.{trimmed, is_root, is_container, is_acl, is_meta};
+ghost use Rattle.pod_path.specs.Hierarchy.{is_auxiliary, subject_of, member_text, IsInside};
 
 use crate::segments::ends_with;
 use std::alloc::{AllocError, Global};
 
-/// What stands before the end of a text, where it ends so.
+/// The text before `end`, where the text ends in it.
 pub(crate) fn strip_end<'a>(text: &'a str, end: &str) -> Option<&'a str>
     ensures some { IfSome (option_copied result) (λ prefix. text.entry.now ≡ prefix ++ end.now) }
-    ensures none { IfNone (option_copied result) ((prefix : List ℕ) → text.entry.now ≡ prefix ++ end.now → ⊥) }
+    ensures none { IfNone (option_copied result) ((prefix : List ℕ)
+        → text.entry.now ≡ prefix ++ end.now → ⊥) }
 {
     text.strip_suffix(end)
 }
 
-/// What stands behind the prefix of a text, where it begins so.
+/// The text after `prefix`, where the text begins with it.
 pub(crate) fn strip_start<'a>(text: &'a str, prefix: &str) -> Option<&'a str>
     ensures some { IfSome (option_copied result) (λ rest. text.entry.now ≡ prefix.now ++ rest) }
-    ensures none { IfNone (option_copied result) ((rest : List ℕ) → text.entry.now ≡ prefix.now ++ rest → ⊥) }
+    ensures none { IfNone (option_copied result) ((rest : List ℕ)
+        → text.entry.now ≡ prefix.now ++ rest → ⊥) }
 {
     text.strip_prefix(prefix)
 }

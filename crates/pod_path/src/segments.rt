@@ -1,10 +1,12 @@
-//! What the segments of a path are worth.
+//! The segments of a path: which are normal, reserved or an auxiliary's.
 
 ghost use Rattle.std.specs.Prelude.{◌≡◌, ◌||◌, nat_eq, IfOk, IfErr, Ok, Err, length};
 ghost use Rattle.std.specs.List.{ends_with, list_all};
 ghost use Rattle.iri_ref.specs.Segments.{segments, is_dot_segment};
 ghost use Rattle.pod_path.specs.Characters.{is_unreserved, is_path_character};
-ghost use Rattle.pod_path.specs.Norm.{is_empty, is_auxiliary_name, has_reserved_end, is_dot_auxiliary, is_reserved_name, are_normal, are_reserved, segment_count};
+ghost use Rattle.pod_path.specs.Norm.{is_empty, is_auxiliary_name, has_reserved_end};
+ghost use Rattle.pod_path.specs.Norm.{is_dot_auxiliary, is_reserved_name, are_normal, are_reserved};
+ghost use Rattle.pod_path.specs.Norm.{segment_count};
 
 use crate::fault::PathFault;
 use iri_ref::is_dot_segment;
@@ -81,7 +83,7 @@ fn is_either(a: bool, b: bool) -> bool
     a || b
 }
 
-/// How many segments stand in a text behind a path's first slash, or why they stand in no path.
+/// How many segments a text after a path's first slash has, or why it is part of no path.
 pub(crate) fn count_segments(path: &str) -> Result<usize, PathFault>
     ensures { result ≡ segment_count (segments path.now) }
 {
@@ -105,7 +107,7 @@ pub(crate) fn count_segments(path: &str) -> Result<usize, PathFault>
     Ok(count)
 }
 
-/// Whether each byte may stand in a path.
+/// Whether each byte is a character of paths.
 pub(crate) fn are_path_characters(bytes: &[u8]) -> bool
     ensures { result ≡ list_all is_path_character bytes.now }
 {

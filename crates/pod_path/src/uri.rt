@@ -1,6 +1,7 @@
 //! The path part of a URI under a base.
 
-ghost use Rattle.std.specs.Prelude.{◌≡◌, ◌↔◌, ◌++◌, ◌≤◌, ◌<◌, ◌==◌, List, ℕ, not, IfSome, IfNone, option_copied, length, take};
+ghost use Rattle.std.specs.Prelude.{◌≡◌, ◌↔◌, ◌++◌, ◌≤◌, ◌<◌, ◌==◌, List, ℕ, not, IfSome, IfNone};
+ghost use Rattle.std.specs.Prelude.{option_copied, length, take};
 ghost use Rattle.std.specs.List.{before_first, list_all, position};
 ghost use Rattle.iri_ref.specs.Characters.{is_hash};
 ghost use Rattle.pod_path.specs.Hierarchy.{IsUriOf};
@@ -46,18 +47,22 @@ fn first_bytes(bytes: &[u8], most: usize) -> &[u8]
 
 /// The bytes before the fragment, where they are fewer than `most`. It looks at no more than these.
 fn strip_near_fragment(bytes: &[u8], most: usize) -> Option<&[u8]>
-    ensures some { IfSome (option_copied result) (λ part. before_first is_hash bytes.entry.now ≡ part) }
-    ensures none { IfNone (option_copied result) (most ≤ length (before_first is_hash bytes.entry.now)) }
+    ensures some { IfSome (option_copied result)
+        (λ part. before_first is_hash bytes.entry.now ≡ part) }
+    ensures none { IfNone (option_copied result)
+        (most ≤ length (before_first is_hash bytes.entry.now)) }
 {
     let part = strip_fragment(first_bytes(bytes, most));
     if part.len() < most { Some(part) } else { None }
 }
 
-/// What follows the base in a URI, up to its fragment; none where that is too long for a path. After the base it
-/// looks at no more than [`PATH_BYTES_LIMIT`] bytes.
+/// The part of a URI between its base and its fragment; none where it is too long for a path. After
+/// the base it reads at most [`PATH_BYTES_LIMIT`] bytes.
 pub(crate) fn uri_part<'a>(base: &str, uri: &'a str) -> Option<&'a [u8]>
-    ensures some { IfSome (option_copied result) (λ part. before_first is_hash uri.entry.now ≡ base.now ++ part) }
-    ensures none { IfNone (option_copied result) ((path : List ℕ) → IsUriOf base.now uri.entry.now path → ⊥) }
+    ensures some { IfSome (option_copied result)
+        (λ part. before_first is_hash uri.entry.now ≡ base.now ++ part) }
+    ensures none { IfNone (option_copied result) ((path : List ℕ)
+        → IsUriOf base.now uri.entry.now path → ⊥) }
 {
     if !lacks_hash(base.as_bytes()) {
         return None;

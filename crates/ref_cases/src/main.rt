@@ -1,5 +1,5 @@
-//! Runs cases of the reference libraries: reads one from each line of standard input, and prints it with what the
-//! library returns as one more field. The first field of a case names its topic, the second the call.
+//! Runs cases of the reference libraries: reads one from each line of standard input, and prints it
+//! with the result as one more field. The first field of a case is its topic, the second the call.
 #![tactic(auto)]
 
 mod paths;
