@@ -7,7 +7,7 @@ use pod_path::{Path, PathFault};
 use std::alloc::{AllocError, Global};
 
 /// The result of a call that reads a path.
-fn found(alloc: Global, found: Result<Path, PathFault>) -> Result<String, AllocError> {
+fn show(alloc: Global, found: Result<Path, PathFault>) -> Result<String, AllocError> {
     match found {
         Ok(path) => shown(alloc, path.as_str().as_bytes()),
         Err(PathFault::NoMemory) => Err(AllocError),
@@ -16,7 +16,7 @@ fn found(alloc: Global, found: Result<Path, PathFault>) -> Result<String, AllocE
 }
 
 /// The result of a call that may find no path.
-fn perhaps(alloc: Global, path: Mem<Option<Path>>) -> Result<String, AllocError> {
+fn show_option(alloc: Global, path: Mem<Option<Path>>) -> Result<String, AllocError> {
     match path {
         Ok(Some(path)) => shown(alloc, path.as_str().as_bytes()),
         Ok(None) => String::from_str(alloc, "none"),
@@ -30,22 +30,22 @@ fn path(alloc: Global, field: &str) -> Result<Result<Path, PathFault>, AllocErro
 }
 
 fn read(alloc: Global, field: &str) -> Result<String, AllocError> {
-    found(alloc, path(alloc, field)?)
+    show(alloc, path(alloc, field)?)
 }
 
-fn copied(alloc: Global, path: &Path) -> Mem<Option<Path>> {
+fn copy(alloc: Global, path: &Path) -> Mem<Option<Path>> {
     let copy = path.copy(alloc)?;
     Ok(Some(copy))
 }
 
 fn call_on(alloc: Global, name: &str, path: &Path) -> Result<String, AllocError> {
     match name {
-        "parent" => perhaps(alloc, path.parent(alloc)),
-        "twin" => perhaps(alloc, path.twin(alloc)),
-        "acl" => perhaps(alloc, path.acl(alloc)),
-        "meta" => perhaps(alloc, path.meta(alloc)),
-        "subject" => perhaps(alloc, path.subject(alloc)),
-        "copy" => perhaps(alloc, copied(alloc, path)),
+        "parent" => show_option(alloc, path.parent(alloc)),
+        "twin" => show_option(alloc, path.twin(alloc)),
+        "acl" => show_option(alloc, path.acl(alloc)),
+        "meta" => show_option(alloc, path.meta(alloc)),
+        "subject" => show_option(alloc, path.subject(alloc)),
+        "copy" => show_option(alloc, copy(alloc, path)),
         "is_container" => format!(in alloc; "{}", path.is_container()),
         "is_acl" => format!(in alloc; "{}", path.is_acl()),
         "is_meta" => format!(in alloc; "{}", path.is_meta()),
@@ -59,6 +59,31 @@ fn call(alloc: Global, name: &str, field: &str) -> Result<String, AllocError> {
     match path(alloc, field)? {
         Ok(path) => call_on(alloc, name, &path),
         Err(_) => String::from_str(alloc, "no path"),
+    }
+}
+
+/// The path with the text of a field, of any length.
+fn stored(alloc: Global, field: &str) -> Result<Mem<Option<Path>>, AllocError> {
+    let text = text(alloc, field)?;
+    Ok(Path::of_text(alloc, text.as_str()))
+}
+
+fn of_text(alloc: Global, field: &str) -> Result<String, AllocError> {
+    show_option(alloc, stored(alloc, field)?)
+}
+
+fn is_within_limits(alloc: Global, field: &str) -> Result<String, AllocError> {
+    match stored(alloc, field)? {
+        Ok(Some(path)) => format!(in alloc; "{}", path.is_within_limits()),
+        Ok(None) => String::from_str(alloc, "no path"),
+        Err(NoMemory) => Err(AllocError),
+    }
+}
+
+fn compare(alloc: Global, field: &str, other: &str) -> Result<String, AllocError> {
+    match (path(alloc, field)?, path(alloc, other)?) {
+        (Ok(path), Ok(other)) => format!(in alloc; "{:?}", path.cmp(&other)),
+        _ => String::from_str(alloc, "no path"),
     }
 }
 
@@ -76,7 +101,7 @@ fn child(alloc: Global, field: &str, name: &str, container: bool) -> Result<Stri
     let name = text(alloc, name)?;
     match path(alloc, field)? {
         Ok(path) if path.is_container() => {
-            found(alloc, path.child(alloc, name.as_str(), container))
+            show(alloc, path.child(alloc, name.as_str(), container))
         }
         _ => String::from_str(alloc, "no container"),
     }
@@ -95,7 +120,7 @@ fn uri(alloc: Global, base: &str, field: &str) -> Result<String, AllocError> {
 fn of_uri(alloc: Global, base: &str, uri: &str) -> Result<String, AllocError> {
     let uri = text(alloc, uri)?;
     match iri(alloc, base)? {
-        Some(base) => perhaps(alloc, Path::of_uri(alloc, &base, uri.as_str())),
+        Some(base) => show_option(alloc, Path::of_uri(alloc, &base, uri.as_str())),
         None => String::from_str(alloc, "no base"),
     }
 }
@@ -104,6 +129,9 @@ fn of_uri(alloc: Global, base: &str, uri: &str) -> Result<String, AllocError> {
 pub(crate) fn answer(alloc: Global, case: &[&str]) -> Result<String, AllocError> {
     match case {
         ["read", only] => read(alloc, only),
+        ["of_text", only] => of_text(alloc, only),
+        ["is_within_limits", only] => is_within_limits(alloc, only),
+        ["cmp", field, other] => compare(alloc, field, other),
         ["uri", base, field] => uri(alloc, base, field),
         ["of_uri", base, field] => of_uri(alloc, base, field),
         ["under", field, other] => under(alloc, field, other),
