@@ -3,7 +3,6 @@ pub mod Texts
 pub mod Schemes
 pub mod Paths
 pub mod PathWriting
-
 pub mod UniqueSplits
 pub mod Splits
 pub mod Dots

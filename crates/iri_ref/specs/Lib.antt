@@ -2,7 +2,6 @@ pub mod Characters
 pub mod Components
 pub mod Segments
 pub mod Resolution
-
 -- internal: cited by private clauses alone
 pub mod Reference
 pub mod PathWriter

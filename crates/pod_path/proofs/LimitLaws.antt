@@ -12,7 +12,7 @@ use Rattle.pod_path.specs.declared.limits.TheConstants.{PATH_BYTES_LIMIT, PATH_S
 use Rattle.pod_path.specs.declared.fault.PathFault.{PathFault}
 use Rattle.pod_path.specs.declared.fault.PathFault.TheVariants.{BadEscape, NotNormal, Reserved, TooLong, TooDeep, NoMemory}
 use Rattle.pod_path.specs.Characters.{is_path_character}
-use Rattle.pod_path.specs.Norm.{IsPath, depth, is_within_limits, within_limits, norm, has_path_characters, path_text_of, IsLimitFault, FailsAs}
+use Rattle.pod_path.specs.Norm.{IsPath, depth, is_within_limits, norm, has_path_characters, path_text_of, IsLimitFault, FailsAs}
 use Rattle.pod_path.proofs.SegmentLists.{some_segments}
 use Rattle.pod_path.proofs.NormalPaths.{limited, norm_limits}
 

@@ -1,12 +1,10 @@
 -- Subjects of auxiliaries.
-use Rattle.std.proofs.Common.{◌≡◌, ℕ, Bool, true, false, cond, List, [], ◌∷◌, ◌++◌, drop, reverse, Option, Some, None, refl, sym, ap, subst, ◌∙◌}
-use Rattle.std.specs.Prelude.{IsTrue, IfSome, IfNone, nat_eq, codes}
-use Rattle.std.specs.List.{ends_with}
-use Rattle.std.proofs.lemmas.List.{reverse-append}
+use Rattle.std.proofs.Common.{◌≡◌, ℕ, Bool, true, false, cond, List, ◌++◌, drop, Option, Some, None, refl, sym, ap, subst, ◌∙◌}
+use Rattle.std.specs.Prelude.{IsTrue, IfSome, IfNone, codes}
 use Rattle.iri_ref.specs.Segments.{segments, is_dot_segment}
 use Rattle.pod_path.specs.Norm.{is_auxiliary_name, IsPath}
 use Rattle.pod_path.specs.Hierarchy.{is_acl, is_meta, is_auxiliary, without_end, subject_of, acl_of, meta_of}
-use Rattle.pod_path.proofs.Names.{IsSuffix, acl, meta, suffixed, ends_is, ends_append, ends_starts, starts, without_append}
+use Rattle.pod_path.proofs.Names.{IsSuffix, acl, meta, suffixed, ends_is, ends_append, without_append}
 use Rattle.pod_path.proofs.Ends.{not_ending}
 use Rattle.pod_path.proofs.NormalPaths.{Parts, parts_of, is_path}
 use Rattle.pod_path.proofs.Suffixes.{meta_is_no_acl, without_suffix, last_of, good_of, spelled_front, front_some, suffix_alone, suffix_lacks, neither}

@@ -1,16 +1,16 @@
 -- What follows a base in a URI.
 use Rattle.std.proofs.Common.{◌≡◌, ℕ, ◌+◌, ◌<◌, ◌≤◌, Bool, true, false, not, cond, eqb, List, [], ◌∷◌, ◌++◌, length, take, drop, Option, Some, None, refl, sym, ap, subst, ◌∙◌, arith, append_assoc, inl, inr}
-use Rattle.std.specs.Prelude.{IsTrue, IfSome, IfNone, nat_le}
+use Rattle.std.specs.Prelude.{IfSome, IfNone, nat_le}
 use Rattle.std.specs.List.{list_all, before_first, prefix_len}
 use Rattle.std.proofs.lemmas.Bool.{leb-true}
 use Rattle.std.proofs.lemmas.Bool.Decides.{eqb_tells}
 use Rattle.std.proofs.lemmas.List.{take-append-drop, take-take, take_all, length-take, append_cancel_left}
 use Rattle.std.proofs.lemmas.List.Folds.{prefix_len-append, length-prefix_len}
-use Rattle.std.proofs.lemmas.List.Sums.{take_while-cons, prefix_len-le-length}
+use Rattle.std.proofs.lemmas.List.Sums.{take_while-cons}
 use Rattle.iri_ref.specs.Characters.{slash, is_hash, Lacks}
 use Rattle.iri_ref.proofs.Texts.{and_left, and_right, and_both, all_left}
 use Rattle.pod_path.specs.declared.limits.TheConstants.{PATH_BYTES_LIMIT, PATH_SEGMENTS_LIMIT}
-use Rattle.pod_path.specs.Norm.{depth, norm}
+use Rattle.pod_path.specs.Norm.{depth}
 use Rattle.pod_path.specs.Hierarchy.{IsUriOf}
 use Rattle.pod_path.proofs.NormalPaths.{norm_parts}
 use Rattle.pod_path.proofs.LimitLaws.{normal_within}

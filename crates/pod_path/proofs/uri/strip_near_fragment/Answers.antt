@@ -1,4 +1,4 @@
-use Rattle.std.proofs.Common.{◌≡◌, take, length, ap, ◌∙◌, arith, rules}
+use Rattle.std.proofs.Common.{◌≡◌, take, length, rules}
 use Rattle.std.specs.Prelude.{◌<◌, ◌≤◌}
 use Rattle.std.specs.List.{before_first}
 use Rattle.iri_ref.specs.Characters.{is_hash}

@@ -1,9 +1,9 @@
-use Rattle.std.proofs.Common.{◌≡◌, ◌++◌, List, ℕ, false, true, not, length, sym, ap, ◌∙◌, rules}
+use Rattle.std.proofs.Common.{◌≡◌, ◌++◌, false, not, length, rules}
 use Rattle.std.specs.Prelude.{IfSome, IfNone, ◌≤◌, option_copied}
 use Rattle.std.specs.List.{list_all, before_first}
 use Rattle.iri_ref.specs.Characters.{is_hash, Lacks}
 use Rattle.pod_path.specs.declared.limits.TheConstants.{PATH_BYTES_LIMIT}
-use Rattle.pod_path.proofs.UriParts.{base_none, hash_none, long_none, part_after, none_after, some_after}
+use Rattle.pod_path.proofs.UriParts.{base_none, hash_none, none_after, some_after}
 use Rattle.pod_path.proofs.uri.uri_part.Goals as goal
 
 pub returns-then-not-lacks_hash-clause-none : goal.returns-then-not-lacks_hash-clause-none

@@ -1,5 +1,5 @@
-use Rattle.std.proofs.Common.{◌≡◌, ◌&&◌, ℕ, length, sym, ap, ◌∙◌, rules}
-use Rattle.std.specs.Prelude.{IsTrue, nat_le, count_by}
+use Rattle.std.proofs.Common.{◌≡◌, ◌&&◌, ℕ, length, sym, ap, ◌∙◌}
+use Rattle.std.specs.Prelude.{nat_le, count_by}
 use Rattle.iri_ref.specs.Characters.{is_slash}
 use Rattle.pod_path.specs.declared.limits.TheConstants.{PATH_BYTES_LIMIT, PATH_SEGMENTS_LIMIT}
 use Rattle.pod_path.specs.Norm.{depth, is_within_limits}

@@ -1,4 +1,4 @@
-use Rattle.std.proofs.Common.{◌≡◌, List, ℕ, sym, subst, rules}
+use Rattle.std.proofs.Common.{sym, subst}
 use Rattle.std.specs.Prelude.{string_bytes}
 use Rattle.pod_path.specs.Norm.{IsPath}
 use Rattle.pod_path.proofs.NormalPaths.{path_again}

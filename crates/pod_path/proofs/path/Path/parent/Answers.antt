@@ -1,10 +1,10 @@
-use Rattle.std.proofs.Common.{◌≡◌, ◌++◌, List, ℕ, Some, false, length, ap, sym, subst, ◌∙◌, arith, length-append}
+use Rattle.std.proofs.Common.{◌≡◌, List, ℕ, Some, false, length, ap, sym, subst, ◌∙◌, arith, length-append}
 use Rattle.iri_ref.specs.Resolution.{up_to_last_slash}
 use Rattle.pod_path.specs.Norm.{IsPath}
 use Rattle.pod_path.specs.Hierarchy.{is_root, trimmed, parent_of}
 use Rattle.pod_path.proofs.NormalPaths.{parts_of}
 use Rattle.pod_path.proofs.Twins.{parent_path}
-use Rattle.pod_path.proofs.Ancestors.{IsFront, parent_some, parent_front, parent_normal}
+use Rattle.pod_path.proofs.Ancestors.{parent_some, parent_front, parent_normal}
 use Rattle.pod_path.proofs.path.Path.parent.Goals as goal
 
 pub from_text-requires : goal.from_text-requires

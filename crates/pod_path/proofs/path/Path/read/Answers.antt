@@ -1,5 +1,4 @@
 use Rattle.std.proofs.Common.{◌≡◌, List, ℕ, Ok, ap, sym, ◌∙◌}
-use Rattle.std.specs.Prelude.{string_bytes}
 use Rattle.pod_path.specs.Norm.{norm}
 use Rattle.pod_path.proofs.NormalPaths.{is_path, norm_parts, norm_again}
 use Rattle.pod_path.proofs.path.Path.read.Goals as goal

@@ -1,4 +1,4 @@
-use Rattle.std.proofs.Common.{◌≡◌, List, ℕ, drop, Err, ap, sym, subst, ◌∙◌}
+use Rattle.std.proofs.Common.{◌≡◌, drop, Err, ap, sym, subst, ◌∙◌}
 use Rattle.iri_ref.specs.Characters.{AllAllowed}
 use Rattle.pod_path.specs.Norm.{has_path_characters}
 use Rattle.pod_path.proofs.NormalPaths.{parts_of}
