@@ -3,6 +3,7 @@ pub mod Texts
 pub mod Schemes
 pub mod Paths
 pub mod PathWriting
+-- of this crate alone
 pub mod UniqueSplits
 pub mod Splits
 pub mod Dots
