@@ -1,9 +1,6 @@
 -- Escapes of a path: % and two hexadecimal digits.
-use Rattle.std.specs.Prelude.{◌≡◌, ℕ, ◌+◌, ◌-◌, ◌*◌, Bool, ◌&&◌, ◌||◌, ◌==◌, nat_le, if◌then◌else◌}
+use Rattle.std.specs.Prelude.{ℕ, ◌+◌, ◌-◌, ◌*◌, Bool, ◌&&◌, ◌||◌, ◌==◌, nat_le, if◌then◌else◌}
 use Rattle.std.specs.Prelude.{List, [], ◌∷◌, ◌++◌, Option, Some, None}
-use Rattle.pod_path.specs.declared.fault.PathFault.{PathFault}
-use Rattle.pod_path.specs.declared.fault.PathFault.TheVariants.{BadEscape, NotNormal, Reserved}
-use Rattle.pod_path.specs.declared.fault.PathFault.TheVariants.{TooLong, TooDeep, NoMemory}
 use Rattle.pod_path.specs.Characters.{percent, is_unreserved}
 use Rattle.iri_ref.specs.Characters.{is_between}
 
@@ -39,12 +36,3 @@ normalize_escapes (c ∷ high ∷ low ∷ rest) =
     then (if is_hex high && is_hex low then prepend (normal_escape high low)
     (normalize_escapes rest) else None)
     else prepend (c ∷ []) (normalize_escapes (high ∷ low ∷ rest))
-
--- An escape is malformed, or memory ran out.
-abbrev pub FailsEscape : PathFault → Option (List ℕ) → Type 0
-FailsEscape BadEscape read = read ≡ None
-FailsEscape NoMemory read = Unit {0}
-FailsEscape NotNormal read = ⊥
-FailsEscape Reserved read = ⊥
-FailsEscape TooLong read = ⊥
-FailsEscape TooDeep read = ⊥

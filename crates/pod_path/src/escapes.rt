@@ -6,7 +6,8 @@ ghost use Rattle.std.specs.List.{before_first, position};
 ghost use Rattle.pod_path.specs.Characters.{percent, is_unreserved};
 ghost use Rattle.iri_ref.specs.Characters.{is_question_mark};
 ghost use Rattle.pod_path.specs.Escapes.{is_hex, hex_value, upper, normal_escape, prepend};
-ghost use Rattle.pod_path.specs.Escapes.{normalize_escapes, FailsEscape};
+ghost use Rattle.pod_path.specs.Escapes.{normalize_escapes};
+ghost use Rattle.pod_path.specs.EscapeFaults.{FailsEscape};
 
 use crate::fault::PathFault;
 use std::alloc::{AllocError, Global};
