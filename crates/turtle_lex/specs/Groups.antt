@@ -7,7 +7,7 @@ use Rattle.turtle_lex.specs.declared.token.TokenKind.TheVariants.{IriRef, PnameN
 use Rattle.turtle_lex.specs.declared.groups.Group.{Group}
 use Rattle.turtle_lex.specs.declared.groups.Group.TheVariants.{Iris, Strings, Tags, Labels, Variables, Numbers, Dots, Squares, Names, Marks, Nothing}
 use Rattle.turtle_lex.specs.declared.groups.Mark.{Mark}
-use Rattle.turtle_lex.specs.Tokens.{Stands}
+use Rattle.turtle_lex.specs.Tokens.{MatchesKind}
 
 abbrev pub in_group : Group → TokenKind → Bool
 in_group Iris IriRef = true
@@ -79,13 +79,13 @@ abbrev pub group_of : ℕ → Group
 group_of b = cond (nat_lt b 128) (ascii_group b) Names
 
 -- the token at the front, as far as the kinds of a group go
-pub record IsTokenOf (group : TokenKind → Bool) (kind : TokenKind) (s r : List ℕ) : Type 0 where
-  pub stands : Stands kind s r
-  pub longest : (other : TokenKind) (q : List ℕ) → group other ≡ true → Stands other s q → length r ≤ length q
-  pub fixed : (other : TokenKind) → group other ≡ true → Stands other s r → (other ≡ kind) ⊎ (other ≡ LangTag)
+pub record IsTokenOfGroup (group : TokenKind → Bool) (kind : TokenKind) (s r : List ℕ) : Type 0 where
+  pub matches : MatchesKind kind s r
+  pub longest : (other : TokenKind) (q : List ℕ) → group other ≡ true → MatchesKind other s q → length r ≤ length q
+  pub fixed : (other : TokenKind) → group other ≡ true → MatchesKind other s r → (other ≡ kind) ⊎ (other ≡ LangTag)
 
-abbrev pub HasNoneOf : (TokenKind → Bool) → List ℕ → Type 0
-HasNoneOf group s = (kind : TokenKind) (r : List ℕ) → group kind ≡ true → Stands kind s r → ⊥
+abbrev pub HasNoTokenOf : (TokenKind → Bool) → List ℕ → Type 0
+HasNoTokenOf group s = (kind : TokenKind) (r : List ℕ) → group kind ≡ true → MatchesKind kind s r → ⊥
 
 -- the kind of a number's token
 abbrev pub kind_of : Number → TokenKind

@@ -36,7 +36,7 @@ long_string quote = quotes quote 3
 unfoldable pub dotted : Pattern → Pattern → Pattern
 dotted first part = first ∘ maybe (many (part ∣ word (codes ".")) ∘ part)
 
--- what stands behind `_:` in a BLANK_NODE_LABEL
+-- what matches after `_:` in a BLANK_NODE_LABEL
 unfoldable pub label : Pattern
 label = dotted (one is_pn_chars_u ∣ one is_ascii_digit) (one is_pn_chars)
 
@@ -109,6 +109,6 @@ comment = word (codes "#") ∘ many (one is_in_line)
 unfoldable pub gap : Pattern
 gap = many (one is_blank ∣ comment ∘ one is_line_end)
 
--- what may stand behind the last token: a comment there needs no end of its line
+-- what may stand after the last token: a comment there needs no end of its line
 unfoldable pub last_gap : Pattern
 last_gap = gap ∘ maybe comment

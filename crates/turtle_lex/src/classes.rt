@@ -2,8 +2,9 @@
 
 ghost use Rattle.std.specs.Prelude.{◌≡◌, ◌<◌, length, IfSome};
 ghost use Rattle.std.specs.Option.{option_copied};
-ghost use Rattle.turtle_lex.specs.Classes.{is_blank, is_line_end, is_in_line, is_iri_char, quote_char, is_line_char, is_long_char, is_escaped, is_local_escaped, is_sign, is_exponent_mark, is_pn_chars_base, is_pn_chars_u, is_pn_chars, in_class};
-ghost use Rattle.turtle_lex.specs.Pattern.{one, ReadsOnly};
+ghost use Rattle.turtle_lex.specs.Classes.{is_blank, is_line_end, is_in_line, is_iri_char, quote_char, is_line_char, is_long_char, is_escaped, is_local_escaped, is_sign, is_exponent_mark, is_pn_chars_base, is_pn_chars_u, is_pn_chars};
+ghost use Rattle.turtle_lex.specs.ClassOf.{in_class};
+ghost use Rattle.turtle_lex.specs.Pattern.{one, MatchesOnly};
 
 use crate::chars::first_char;
 
@@ -40,9 +41,9 @@ pub(crate) enum Class {
     InLineString(Quote),
     /// What a String between three quotes may hold, beside quotes and escapes.
     InLongString(Quote),
-    /// What may stand behind the backslash of an ECHAR.
+    /// What may stand after the backslash of an ECHAR.
     Escaped,
-    /// What may stand behind the backslash of a PN_LOCAL_ESC.
+    /// What may stand after the backslash of a PN_LOCAL_ESC.
     LocalEscaped,
     Digit,
     HexDigit,
@@ -86,8 +87,8 @@ impl Class {
 }
 
 /// What follows a character of the class.
-pub(crate) fn after_one(text: &[u8], class: Class) -> Option<&[u8]>
-    ensures reads { ReadsOnly (one (in_class class)) text.now (option_copied result) }
+pub(crate) fn strip_one(text: &[u8], class: Class) -> Option<&[u8]>
+    ensures matches { MatchesOnly (one (in_class class)) text.now (option_copied result) }
     ensures shorter { IfSome result (λ rest. length rest.now < length text.now) }
 {
     match first_char(text) {

@@ -4,14 +4,14 @@ ghost use Rattle.std.specs.Prelude.{◌≡◌, ◌<◌, ◌≤◌, ◌+◌, ◌*
 ghost use Rattle.std.specs.Option.{option_copied};
 ghost use Rattle.std.specs.List.{list_all};
 ghost use Rattle.std.specs.Char.{is_ascii_hexdigit, digit_value};
-ghost use Rattle.turtle_lex.specs.Pattern.{◌∣◌, word, number, ReadsOnly, hex_value};
+ghost use Rattle.turtle_lex.specs.Pattern.{◌∣◌, word, number, MatchesOnly, hex_value};
 ghost use Rattle.turtle_lex.specs.Terminals.{uchar, echar};
 
-use crate::classes::{Class, after_one};
+use crate::classes::{Class, strip_one};
 
 /// What follows a word at the front.
-pub(crate) fn after<'a>(text: &'a [u8], front: &[u8]) -> Option<&'a [u8]>
-    ensures reads { ReadsOnly (word front.now) text.now (option_copied result) }
+pub(crate) fn strip_word<'a>(text: &'a [u8], front: &[u8]) -> Option<&'a [u8]>
+    ensures matches { MatchesOnly (word front.now) text.now (option_copied result) }
     ensures shorter { IfSome result (λ rest. length rest.now + length front.now ≡ length text.now) }
 {
     text.strip_prefix(front)
@@ -45,9 +45,9 @@ fn hex_number(digits: &[u8]) -> Option<u32>
 }
 
 /// What follows so many hexadecimal digits, which stand for a character.
-fn after_number(text: &[u8], count: usize) -> Option<&[u8]>
+fn strip_number(text: &[u8], count: usize) -> Option<&[u8]>
     requires { count ≤ 8 }
-    ensures reads { ReadsOnly (number count) text.now (option_copied result) }
+    ensures matches { MatchesOnly (number count) text.now (option_copied result) }
     ensures shorter { IfSome result (λ rest. length rest.now + count ≡ length text.now) }
 {
     if text.len() < count {
@@ -62,37 +62,37 @@ fn after_number(text: &[u8], count: usize) -> Option<&[u8]>
 }
 
 /// What follows a UCHAR.
-pub(crate) fn after_uchar(text: &[u8]) -> Option<&[u8]>
-    ensures reads { ReadsOnly uchar text.now (option_copied result) }
+pub(crate) fn strip_uchar(text: &[u8]) -> Option<&[u8]>
+    ensures matches { MatchesOnly uchar text.now (option_copied result) }
     ensures shorter { IfSome result (λ rest. length rest.now < length text.now) }
 {
-    match after(text, b"\\u") {
-        Some(digits) => after_number(digits, 4),
-        None => match after(text, b"\\U") {
-            Some(digits) => after_number(digits, 8),
+    match strip_word(text, b"\\u") {
+        Some(digits) => strip_number(digits, 4),
+        None => match strip_word(text, b"\\U") {
+            Some(digits) => strip_number(digits, 8),
             None => None,
         },
     }
 }
 
 /// What follows an ECHAR.
-fn after_echar(text: &[u8]) -> Option<&[u8]>
-    ensures reads { ReadsOnly echar text.now (option_copied result) }
+fn strip_echar(text: &[u8]) -> Option<&[u8]>
+    ensures matches { MatchesOnly echar text.now (option_copied result) }
     ensures shorter { IfSome result (λ rest. length rest.now < length text.now) }
 {
-    match after(text, b"\\") {
-        Some(rest) => after_one(rest, Class::Escaped),
+    match strip_word(text, b"\\") {
+        Some(rest) => strip_one(rest, Class::Escaped),
         None => None,
     }
 }
 
 /// What follows an escape of a String.
-pub(crate) fn after_escape(text: &[u8]) -> Option<&[u8]>
-    ensures reads { ReadsOnly (echar ∣ uchar) text.now (option_copied result) }
+pub(crate) fn strip_escape(text: &[u8]) -> Option<&[u8]>
+    ensures matches { MatchesOnly (echar ∣ uchar) text.now (option_copied result) }
     ensures shorter { IfSome result (λ rest. length rest.now < length text.now) }
 {
-    match after_echar(text) {
+    match strip_echar(text) {
         Some(rest) => Some(rest),
-        None => after_uchar(text),
+        None => strip_uchar(text),
     }
 }

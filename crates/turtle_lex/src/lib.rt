@@ -9,21 +9,21 @@ mod chars;
 mod classes;
 mod delimited;
 mod escapes;
-mod gap;
+mod blanks_and_comments;
 mod groups;
 pub mod laws;
 mod lexer;
-mod listing;
+mod token_list;
 mod names;
-mod next;
+mod first;
 mod numbers;
 mod runs;
 mod scan;
 mod token;
 
 pub use lexer::Lexer;
-pub use listing::tokens;
-pub use next::next_token;
+pub use token_list::tokens;
+pub use first::next_token;
 pub use token::{LexFault, Token, TokenKind};
 
 #[cfg(test)]
