@@ -8,13 +8,13 @@ use Rattle.turtle_lex.specs.Pattern.{Pattern, word, one, ◌∘◌, ◌∣◌, m
 use Rattle.turtle_lex.specs.Terminals.{comment, gap}
 use Rattle.turtle_lex.specs.Runs.{IsRun}
 use Rattle.turtle_lex.specs.Tokens.{gap_start}
-use Rattle.turtle_lex.proofs.Matching.{refused, not_read, heads, char_same, ascii_one}
+use Rattle.turtle_lex.proofs.Matching.{refused, not_matched, heads, char_same, ascii_one}
 use Rattle.turtle_lex.proofs.RunLemmas.{OneStep, Steps, in_line, no_step, one_step, run_ends, run_more}
 
 abbrev pub gap_part : Pattern
 gap_part = one is_blank ∣ comment ∘ one is_line_end
 
--- every character may stand in a line or ends it
+-- every character is part of a line or ends it
 line_cases : (c : ℕ) → is_line_end c ≡ false → is_in_line c ≡ true
 unfolding is_line_end is_in_line
 line_cases c h = ap not h
@@ -33,8 +33,8 @@ pub no_line_char : (s : List ℕ) → MatchesOnly (one is_in_line) s None → Ma
 no_line_char s h k c r scalar e = by (is_line_end c) refl
   where
     by : (t : Bool) → is_line_end c ≡ t → ⊥
-    by true is = not_read (one is_line_end) s r k (c, scalar, is, e)
-    by false is = not_read (one is_in_line) s r h (c, scalar, line_cases c is, e)
+    by true is = not_matched (one is_line_end) s r k (c, scalar, is, e)
+    by false is = not_matched (one is_in_line) s r h (c, scalar, line_cases c is, e)
 
 -- two comments at one place are one, where each has its whole line
 comment_same : (s a b : List ℕ) → Matches comment s a → Matches comment s b → ((m : List ℕ) → Matches (one is_in_line) a m → ⊥) → ((m : List ℕ) → Matches (one is_in_line) b m → ⊥) → a ≡ b
@@ -81,8 +81,8 @@ stop_same s a b x y stop stop' = ⊎_elim
 -- what a gap may stop at
 pub stop_of_start : (s : List ℕ) → MatchesOnly gap_start s None → Stop s
 stop_of_start s h = refused gap_part s (λ r x. elim x [
-  | inl a ↦ not_read gap_start s r h (inl a)
-  | inr b ↦ let k = comment_head s b.0 b.1 in not_read gap_start s k.0 h (inr k.1)
+  | inl a ↦ not_matched gap_start s r h (inl a)
+  | inr b ↦ let k = comment_head s b.0 b.1 in not_matched gap_start s k.0 h (inr k.1)
 ])
 
 hash_char : (s t : List ℕ) → s ≡ 35 ∷ t → HasNoFirstChar s → ⊥

@@ -1,4 +1,4 @@
--- One character at the front of a text.
+-- One character at the start of a text.
 use Rattle.std.proofs.Common.{◌≡◌, ℕ, List, ◌++◌, drop, Some, None, sym, ap, ◌∙◌}
 use Rattle.std.specs.Char.{IsScalar, encode_utf8}
 use Rattle.bstr.specs.Utf8.{Decoded, decoded}

@@ -11,7 +11,7 @@ use Rattle.turtle_lex.specs.Pattern.{Pattern, word, one, ◌∘◌, ◌∣◌, m
 use Rattle.turtle_lex.specs.Terminals.{uchar, echar, quotes, iri_ref, short_string, long_string}
 use Rattle.turtle_lex.specs.Tokens.{IsString}
 use Rattle.turtle_lex.specs.Delimited.{part, close, StringOnly}
-use Rattle.turtle_lex.proofs.Matching.{refused, not_read, ascii_one, heads, then_only, then_refused}
+use Rattle.turtle_lex.proofs.Matching.{refused, not_matched, ascii_one, heads, then_only, then_refused}
 use Rattle.turtle_lex.proofs.EscapeLemmas.{escape_head, uchar_head}
 
 -- what a String holds between two quotes, beside quotes
@@ -32,7 +32,7 @@ unfolding is_long_char
 long_no_backslash Double = refl
 long_no_backslash Single = refl
 
-quote_low : (quote : Quote) → quote_char quote < 128
+pub quote_low : (quote : Quote) → quote_char quote < 128
 quote_low Double = lit< tt
 quote_low Single = lit< tt
 
@@ -40,7 +40,7 @@ quote_no_backslash : (quote : Quote) → (quote_char quote ≡ 92) → ⊥
 quote_no_backslash Double e = absurd (omega (arith, e))
 quote_no_backslash Single e = absurd (omega (arith, e))
 
-long_no_quote : (quote : Quote) → is_long_char quote (quote_char quote) ≡ false
+pub long_no_quote : (quote : Quote) → is_long_char quote (quote_char quote) ≡ false
 unfolding is_long_char
 long_no_quote Double = refl
 long_no_quote Single = refl
@@ -79,7 +79,7 @@ close_apart (Long quote) s m e =
       | inr same ↦ no_long_char quote (q ∷ q ∷ m) r (subst (λ (u : List ℕ). Matches (long_char quote) u r) (sym same ∙ e) x.2)
     ])
 
--- the parts of a String between three quotes, by the quotes in front
+-- the parts of a String between three quotes, by the quotes at its start
 pub two_quotes : (quote : Quote) (s t : List ℕ) (o : Option (List ℕ)) → MatchesOnly (quotes quote 2) s (Some t) → MatchesOnly (long_char quote) t o → MatchesOnly (part (Long quote)) s o
 two_quotes quote s t o h k = record { found = by o k; only = λ r x. k.only r (pick r x) }
   where
@@ -113,7 +113,7 @@ one_quote quote s t o none h k = record { found = by o k; only = λ r x. k.only 
     pick r x = elim x.1 [
       | inl a ↦ elim a [
         | inl single ↦ subst (λ (u : List ℕ). Matches (long_char quote) u r) (heads q q x.0 t (sym single ∙ h.found)).1 x.2
-        | inr both ↦ absurd (not_read (quotes quote 2) s x.0 none both)
+        | inr both ↦ absurd (not_matched (quotes quote 2) s x.0 none both)
       ]
       | inr same ↦ absurd (no_long_char quote t r (subst (λ (u : List ℕ). Matches (long_char quote) u r) (sym same ∙ h.found) x.2))
     ]
@@ -128,8 +128,8 @@ no_quote quote s o none alone k = record { found = by o k; only = λ r x. k.only
     pick : (r : List ℕ) → Matches (part (Long quote)) s r → Matches (long_char quote) s r
     pick r x = elim x.1 [
       | inl a ↦ elim a [
-        | inl single ↦ absurd (not_read (quotes quote 1) s x.0 alone single)
-        | inr both ↦ absurd (not_read (quotes quote 2) s x.0 none both)
+        | inl single ↦ absurd (not_matched (quotes quote 1) s x.0 alone single)
+        | inr both ↦ absurd (not_matched (quotes quote 2) s x.0 none both)
       ]
       | inr same ↦ subst (λ (u : List ℕ). Matches (long_char quote) u r) (sym same) x.2
     ]
@@ -162,10 +162,10 @@ no_three quote s o none k = record { found = by o k; only = λ r x. pick r x }
   where
     by : (o : Option (List ℕ)) → MatchesOnly (short_string quote) s o → IfSome o (IsString quote s)
     by None k = tt
-    by (Some m) k = inr (k.found, λ t x. not_read (quotes quote 3) s t none x)
+    by (Some m) k = inr (k.found, λ t x. not_matched (quotes quote 3) s t none x)
 
     pick : (r : List ℕ) → IsString quote s r → o ≡ Some r
-    pick r x = elim x [ inl a ↦ absurd (not_read (quotes quote 3) s a.0 none a.1) | inr b ↦ k.only r b.0 ]
+    pick r x = elim x [ inl a ↦ absurd (not_matched (quotes quote 3) s a.0 none a.1) | inr b ↦ k.only r b.0 ]
 
 pub short_matches : (quote : Quote) (s m : List ℕ) (o : Option (List ℕ)) → MatchesOnly (quotes quote 3) s None → MatchesOnly (quotes quote 1) s (Some m) → MatchesOnly (many (part (Line quote)) ∘ close (Line quote)) m o → StringOnly quote s o
 unfolding short_string

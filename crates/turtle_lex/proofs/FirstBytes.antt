@@ -1,4 +1,4 @@
--- The byte that a text of a pattern begins with, which tells most patterns apart.
+-- The byte that a text of a pattern begins with, which excludes most pairs of patterns.
 use Rattle.std.proofs.Common.{◌≡◌, ℕ, zero, suc, ◌+◌, ◌<◌, ◌≤◌, Bool, true, false, cond, not, ◌&&◌, ◌||◌, ◌==◌, ltb, ◌⊎◌, inl, inr, ⊎_elim, List, [], ◌∷◌, ◌++◌, length, map, None, refl, sym, ap, ◌∙◌, subst, arith, min, eq-eqb, length-append}
 use Rattle.std.specs.Char.{encode_utf8, is_ascii_hexdigit, to_ascii_lowercase}
 use Rattle.std.specs.List.{list_all}

@@ -20,7 +20,7 @@ use Rattle.turtle_lex.specs.Tokens.{IsString, terminal, MatchesKind, IsToken, Ha
 use Rattle.turtle_lex.specs.Groups.{in_group, ascii_group, group_of, IsTokenOfGroup, HasNoTokenOf}
 use Rattle.turtle_lex.proofs.NumberLemmas.{signed_low}
 use Rattle.turtle_lex.proofs.FirstBytes.{lead, nullable, first, low, StartsWith, begins, and_left, and_right, lt_or_same, lead_low, lead_high, least, at_least}
-use Rattle.turtle_lex.proofs.Matching.{front}
+use Rattle.turtle_lex.proofs.Matching.{leaves_suffix}
 
 -- whatever passes f below n passes g
 abbrev pub covered : (ℕ → Bool) → (ℕ → Bool) → ℕ → Bool
@@ -171,8 +171,8 @@ no_token_if_empty (b ∷ s) e = absurd (omega arith)
 pub token_char : (kind : TokenKind) (s r : List ℕ) → MatchesKind kind s r → HasNoFirstChar s → ⊥
 token_char kind s r x none = elim ((kind_facts kind).wide s r x) [ inl a ↦ low_char s a none | inr b ↦ b.1 none ]
 
-pub token_front : (kind : TokenKind) (s r : List ℕ) → MatchesKind kind s r → IsSuffix r s
-token_front kind s r x = front (terminal kind) s r (kind_matches kind s r x)
+pub token_leaves_suffix : (kind : TokenKind) (s r : List ℕ) → MatchesKind kind s r → IsSuffix r s
+token_leaves_suffix kind s r x = leaves_suffix (terminal kind) s r (kind_matches kind s r x)
 
 pub token_shorter : (kind : TokenKind) (s r : List ℕ) → MatchesKind kind s r → length r < length s
 token_shorter kind s r x =

@@ -5,7 +5,6 @@ pub mod Matching
 pub mod NextLemmas
 pub mod TextLemmas
 pub mod WrittenLemmas
-
 -- for the proofs of this crate
 pub mod BlankLemmas
 pub mod ByteLemmas
@@ -17,6 +16,7 @@ pub mod GroupLemmas
 pub mod NameLemmas
 pub mod NumberLemmas
 pub mod OneWayLemmas
+pub mod PlainLemmas
 pub mod RunLemmas
 pub mod TokenLemmas
 pub mod Utf8Lemmas

@@ -9,8 +9,8 @@ use Rattle.turtle_lex.specs.Terminals.{gap}
 use Rattle.turtle_lex.specs.Tokens.{IsNext, IsAnswer, IsEnd, is_string, listed_token, AreTokensTo, AreTokens, HasFault, HasNoTokens, HasNoFault, AreAllTokens, IsOnlyFault}
 use Rattle.turtle_lex.specs.Laws.{AreFirstTokens}
 use Rattle.turtle_lex.proofs.NextLemmas.{one_answer, place_is}
-use Rattle.turtle_lex.proofs.GroupLemmas.{token_front}
-use Rattle.turtle_lex.proofs.Matching.{front}
+use Rattle.turtle_lex.proofs.GroupLemmas.{token_leaves_suffix}
+use Rattle.turtle_lex.proofs.Matching.{leaves_suffix}
 
 abbrev found : Token → Result (Option Token) LexFault
 found t = Ok (Some t)
@@ -97,10 +97,10 @@ only_faults bytes (Err f) h = λ other. only_fault bytes f (h other)
 
 -- the text at the next token, and after it
 pub text_at_next : (bytes text : List ℕ) (t : Token) → IsSuffix text bytes → IsNext bytes (length bytes - length text) t → IsSuffix (drop t.from bytes) text
-text_at_next bytes text t f h = front gap text (drop t.from bytes) (subst (λ (u : List ℕ). Matches gap u (drop t.from bytes)) (place_is bytes text f) h.gap_before)
+text_at_next bytes text t f h = leaves_suffix gap text (drop t.from bytes) (subst (λ (u : List ℕ). Matches gap u (drop t.from bytes)) (place_is bytes text f) h.gap_before)
 
-pub behind_next : (bytes : List ℕ) (from : ℕ) (t : Token) → IsNext bytes from t → IsSuffix (drop t.to bytes) (drop t.from bytes)
-behind_next bytes from t h = token_front t.kind (drop t.from bytes) (drop t.to bytes) h.matches.matches
+pub after_next : (bytes : List ℕ) (from : ℕ) (t : Token) → IsNext bytes from t → IsSuffix (drop t.to bytes) (drop t.from bytes)
+after_next bytes from t h = token_leaves_suffix t.kind (drop t.from bytes) (drop t.to bytes) h.matches.matches
 
 pub position_after : (bytes : List ℕ) (from : ℕ) (t : Token) → IsNext bytes from t → t.to ≡ length bytes - length (drop t.to bytes)
 position_after bytes from t h = let k = h.within in omega (arith, length-drop t.to bytes)

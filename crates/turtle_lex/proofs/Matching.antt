@@ -7,25 +7,25 @@ use Rattle.std.proofs.lemmas.Bool.{false≢true}
 use Rattle.std.proofs.lemmas.List.{append_cancel_left}
 use Rattle.turtle_lex.specs.Pattern.{Pattern, word, any_case, one, number, ◌∘◌, ◌∣◌, many, Matches, Times, MatchesOnly}
 
-pub front_trans : (s m r : List ℕ) → IsSuffix m s → IsSuffix r m → IsSuffix r s
-front_trans s m r (t, e) (u, f) = (t ++ u, append_assoc t u r ∙ ap (λ (x : List ℕ). t ++ x) f ∙ e)
+pub suffix_trans : (s m r : List ℕ) → IsSuffix m s → IsSuffix r m → IsSuffix r s
+suffix_trans s m r (t, e) (u, f) = (t ++ u, append_assoc t u r ∙ ap (λ (x : List ℕ). t ++ x) f ∙ e)
 
-times_front : (R : List ℕ → List ℕ → Type 0) → ((s r : List ℕ) → R s r → IsSuffix r s) → (n : ℕ) (s r : List ℕ) → Times R n s r → IsSuffix r s
-times_front R h zero s r e = ([], sym e)
-times_front R h (suc n) s r (m, first, rest) = front_trans s m r (h s m first) (times_front R h n m r rest)
+times_suffix : (R : List ℕ → List ℕ → Type 0) → ((s r : List ℕ) → R s r → IsSuffix r s) → (n : ℕ) (s r : List ℕ) → Times R n s r → IsSuffix r s
+times_suffix R h zero s r e = ([], sym e)
+times_suffix R h (suc n) s r (m, first, rest) = suffix_trans s m r (h s m first) (times_suffix R h n m r rest)
 
 -- what is left is an end of the text
-pub front : (p : Pattern) (s r : List ℕ) → Matches p s r → IsSuffix r s
-front (word w) s r e = (w, sym e)
-front (any_case w) s r (t, same, e) = (t, sym e)
-front (one p) s r (c, scalar, passes, e) = (encode_utf8 c, sym e)
-front (number n) s r (ds, len, hex, scalar, e) = (ds, sym e)
-front (p ∘ q) s r (m, x, y) = front_trans s m r (front p s m x) (front q m r y)
-front (p ∣ q) s r h = elim h [ inl x ↦ front p s r x | inr y ↦ front q s r y ]
-front (many p) s r (n, x) = times_front (Matches p) (front p) n s r x
+pub leaves_suffix : (p : Pattern) (s r : List ℕ) → Matches p s r → IsSuffix r s
+leaves_suffix (word w) s r e = (w, sym e)
+leaves_suffix (any_case w) s r (t, same, e) = (t, sym e)
+leaves_suffix (one p) s r (c, scalar, passes, e) = (encode_utf8 c, sym e)
+leaves_suffix (number n) s r (ds, len, hex, scalar, e) = (ds, sym e)
+leaves_suffix (p ∘ q) s r (m, x, y) = suffix_trans s m r (leaves_suffix p s m x) (leaves_suffix q m r y)
+leaves_suffix (p ∣ q) s r h = elim h [ inl x ↦ leaves_suffix p s r x | inr y ↦ leaves_suffix q s r y ]
+leaves_suffix (many p) s r (n, x) = times_suffix (Matches p) (leaves_suffix p) n s r x
 
 pub no_longer : (p : Pattern) (s r : List ℕ) → Matches p s r → length r ≤ length s
-no_longer p s r h = let f = front p s r h in omega (arith, ap length f.1, length-append f.0 r)
+no_longer p s r h = let f = leaves_suffix p s r h in omega (arith, ap length f.1, length-append f.0 r)
 
 -- the same rest
 pub same_rest : (m r : List ℕ) → Some m ≡ Some r → m ≡ r
@@ -34,15 +34,15 @@ same_rest m r e = cc
 pub none_is_no_rest : (r : List ℕ) → None ≡ Some r → ⊥
 none_is_no_rest r e = cc
 
--- no text of the pattern matches at the front
+-- no text of the pattern matches at the start
 pub refused : (p : Pattern) (s : List ℕ) → ((r : List ℕ) → Matches p s r → ⊥) → MatchesOnly p s None
 refused p s h = record { found = tt; only = λ r x. absurd (h r x) }
 
-pub not_read : (p : Pattern) (s r : List ℕ) → MatchesOnly p s None → Matches p s r → ⊥
-not_read p s r h x = none_is_no_rest r (h.only r x)
+pub not_matched : (p : Pattern) (s r : List ℕ) → MatchesOnly p s None → Matches p s r → ⊥
+not_matched p s r h x = none_is_no_rest r (h.only r x)
 
-pub read_rest : (p : Pattern) (s m r : List ℕ) → MatchesOnly p s (Some m) → Matches p s r → r ≡ m
-read_rest p s m r h x = sym (same_rest m r (h.only r x))
+pub matched_rest : (p : Pattern) (s m r : List ℕ) → MatchesOnly p s (Some m) → Matches p s r → r ≡ m
+matched_rest p s m r h x = sym (same_rest m r (h.only r x))
 
 -- one character
 pub char_same : (s : List ℕ) (c d : ℕ) (m r : List ℕ) → s ≡ encode_utf8 c ++ m → s ≡ encode_utf8 d ++ r → (c ≡ d) × (m ≡ r)
@@ -66,23 +66,23 @@ one_refused p s c m e fails = refused (one p) s (λ r x.
 
 -- the one, and then the other
 pub then_only : (p q : Pattern) (s m : List ℕ) (o : Option (List ℕ)) → MatchesOnly p s (Some m) → MatchesOnly q m o → MatchesOnly (p ∘ q) s o
-then_only p q s m None h k = refused (p ∘ q) s (λ r x. not_read q m r k (subst (λ (t : List ℕ). Matches q t r) (read_rest p s m x.0 h x.1) x.2))
+then_only p q s m None h k = refused (p ∘ q) s (λ r x. not_matched q m r k (subst (λ (t : List ℕ). Matches q t r) (matched_rest p s m x.0 h x.1) x.2))
 then_only p q s m (Some r) h k = record {
   found = (m, h.found, k.found);
-  only = λ t x. k.only t (subst (λ (u : List ℕ). Matches q u t) (read_rest p s m x.0 h x.1) x.2);
+  only = λ t x. k.only t (subst (λ (u : List ℕ). Matches q u t) (matched_rest p s m x.0 h x.1) x.2);
 }
 
 pub then_refused : (p q : Pattern) (s : List ℕ) → MatchesOnly p s None → MatchesOnly (p ∘ q) s None
-then_refused p q s h = refused (p ∘ q) s (λ r x. not_read p s x.0 h x.1)
+then_refused p q s h = refused (p ∘ q) s (λ r x. not_matched p s x.0 h x.1)
 
--- the one or the other, of which one doesn't stand there
+-- the one or the other, of which one doesn't match there
 pub or_left : (p q : Pattern) (s : List ℕ) (o : Option (List ℕ)) → MatchesOnly p s o → MatchesOnly q s None → MatchesOnly (p ∣ q) s o
-or_left p q s None h k = refused (p ∣ q) s (λ r x. elim x [ inl y ↦ not_read p s r h y | inr y ↦ not_read q s r k y ])
-or_left p q s (Some m) h k = record { found = inl h.found; only = λ r x. elim x [ inl y ↦ h.only r y | inr y ↦ absurd (not_read q s r k y) ] }
+or_left p q s None h k = refused (p ∣ q) s (λ r x. elim x [ inl y ↦ not_matched p s r h y | inr y ↦ not_matched q s r k y ])
+or_left p q s (Some m) h k = record { found = inl h.found; only = λ r x. elim x [ inl y ↦ h.only r y | inr y ↦ absurd (not_matched q s r k y) ] }
 
 pub or_right : (p q : Pattern) (s : List ℕ) (o : Option (List ℕ)) → MatchesOnly p s None → MatchesOnly q s o → MatchesOnly (p ∣ q) s o
-or_right p q s None h k = refused (p ∣ q) s (λ r x. elim x [ inl y ↦ not_read p s r h y | inr y ↦ not_read q s r k y ])
-or_right p q s (Some m) h k = record { found = inr k.found; only = λ r x. elim x [ inl y ↦ absurd (not_read p s r h y) | inr y ↦ k.only r y ] }
+or_right p q s None h k = refused (p ∣ q) s (λ r x. elim x [ inl y ↦ not_matched p s r h y | inr y ↦ not_matched q s r k y ])
+or_right p q s (Some m) h k = record { found = inr k.found; only = λ r x. elim x [ inl y ↦ absurd (not_matched p s r h y) | inr y ↦ k.only r y ] }
 
 -- a word
 pub word_found : (w s m : List ℕ) → s ≡ w ++ m → MatchesOnly (word w) s (Some m)
@@ -91,17 +91,17 @@ word_found w s m e = record { found = e; only = λ r x. ap (λ (t : List ℕ). S
 pub word_refused : (w s : List ℕ) → ((r : List ℕ) → s ≡ w ++ r → ⊥) → MatchesOnly (word w) s None
 word_refused w s h = refused (word w) s h
 
--- any number of one thing and then another, of which one matches at the front at most
+-- any number of one thing and then another, of which one matches at the start at most
 pub on : (p q : Pattern) (s m r : List ℕ) → MatchesOnly p s (Some m) → MatchesOnly q s None → Matches (many p ∘ q) s r → Matches (many p ∘ q) m r
-on p q s m r h k (t, (zero, same), last) = absurd (not_read q s r k (subst (λ (u : List ℕ). Matches q u r) (sym same) last))
-on p q s m r h k (t, (suc n, (u, first, more)), last) = (t, (n, subst (λ (v : List ℕ). Times (Matches p) n v t) (read_rest p s m u h first) more), last)
+on p q s m r h k (t, (zero, same), last) = absurd (not_matched q s r k (subst (λ (u : List ℕ). Matches q u r) (sym same) last))
+on p q s m r h k (t, (suc n, (u, first, more)), last) = (t, (n, subst (λ (v : List ℕ). Times (Matches p) n v t) (matched_rest p s m u h first) more), last)
 
 pub back : (p q : Pattern) (s m r : List ℕ) → Matches p s m → Matches (many p ∘ q) m r → Matches (many p ∘ q) s r
 back p q s m r h (t, (n, more), last) = (t, (suc n, (m, h, more)), last)
 
 pub stuck : (p q : Pattern) (s r : List ℕ) → MatchesOnly p s None → MatchesOnly q s None → Matches (many p ∘ q) s r → ⊥
-stuck p q s r h k (t, (zero, same), last) = not_read q s r k (subst (λ (u : List ℕ). Matches q u r) (sym same) last)
-stuck p q s r h k (t, (suc n, (u, first, more)), last) = not_read p s u h first
+stuck p q s r h k (t, (zero, same), last) = not_matched q s r k (subst (λ (u : List ℕ). Matches q u r) (sym same) last)
+stuck p q s r h k (t, (suc n, (u, first, more)), last) = not_matched p s u h first
 
 pub closes : (p q : Pattern) (s : List ℕ) (o : Option (List ℕ)) → MatchesOnly p s None → MatchesOnly q s o → MatchesOnly (many p ∘ q) s o
 closes p q s None h k = refused (many p ∘ q) s (λ r x. stuck p q s r h k x)
@@ -109,7 +109,7 @@ closes p q s (Some m) h k = record { found = (s, (0, refl), k.found); only = end
   where
     ended : (r : List ℕ) → Matches (many p ∘ q) s r → Some m ≡ Some r
     ended r (t, (zero, same), last) = k.only r (subst (λ (u : List ℕ). Matches q u r) (sym same) last)
-    ended r (t, (suc n, (u, first, more)), last) = absurd (not_read p s u h first)
+    ended r (t, (suc n, (u, first, more)), last) = absurd (not_matched p s u h first)
 
 -- one ASCII character
 pub ascii_one : (p : ℕ → Bool) (b : ℕ) (s r : List ℕ) → b < 128 → Matches (one p) (b ∷ s) r → (p b ≡ true) × (s ≡ r)
@@ -118,7 +118,7 @@ ascii_one p b s r low x =
     let same = char_same (b ∷ s) b x.0 s r front_is x.3 in
     (ap p same.0 ∙ x.2, same.1)
 
--- two words that differ at a place stand at the front of no one text
+-- no text begins with two words that differ at a position
 abbrev pub clash : List ℕ → List ℕ → Bool
 clash [] w = false
 clash (a ∷ v) [] = false
@@ -150,7 +150,7 @@ pub same_ends : (p : Pattern) (s : List ℕ) → SameEnds p s s
 same_ends p s = record { on = λ r x. x; back = λ r x. x }
 
 pub carried : (p : Pattern) (s t : List ℕ) (o : Option (List ℕ)) → SameEnds p s t → MatchesOnly p t o → MatchesOnly p s o
-carried p s t None same h = refused p s (λ r x. not_read p t r h (same.on r x))
+carried p s t None same h = refused p s (λ r x. not_matched p t r h (same.on r x))
 carried p s t (Some m) same h = record { found = same.back m h.found; only = λ r x. h.only r (same.on r x) }
 
 pub same_step : (p q : Pattern) (s t m : List ℕ) → SameEnds (many p ∘ q) s t → MatchesOnly p t (Some m) → MatchesOnly q t None → SameEnds (many p ∘ q) s m

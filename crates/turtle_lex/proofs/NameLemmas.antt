@@ -14,7 +14,7 @@ use Rattle.turtle_lex.specs.Classes.{is_pn_chars, is_pn_chars_u, is_pn_chars_bas
 use Rattle.turtle_lex.specs.Pattern.{Pattern, word, one, ◌∘◌, ◌∣◌, many, Matches, Times, MatchesOnly, MatchesLongest}
 use Rattle.turtle_lex.specs.Terminals.{plx, dotted, label, pn_local, pn_prefix, pname_ns}
 use Rattle.turtle_lex.specs.Names.{two_digits, colon_or_plx, name_part, dot, tail, IsTail, label_first, local_first, prefix_and_colon, StartsWithAscii, HasNoPrefixBefore, PrefixesEnd}
-use Rattle.turtle_lex.proofs.Matching.{front, front_trans, refused, not_read, read_rest, word_clashes, or_left, or_right, then_only, then_refused, heads, char_same, ones_found}
+use Rattle.turtle_lex.proofs.Matching.{leaves_suffix, suffix_trans, refused, not_matched, matched_rest, word_clashes, or_left, or_right, then_only, then_refused, heads, char_same, ones_found}
 use Rattle.turtle_lex.proofs.FirstBytes.{excluded}
 
 pub plx_of_digits : (s m : List ℕ) (o : Option (List ℕ)) → MatchesOnly (word (codes "%")) s (Some m) → MatchesOnly two_digits m o → MatchesOnly plx s o
@@ -73,28 +73,28 @@ run_start part s = record {
 }
 
 part_first : (part : Pattern) (s m r : List ℕ) → MatchesOnly part s (Some m) → MatchesOnly dot s None → Matches (more part) s r → (r ≡ m) ⊎ Matches (more part) m r
-part_first part s m r h k (t, (zero, same), last) = inl (read_rest part s m r h (subst (λ (u : List ℕ). Matches part u r) (sym same) last))
+part_first part s m r h k (t, (zero, same), last) = inl (matched_rest part s m r h (subst (λ (u : List ℕ). Matches part u r) (sym same) last))
 part_first part s m r h k (t, (suc n, (u, step, rest)), last) = elim step [
-  | inl a ↦ inr (t, (n, subst (λ (v : List ℕ). Times (Matches (part ∣ dot)) n v t) (read_rest part s m u h a) rest), last)
-  | inr b ↦ absurd (not_read dot s u k b)
+  | inl a ↦ inr (t, (n, subst (λ (v : List ℕ). Times (Matches (part ∣ dot)) n v t) (matched_rest part s m u h a) rest), last)
+  | inr b ↦ absurd (not_matched dot s u k b)
 ]
 
 dot_first : (part : Pattern) (s m r : List ℕ) → MatchesOnly part s None → MatchesOnly dot s (Some m) → Matches (more part) s r → Matches (more part) m r
-dot_first part s m r h k (t, (zero, same), last) = absurd (not_read part s r h (subst (λ (u : List ℕ). Matches part u r) (sym same) last))
+dot_first part s m r h k (t, (zero, same), last) = absurd (not_matched part s r h (subst (λ (u : List ℕ). Matches part u r) (sym same) last))
 dot_first part s m r h k (t, (suc n, (u, step, rest)), last) = elim step [
-  | inl a ↦ absurd (not_read part s u h a)
-  | inr b ↦ (t, (n, subst (λ (v : List ℕ). Times (Matches (part ∣ dot)) n v t) (read_rest dot s m u k b) rest), last)
+  | inl a ↦ absurd (not_matched part s u h a)
+  | inr b ↦ (t, (n, subst (λ (v : List ℕ). Times (Matches (part ∣ dot)) n v t) (matched_rest dot s m u k b) rest), last)
 ]
 
 none_first : (part : Pattern) (s r : List ℕ) → MatchesOnly part s None → MatchesOnly dot s None → Matches (more part) s r → ⊥
-none_first part s r h k (t, (zero, same), last) = not_read part s r h (subst (λ (u : List ℕ). Matches part u r) (sym same) last)
-none_first part s r h k (t, (suc n, (u, step, rest)), last) = elim step [ inl a ↦ not_read part s u h a | inr b ↦ not_read dot s u k b ]
+none_first part s r h k (t, (zero, same), last) = not_matched part s r h (subst (λ (u : List ℕ). Matches part u r) (sym same) last)
+none_first part s r h k (t, (suc n, (u, step, rest)), last) = elim step [ inl a ↦ not_matched part s u h a | inr b ↦ not_matched dot s u k b ]
 
 step_back : (part : Pattern) (s m r : List ℕ) → Matches (part ∣ dot) s m → Matches (more part) m r → Matches (more part) s r
 step_back part s m r step (t, (n, rest), last) = (t, (suc n, (m, step, rest)), last)
 
-front_shorter : (s r : List ℕ) → IsSuffix r s → length r ≤ length s
-front_shorter s r f = omega (arith, ap length f.1, length-append f.0 r)
+suffix_shorter : (s r : List ℕ) → IsSuffix r s → length r ≤ length s
+suffix_shorter s r f = omega (arith, ap length f.1, length-append f.0 r)
 
 pub run_part : (part : Pattern) (s end t m : List ℕ) → Run part s end t → MatchesOnly part t (Some m) → MatchesOnly dot t None → Run part s m m
 run_part part s end t m run h k = record {
@@ -102,11 +102,11 @@ run_part part s end t m run h k = record {
   dots = ([], refl);
   onward = λ r x. run.onward r (step_back part t m r (inl h.found) x);
   others = λ r x. elim (run.others r x) [
-    | inl longer ↦ inl (let f = front_shorter t m (front part t m h.found) in let g = front_shorter end t run.dots in omega arith)
+    | inl longer ↦ inl (let f = suffix_shorter t m (leaves_suffix part t m h.found) in let g = suffix_shorter end t run.dots in omega arith)
     | inr y ↦ elim (part_first part t m r h k y) [ inl same ↦ inl (subst (λ (u : List ℕ). length m ≤ length u) (sym same) (omega arith)) | inr z ↦ inr z ]
   ];
   stops = λ r x a b. elim (run.stops r x a b) [
-    | inl same ↦ absurd (not_read part t m (subst (λ (u : List ℕ). MatchesOnly part u None) same a) h.found)
+    | inl same ↦ absurd (not_matched part t m (subst (λ (u : List ℕ). MatchesOnly part u None) same a) h.found)
     | inr y ↦ part_first part t m r h k y
   ];
 }
@@ -114,11 +114,11 @@ run_part part s end t m run h k = record {
 pub run_dot : (part : Pattern) (s end t m : List ℕ) → Run part s end t → MatchesOnly part t None → MatchesOnly dot t (Some m) → Run part s end m
 run_dot part s end t m run h k = record {
   found = run.found;
-  dots = let f = front dot t m k.found in (run.dots.0 ++ f.0, append_assoc run.dots.0 f.0 m ∙ ap (λ (u : List ℕ). run.dots.0 ++ u) f.1 ∙ run.dots.1);
+  dots = let f = leaves_suffix dot t m k.found in (run.dots.0 ++ f.0, append_assoc run.dots.0 f.0 m ∙ ap (λ (u : List ℕ). run.dots.0 ++ u) f.1 ∙ run.dots.1);
   onward = λ r x. run.onward r (step_back part t m r (inr k.found) x);
   others = λ r x. elim (run.others r x) [ inl longer ↦ inl longer | inr y ↦ inr (dot_first part t m r h k y) ];
   stops = λ r x a b. elim (run.stops r x a b) [
-    | inl same ↦ absurd (not_read dot t m (subst (λ (u : List ℕ). MatchesOnly dot u None) same b) k.found)
+    | inl same ↦ absurd (not_matched dot t m (subst (λ (u : List ℕ). MatchesOnly dot u None) same b) k.found)
     | inr y ↦ inr (dot_first part t m r h k y)
   ];
 }
@@ -142,10 +142,10 @@ local_of_letter s m h = record {
   only = λ r x. elim x [
     | inl a ↦ h.only r a
     | inr b ↦ elim b [
-      | inl colon ↦ absurd (not_read (word (codes ":")) s r (excluded (one is_pn_chars_u) (word (codes ":")) s m refl h.found) colon)
+      | inl colon ↦ absurd (not_matched (word (codes ":")) s r (excluded (one is_pn_chars_u) (word (codes ":")) s m refl h.found) colon)
       | inr d ↦ elim d [
         | inl digit ↦ (ones_found is_pn_chars_u is_ascii_digit s m h).only r (inr digit)
-        | inr e ↦ absurd (not_read plx s r (excluded (one is_pn_chars_u) plx s m refl h.found) e)
+        | inr e ↦ absurd (not_matched plx s r (excluded (one is_pn_chars_u) plx s m refl h.found) e)
       ]
     ]
   ];
@@ -156,12 +156,12 @@ unfolding plx
 local_of_digit s m none h = record {
   found = inr (inr (inl h.found));
   only = λ r x. elim x [
-    | inl a ↦ absurd (not_read (one is_pn_chars_u) s r none a)
+    | inl a ↦ absurd (not_matched (one is_pn_chars_u) s r none a)
     | inr b ↦ elim b [
-      | inl colon ↦ absurd (not_read (word (codes ":")) s r (excluded (one is_ascii_digit) (word (codes ":")) s m refl h.found) colon)
+      | inl colon ↦ absurd (not_matched (word (codes ":")) s r (excluded (one is_ascii_digit) (word (codes ":")) s m refl h.found) colon)
       | inr d ↦ elim d [
         | inl digit ↦ h.only r digit
-        | inr e ↦ absurd (not_read plx s r (excluded (one is_ascii_digit) plx s m refl h.found) e)
+        | inr e ↦ absurd (not_matched plx s r (excluded (one is_ascii_digit) plx s m refl h.found) e)
       ]
     ]
   ];
@@ -176,10 +176,10 @@ local_of_other s o none also h = record { found = by o h; only = λ r x. pick r 
 
     pick : (r : List ℕ) → Matches local_first s r → o ≡ Some r
     pick r x = elim x [
-      | inl a ↦ absurd (not_read (one is_pn_chars_u) s r none a)
+      | inl a ↦ absurd (not_matched (one is_pn_chars_u) s r none a)
       | inr b ↦ elim b [
         | inl colon ↦ h.only r (inl colon)
-        | inr d ↦ elim d [ inl digit ↦ absurd (not_read (one is_ascii_digit) s r also digit) | inr e ↦ h.only r (inr e) ]
+        | inr d ↦ elim d [ inl digit ↦ absurd (not_matched (one is_ascii_digit) s r also digit) | inr e ↦ h.only r (inr e) ]
       ]
     ]
 
@@ -187,11 +187,11 @@ local_of_other s o none also h = record { found = by o h; only = λ r x. pick r 
 dotted_longest : (first part : Pattern) (s m end stop : List ℕ) → MatchesOnly first s (Some m) → IsTail part m end stop → MatchesLongest (first ∘ tail part) s (Some end)
 dotted_longest first part s m end stop h t = record {
   found = (m, h.found, t.found);
-  longest = λ r x. t.longest r (subst (λ (u : List ℕ). Matches (tail part) u r) (read_rest first s m x.0 h x.1) x.2);
+  longest = λ r x. t.longest r (subst (λ (u : List ℕ). Matches (tail part) u r) (matched_rest first s m x.0 h x.1) x.2);
 }
 
 not_dotted : (first part : Pattern) (s : List ℕ) → MatchesOnly first s None → MatchesLongest (first ∘ tail part) s None
-not_dotted first part s h = record { found = tt; longest = λ r x. absurd (not_read first s x.0 h x.1) }
+not_dotted first part s h = record { found = tt; longest = λ r x. absurd (not_matched first s x.0 h x.1) }
 
 pub label_longest : (s m end stop : List ℕ) → MatchesOnly label_first s (Some m) → IsTail (name_part Plain) m end stop → MatchesLongest label s (Some end)
 unfolding label dotted
@@ -229,28 +229,28 @@ prefix_matches s m end stop o h t len colon = record { found = by o colon; only 
 
     pick : (r : List ℕ) → Matches prefix_and_colon s r → o ≡ Some r
     pick r x =
-        let after : Matches (tail (name_part Plain)) m x.0 = subst (λ (u : List ℕ). Matches (tail (name_part Plain)) u x.0) (read_rest (one is_pn_chars_base) s m x.1.0 h x.1.1) x.1.2 in
+        let after : Matches (tail (name_part Plain)) m x.0 = subst (λ (u : List ℕ). Matches (tail (name_part Plain)) u x.0) (matched_rest (one is_pn_chars_base) s m x.1.0 h x.1.1) x.1.2 in
         colon.only r (subst (λ (u : List ℕ). Matches (word (codes ":")) u r) (colon_stops m end stop x.0 r t after x.2) x.2)
 
 pub prefix_ends_in_dot : (s m end stop : List ℕ) → MatchesOnly (one is_pn_chars_base) s (Some m) → IsTail (name_part Plain) m end stop → (length end ≡ length stop → ⊥) → MatchesOnly prefix_and_colon s None
 unfolding pn_prefix dotted
 prefix_ends_in_dot s m end stop h t apart = refused prefix_and_colon s (λ r x.
-    let after : Matches (tail (name_part Plain)) m x.0 = subst (λ (u : List ℕ). Matches (tail (name_part Plain)) u x.0) (read_rest (one is_pn_chars_base) s m x.1.0 h x.1.1) x.1.2 in
+    let after : Matches (tail (name_part Plain)) m x.0 = subst (λ (u : List ℕ). Matches (tail (name_part Plain)) u x.0) (matched_rest (one is_pn_chars_base) s m x.1.0 h x.1.1) x.1.2 in
     let same : x.0 ≡ stop = colon_stops m end stop x.0 r t after x.2 in
-    let f = front_shorter end stop t.dots in
+    let f = suffix_shorter end stop t.dots in
     let g : length end ≤ length stop = subst (λ (u : List ℕ). length end ≤ length u) same (t.longest x.0 after) in
     apart (omega arith))
 
 pub no_prefix : (s : List ℕ) → MatchesOnly (one is_pn_chars_base) s None → MatchesOnly prefix_and_colon s None
 unfolding pn_prefix dotted
-no_prefix s h = refused prefix_and_colon s (λ r x. not_read (one is_pn_chars_base) s x.1.0 h x.1.1)
+no_prefix s h = refused prefix_and_colon s (λ r x. not_matched (one is_pn_chars_base) s x.1.0 h x.1.1)
 
 pub ns_of_colon : (s m : List ℕ) → MatchesOnly (word (codes ":")) s (Some m) → MatchesOnly pname_ns s (Some m)
 unfolding pname_ns pn_prefix dotted is_pn_chars is_pn_chars_u is_pn_chars_base
 ns_of_colon s m h = record {
   found = (s, inr refl, h.found);
   only = λ r x. elim x.1 [
-    | inl a ↦ absurd (not_read pn_prefix s x.0 (excluded (word (codes ":")) pn_prefix s m refl h.found) a)
+    | inl a ↦ absurd (not_matched pn_prefix s x.0 (excluded (word (codes ":")) pn_prefix s m refl h.found) a)
     | inr same ↦ h.only r (subst (λ (u : List ℕ). Matches (word (codes ":")) u r) (sym same) x.2)
   ];
 }
@@ -266,7 +266,7 @@ ns_of_prefix s o none h = record { found = by o h; only = λ r x. pick r x }
     pick : (r : List ℕ) → Matches pname_ns s r → o ≡ Some r
     pick r x = elim x.1 [
       | inl a ↦ h.only r (x.0, a, x.2)
-      | inr same ↦ absurd (not_read (word (codes ":")) s r none (subst (λ (u : List ℕ). Matches (word (codes ":")) u r) (sym same) x.2))
+      | inr same ↦ absurd (not_matched (word (codes ":")) s r none (subst (λ (u : List ℕ). Matches (word (codes ":")) u r) (sym same) x.2))
     ]
 
 -- two ends of one text, of which the one is no longer than the other
@@ -294,15 +294,15 @@ pub record PrefixesContinue (s end rest : List ℕ) : Type 0 where
       → Matches (more (name_part Plain) ∘ word (codes ":")) rest r ⊎ ((end ≡ rest) × Matches (word (codes ":")) rest r)
 
 pub inside_start : (s : List ℕ) → PrefixesContinue s s s
-inside_start s = record { inside = λ u r f less low x. absurd (let h = front_shorter s u f in omega arith) }
+inside_start s = record { inside = λ u r f less low x. absurd (let h = suffix_shorter s u f in omega arith) }
 
 part_no_prefix_colon : (t m r : List ℕ) → Matches (name_part Plain) t m → Matches (word (codes ":")) t r → ⊥
 unfolding is_pn_chars is_pn_chars_u is_pn_chars_base
-part_no_prefix_colon t m r x y = not_read (word (codes ":")) t r (excluded (name_part Plain) (word (codes ":")) t m refl x) y
+part_no_prefix_colon t m r x y = not_matched (word (codes ":")) t r (excluded (name_part Plain) (word (codes ":")) t m refl x) y
 
 dot_no_prefix : (t m r : List ℕ) → Matches dot t m → Matches prefix_and_colon t r → ⊥
 unfolding pn_prefix dotted is_pn_chars is_pn_chars_u is_pn_chars_base
-dot_no_prefix t m r x y = not_read prefix_and_colon t r (excluded dot prefix_and_colon t m refl x) y
+dot_no_prefix t m r x y = not_matched prefix_and_colon t r (excluded dot prefix_and_colon t m refl x) y
 
 prefix_goes_on : (t m r : List ℕ) → MatchesOnly (name_part Plain) t (Some m) → Matches prefix_and_colon t r → Matches (tail (name_part Plain) ∘ word (codes ":")) m r
 unfolding pn_prefix dotted
@@ -361,16 +361,16 @@ inside_end s end t run h k u r f less low x = elim (run.inside u r f less low x)
 
 -- what is known of names
 pub nothing_known : (s : List ℕ) → HasNoPrefixBefore s s
-nothing_known s u r f less low x = let h = front_shorter s u f in absurd (omega arith)
+nothing_known s u r f less low x = let h = suffix_shorter s u f in absurd (omega arith)
 
-pub known_behind : (s t stop : List ℕ) → IsSuffix t s → HasNoPrefixBefore s stop → HasNoPrefixBefore t stop
-known_behind s t stop f h u r g less low x = h u r (front_trans s t u f g) less low x
+pub known_after : (s t stop : List ℕ) → IsSuffix t s → HasNoPrefixBefore s stop → HasNoPrefixBefore t stop
+known_after s t stop f h u r g less low x = h u r (suffix_trans s t u f g) less low x
 
 pub known_by_dot : (s end stop : List ℕ) → PrefixesEnd s end stop → (length end ≡ length stop → ⊥) → HasNoPrefixBefore s stop
 known_by_dot s end stop h apart u r f less low x = apart (ap length (h u r f less low x).0)
 
 pub known_by_end : (s end stop : List ℕ) → PrefixesEnd s end stop → MatchesOnly (word (codes ":")) stop None → HasNoPrefixBefore s stop
-known_by_end s end stop h none u r f less low x = not_read (word (codes ":")) stop r none (h u r f less low x).1
+known_by_end s end stop h none u r f less low x = not_matched (word (codes ":")) stop r none (h u r f less low x).1
 
 -- where it is known that no prefix begins, a letter begins no name
 letter_small : (c : ℕ) → is_ascii_alphabetic c ≡ true → c < 128

@@ -11,9 +11,9 @@ use Rattle.turtle_lex.specs.Pattern.{Pattern, ◌∘◌, Matches, MatchesOnly, H
 use Rattle.turtle_lex.specs.Terminals.{comment, gap, last_gap}
 use Rattle.turtle_lex.specs.Tokens.{gap_start, MatchesKind, IsToken, HasNoToken, IsNotText, IsBadToken, IsAnswer}
 use Rattle.turtle_lex.specs.WithoutToken.{IsAnswerWithoutToken}
-use Rattle.turtle_lex.proofs.Matching.{front, front_trans, no_longer, refused, not_read}
+use Rattle.turtle_lex.proofs.Matching.{leaves_suffix, suffix_trans, no_longer, refused, not_matched}
 use Rattle.turtle_lex.proofs.BlankLemmas.{Stop, stop_same, stop_of_start, stop_of_no_char, stop_of_comment, comment_ends, comment_no_end, comment_start}
-use Rattle.turtle_lex.proofs.GroupLemmas.{token_no_gap, token_char, token_shorter, token_front}
+use Rattle.turtle_lex.proofs.GroupLemmas.{token_no_gap, token_char, token_shorter, token_leaves_suffix}
 use Rattle.turtle_lex.proofs.FirstBytes.{not_empty}
 
 -- places of ends of the bytes
@@ -22,14 +22,14 @@ place_is s r (t, e) =
     let len : length t ≡ length s - length r = omega (arith, ap length e, length-append t r) in
     ap (drop (length s - length r)) (sym e) ∙ drop_at t r (length s - length r) len
 
-pub front_drop : (n : ℕ) (s : List ℕ) → IsSuffix (drop n s) s
-front_drop n s = (take n s, take-append-drop n s)
+pub drop_is_suffix : (n : ℕ) (s : List ℕ) → IsSuffix (drop n s) s
+drop_is_suffix n s = (take n s, take-append-drop n s)
 
 place_same : (bytes v : List ℕ) (a b : ℕ) → a ≤ length bytes → b ≤ length bytes → v ≡ drop a bytes → v ≡ drop b bytes → a ≡ b
 place_same bytes v a b low low' e f = omega (arith, ap length e, ap length f, length-drop a bytes, length-drop b bytes)
 
-pub front_no_longer : (s r : List ℕ) → IsSuffix r s → length r ≤ length s
-front_no_longer s r f = omega (arith, ap length f.1, length-append f.0 r)
+pub suffix_no_longer : (s r : List ℕ) → IsSuffix r s → length r ≤ length s
+suffix_no_longer s r f = omega (arith, ap length f.1, length-append f.0 r)
 
 -- blanks and comments tail v, up to m, where no character matches
 abbrev Ends : List ℕ → List ℕ → Type 0
@@ -143,8 +143,8 @@ one_answer bytes from a b h k =
     shapes_same bytes y.v a b (subst (λ (u : List ℕ). Shape bytes u a) same x.shape) y.shape
 
 -- the answers of the code
-pub gap_front : (bytes text rest : List ℕ) → IsSuffix text bytes → Matches gap text rest → IsSuffix rest bytes
-gap_front bytes text rest f x = front_trans bytes text rest f (front gap text rest x)
+pub gap_leaves_suffix : (bytes text rest : List ℕ) → IsSuffix text bytes → Matches gap text rest → IsSuffix rest bytes
+gap_leaves_suffix bytes text rest f x = suffix_trans bytes text rest f (leaves_suffix gap text rest x)
 
 gap_at : (p : Pattern) (bytes text rest : List ℕ) → IsSuffix text bytes → IsSuffix rest bytes → Matches p text rest → Matches p (drop (length bytes - length text) bytes) (drop (length bytes - length rest) bytes)
 gap_at p bytes text rest f g x =
@@ -154,11 +154,11 @@ gap_at p bytes text rest f g x =
 pub answer_token : (bytes text rest tail : List ℕ) (kind : TokenKind) → IsSuffix text bytes → Matches gap text rest → IsToken kind rest tail
     → IsAnswer bytes (length bytes - length text) (Ok (Some (record { kind = kind; from = length bytes - length rest; to = length bytes - length tail })))
 answer_token bytes text rest tail kind f x t =
-    let g = gap_front bytes text rest f x in
-    let b : IsSuffix tail bytes = front_trans bytes rest tail g (token_front kind rest tail t.matches) in
+    let g = gap_leaves_suffix bytes text rest f x in
+    let b : IsSuffix tail bytes = suffix_trans bytes rest tail g (token_leaves_suffix kind rest tail t.matches) in
     record {
       after = let h = no_longer gap text rest x in omega arith;
-      in_order = let h = token_shorter kind rest tail t.matches in let k = front_no_longer bytes rest g in omega arith;
+      in_order = let h = token_shorter kind rest tail t.matches in let k = suffix_no_longer bytes rest g in omega arith;
       within = omega arith;
       gap_before = gap_at gap bytes text rest f g x;
       matches = subst (λ (u : List ℕ). IsToken kind u (drop (length bytes - length tail) bytes)) (sym (place_is bytes rest g))
@@ -175,16 +175,16 @@ last_of_comment s m (v, x, c) = (v, x, inl c)
 
 not_empty_less : (bytes rest : List ℕ) → IsSuffix rest bytes → (rest ≡ [] → ⊥) → length bytes - length rest < length bytes
 not_empty_less bytes [] f h = absurd (h refl)
-not_empty_less bytes (b ∷ rest) f h = let k = front_no_longer bytes (b ∷ rest) f in omega arith
+not_empty_less bytes (b ∷ rest) f h = let k = suffix_no_longer bytes (b ∷ rest) f in omega arith
 
 pub answer_closed : (bytes text rest : List ℕ) (r : Result (Option Token) LexFault) → IsSuffix text bytes → Matches gap text rest → MatchesOnly gap_start rest None → HasNoToken rest
     → IsAnswerWithoutToken bytes rest r → IsAnswer bytes (length bytes - length text) r
 answer_closed bytes text rest (Ok (Some t)) f x stop none h = absurd h
 answer_closed bytes text rest (Ok None) f x stop none h =
-    subst (λ (u : List ℕ). Matches last_gap (drop (length bytes - length text) bytes) u) (place_is bytes rest (gap_front bytes text rest f x) ∙ h)
-    (gap_at last_gap bytes text rest f (gap_front bytes text rest f x) (last_of_gap text rest x))
+    subst (λ (u : List ℕ). Matches last_gap (drop (length bytes - length text) bytes) u) (place_is bytes rest (gap_leaves_suffix bytes text rest f x) ∙ h)
+    (gap_at last_gap bytes text rest f (gap_leaves_suffix bytes text rest f x) (last_of_gap text rest x))
 answer_closed bytes text rest (Err (NotText at)) f x stop none (is, no_char, full) =
-    let g = gap_front bytes text rest f x in
+    let g = gap_leaves_suffix bytes text rest f x in
     subst (λ (n : ℕ). IsNotText bytes (length bytes - length text) n) (sym is) (record {
       after = let h = no_longer gap text rest x in omega arith;
       within = not_empty_less bytes rest g full;
@@ -192,13 +192,13 @@ answer_closed bytes text rest (Err (NotText at)) f x stop none (is, no_char, ful
       no_character = subst HasNoFirstChar (sym (place_is bytes rest g)) no_char;
     })
 answer_closed bytes text rest (Err (BadToken at)) f x stop none (is, char) =
-    let g = gap_front bytes text rest f x in
+    let g = gap_leaves_suffix bytes text rest f x in
     let here = sym (place_is bytes rest g) in
     subst (λ (n : ℕ). IsBadToken bytes (length bytes - length text) n) (sym is) (record {
       after = let h = no_longer gap text rest x in omega arith;
       within = not_empty_less bytes rest g (λ e. char (subst HasNoFirstChar (sym e) empty_no_char));
       gap_before = gap_at gap bytes text rest f g x;
-      gap_ends = subst (λ (u : List ℕ). (m : List ℕ) → Matches gap_start u m → ⊥) here (λ m y. not_read gap_start rest m stop y);
+      gap_ends = subst (λ (u : List ℕ). (m : List ℕ) → Matches gap_start u m → ⊥) here (λ m y. not_matched gap_start rest m stop y);
       no_token = subst HasNoToken here none;
       character = subst (λ (u : List ℕ). HasNoFirstChar u → ⊥) here char;
     })
@@ -208,11 +208,11 @@ pub answer_open : (bytes text rest : List ℕ) (r : Result (Option Token) LexFau
     → IsAnswerWithoutToken bytes rest r → IsAnswer bytes (length bytes - length text) r
 answer_open bytes text rest (Ok (Some t)) f x none h = absurd h
 answer_open bytes text rest (Ok None) f x none h =
-    let g = front_trans bytes text rest f (front (gap ∘ comment) text rest x) in
+    let g = suffix_trans bytes text rest f (leaves_suffix (gap ∘ comment) text rest x) in
     subst (λ (u : List ℕ). Matches last_gap (drop (length bytes - length text) bytes) u) (place_is bytes rest g ∙ h)
     (gap_at last_gap bytes text rest f g (last_of_comment text rest x))
 answer_open bytes text rest (Err (NotText at)) f x none (is, no_char, full) =
-    let g = front_trans bytes text rest f (front (gap ∘ comment) text rest x) in
+    let g = suffix_trans bytes text rest f (leaves_suffix (gap ∘ comment) text rest x) in
     subst (λ (n : ℕ). IsNotText bytes (length bytes - length text) n) (sym is) (record {
       after = let h = no_longer (gap ∘ comment) text rest x in omega arith;
       within = not_empty_less bytes rest g full;

@@ -10,7 +10,7 @@ use Rattle.turtle_lex.specs.Pattern.{Pattern, word, one, number, ◌∘◌, ◌�
 use Rattle.std.specs.Prelude.{None, replicate}
 use Rattle.turtle_lex.specs.Terminals.{uchar, echar, quotes, iri_ref, short_string}
 use Rattle.turtle_lex.specs.Delimited.{part, close}
-use Rattle.turtle_lex.proofs.Matching.{not_read, word_clashes}
+use Rattle.turtle_lex.proofs.Matching.{not_matched, word_clashes}
 use Rattle.turtle_lex.proofs.RunLemmas.{OneStep, Steps, in_line, no_step, one_step}
 use Rattle.turtle_lex.proofs.EscapeLemmas.{uchar_head, escape_head, not_both_escapes, char_no_escape}
 use Rattle.turtle_lex.proofs.DelimitedLemmas.{close_apart, iri_no_backslash, line_no_backslash}
@@ -29,9 +29,9 @@ uchar_one : OneStep (Matches uchar)
 unfolding uchar
 uchar_one s a b (inl x) (inl y) = then_one (word (codes "\\u")) (number 4) (word_one (codes "\\u")) (number_one 4) s a b x y
 uchar_one s a b (inl x) (inr y) =
-    absurd (not_read (word (codes "\\U")) s y.0 (word_clashes (codes "\\u") (codes "\\U") s x.0 refl x.1) y.1)
+    absurd (not_matched (word (codes "\\U")) s y.0 (word_clashes (codes "\\u") (codes "\\U") s x.0 refl x.1) y.1)
 uchar_one s a b (inr x) (inl y) =
-    absurd (not_read (word (codes "\\U")) s x.0 (word_clashes (codes "\\u") (codes "\\U") s y.0 refl y.1) x.1)
+    absurd (not_matched (word (codes "\\U")) s x.0 (word_clashes (codes "\\u") (codes "\\U") s y.0 refl y.1) x.1)
 uchar_one s a b (inr x) (inr y) = then_one (word (codes "\\U")) (number 8) (word_one (codes "\\U")) (number_one 8) s a b x y
 
 echar_one : OneStep (Matches echar)
@@ -40,16 +40,16 @@ echar_one s a b x y = then_one (word (codes "\\")) (one is_escaped) (word_one (c
 
 escape_one : OneStep (Matches (echar ∣ uchar))
 escape_one s a b (inl x) (inl y) = echar_one s a b x y
-escape_one s a b (inl x) (inr y) = absurd (not_read uchar s b (not_both_escapes s a x) y)
-escape_one s a b (inr x) (inl y) = absurd (not_read uchar s a (not_both_escapes s b y) x)
+escape_one s a b (inl x) (inr y) = absurd (not_matched uchar s b (not_both_escapes s a x) y)
+escape_one s a b (inr x) (inl y) = absurd (not_matched uchar s a (not_both_escapes s b y) x)
 escape_one s a b (inr x) (inr y) = uchar_one s a b x y
 
 -- a character that is no backslash, or what begins with one
 char_one : (p : ℕ → Bool) (q : Pattern) → p 92 ≡ false
     → ((s r : List ℕ) → Matches q s r → (t : List ℕ) × (s ≡ 92 ∷ t)) → OneStep (Matches q) → OneStep (Matches (one p ∣ q))
 char_one p q fails head h s a b (inl x) (inl y) = one_step p s a b x y
-char_one p q fails head h s a b (inl x) (inr y) = absurd (not_read q s b (char_no_escape p q s a fails (λ r. head s r) x) y)
-char_one p q fails head h s a b (inr x) (inl y) = absurd (not_read q s a (char_no_escape p q s b fails (λ r. head s r) y) x)
+char_one p q fails head h s a b (inl x) (inr y) = absurd (not_matched q s b (char_no_escape p q s a fails (λ r. head s r) x) y)
+char_one p q fails head h s a b (inr x) (inl y) = absurd (not_matched q s a (char_no_escape p q s b fails (λ r. head s r) y) x)
 char_one p q fails head h s a b (inr x) (inr y) = h s a b x y
 
 -- any number of one thing up to another, which it never is

@@ -5,7 +5,7 @@ use Rattle.std.specs.Char.{is_ascii_alphabetic, is_ascii_alphanumeric}
 use Rattle.turtle_lex.specs.Pattern.{Pattern, word, one, many, some, Matches, Times, MatchesOnly, MatchesLongest}
 use Rattle.turtle_lex.specs.Terminals.{lang_tag}
 use Rattle.turtle_lex.specs.Runs.{IsRun, IsSomeRun, tag_part}
-use Rattle.turtle_lex.proofs.Matching.{no_longer, not_read, read_rest, char_same}
+use Rattle.turtle_lex.proofs.Matching.{no_longer, not_matched, matched_rest, char_same}
 use Rattle.turtle_lex.proofs.FirstBytes.{excluded}
 
 -- from each text there is one step at most
@@ -28,7 +28,7 @@ one_more R (suc n) s m r (u, x, xs) y = (u, x, one_more R n u m r xs y)
 -- no step leads on
 pub no_step : (p : Pattern) (s r : List ℕ) → MatchesOnly p s None → Steps (Matches p) s r → s ≡ r
 no_step p s r h (zero, e) = e
-no_step p s r h (suc n, (m, x, xs)) = absurd (not_read p s m h x)
+no_step p s r h (suc n, (m, x, xs)) = absurd (not_matched p s m h x)
 
 -- nothing more, or one step
 pub first_step : (p : Pattern) (s r : List ℕ) → Steps (Matches p) s r → (s ≡ r) ⊎ ((m : List ℕ) × Matches p s m)
@@ -86,7 +86,7 @@ pub tag_start : (s : List ℕ) → TagRun s s
 tag_start s = record { found = (0, refl); others = λ r x. inr x }
 
 alnum_no_part : (v m w : List ℕ) → Matches (one is_ascii_alphanumeric) v m → Matches tag_part v w → ⊥
-alnum_no_part v m w x y = not_read tag_part v w (excluded (one is_ascii_alphanumeric) tag_part v m refl x) y
+alnum_no_part v m w x y = not_matched tag_part v w (excluded (one is_ascii_alphanumeric) tag_part v m refl x) y
 
 pub tag_step : (s t m e : List ℕ) → TagRun s t → MatchesOnly (word (codes "-")) t (Some m) → IsSomeRun is_ascii_alphanumeric m e → TagRun s e
 tag_step s t m e run h some_e = record { found = whole; others = λ r x. ⊎_elim (λ (longer : length t ≤ length r). inl (omega (arith, shorter))) (λ (y : Matches (many tag_part) t r). ahead r y) (run.others r x) }
@@ -108,7 +108,7 @@ tag_step s t m e run h some_e = record { found = whole; others = λ r x. ⊎_eli
     ahead : (r : List ℕ) → Matches (many tag_part) t r → (length e ≤ length r) ⊎ Matches (many tag_part) e r
     ahead r (zero, same) = inl (omega (arith, shorter, ap length same))
     ahead r (suc n, (v, (u, dash, run_v), xs)) =
-        let from : Matches (some (one is_ascii_alphanumeric)) m v = subst (λ (w : List ℕ). Matches (some (one is_ascii_alphanumeric)) w v) (read_rest (word (codes "-")) t m u h dash) run_v in
+        let from : Matches (some (one is_ascii_alphanumeric)) m v = subst (λ (w : List ℕ). Matches (some (one is_ascii_alphanumeric)) w v) (matched_rest (word (codes "-")) t m u h dash) run_v in
         at v r (some_ends is_ascii_alphanumeric m e v some_e from) (some_longest is_ascii_alphanumeric m e v some_e from) (n, xs)
 
 pub tag_end : (s t : List ℕ) → TagRun s t → MatchesOnly tag_part t None → MatchesLongest (many tag_part) s (Some t)
@@ -124,17 +124,17 @@ tag_longest s m l e h run tail = record { found = (m, h.found, (l, run.found, ta
     at : (v r : List ℕ) → (v ≡ l) ⊎ ((w : List ℕ) × Matches (one is_ascii_alphabetic) v w) → length l ≤ length v → Matches (many tag_part) v r → length e ≤ length r
     at v r (inl same) le x = tail.longest r (subst (λ (u : List ℕ). Matches (many tag_part) u r) same x)
     at v r (inr y) le (zero, same) = omega (arith, ap length same, no_longer (many tag_part) l e tail.found)
-    at v r (inr y) le (suc n, (w, z, zs)) = absurd (not_read tag_part v w (excluded (one is_ascii_alphabetic) tag_part v y.0 refl y.1) z)
+    at v r (inr y) le (suc n, (w, z, zs)) = absurd (not_matched tag_part v w (excluded (one is_ascii_alphabetic) tag_part v y.0 refl y.1) z)
 
     whole : (r : List ℕ) → Matches lang_tag s r → length e ≤ length r
     whole r (u, sign, (v, letters, xs)) =
-        let from : Matches (some (one is_ascii_alphabetic)) m v = subst (λ (w : List ℕ). Matches (some (one is_ascii_alphabetic)) w v) (read_rest (word (codes "@")) s m u h sign) letters in
+        let from : Matches (some (one is_ascii_alphabetic)) m v = subst (λ (w : List ℕ). Matches (some (one is_ascii_alphabetic)) w v) (matched_rest (word (codes "@")) s m u h sign) letters in
         at v r (some_ends is_ascii_alphabetic m l v run from) (some_longest is_ascii_alphabetic m l v run from) xs
 
 pub no_tag : (s m : List ℕ) → MatchesOnly (word (codes "@")) s (Some m) → MatchesOnly (one is_ascii_alphabetic) m None → MatchesLongest lang_tag s None
 unfolding lang_tag
-no_tag s m h none = record { found = tt; longest = λ r x. absurd (not_read (one is_ascii_alphabetic) m x.2.1.0 none (subst (λ (u : List ℕ). Matches (one is_ascii_alphabetic) u x.2.1.0) (read_rest (word (codes "@")) s m x.0 h x.1) x.2.1.1)) }
+no_tag s m h none = record { found = tt; longest = λ r x. absurd (not_matched (one is_ascii_alphabetic) m x.2.1.0 none (subst (λ (u : List ℕ). Matches (one is_ascii_alphabetic) u x.2.1.0) (matched_rest (word (codes "@")) s m x.0 h x.1) x.2.1.1)) }
 
 pub no_at : (s : List ℕ) → MatchesOnly (word (codes "@")) s None → MatchesLongest lang_tag s None
 unfolding lang_tag
-no_at s h = record { found = tt; longest = λ r x. absurd (not_read (word (codes "@")) s x.0 h x.1) }
+no_at s h = record { found = tt; longest = λ r x. absurd (not_matched (word (codes "@")) s x.0 h x.1) }

@@ -30,19 +30,19 @@ use Rattle.turtle_lex.proofs.GroupLemmas.{kind_matches}
 use Rattle.turtle_lex.proofs.LawLemmas.{matches_its_texts, matches_all_its_texts}
 use Rattle.turtle_lex.proofs.TokenLemmas.{string_head}
 use Rattle.turtle_lex.proofs.WordLemmas.{at_prefix_tag, at_base_tag}
-use Rattle.turtle_lex.proofs.Utf8Lemmas.{Utf8Front, utf8_trans, matches_utf8, tokens_utf8, terminal_ascii, gap_ascii, last_gap_ascii}
+use Rattle.turtle_lex.proofs.Utf8Lemmas.{Utf8Prefix, utf8_trans, matches_utf8, tokens_utf8, terminal_ascii, gap_ascii, last_gap_ascii}
 
 -- UTF-8
-front_taken : (bytes : List ℕ) (at : ℕ) → Utf8Front bytes (drop at bytes) → IsUtf8 (take at bytes)
-front_taken bytes at (t, utf8, e) =
+prefix_taken : (bytes : List ℕ) (at : ℕ) → Utf8Prefix bytes (drop at bytes) → IsUtf8 (take at bytes)
+prefix_taken bytes at (t, utf8, e) =
     subst IsUtf8 (append_cancel_right t (take at bytes) (drop at bytes) (sym e ∙ sym (take-append-drop at bytes))) utf8
 
 pub tokens_end_text : TokensEndText
-tokens_end_text bytes ts to s x = front_taken bytes to (tokens_utf8 bytes ts 0 false to s x)
+tokens_end_text bytes ts to s x = prefix_taken bytes to (tokens_utf8 bytes ts 0 false to s x)
 
 pub bad_token_ends_text : BadTokenEndsText
 bad_token_ends_text bytes at (ts, e, s, x, h) =
-    front_taken bytes at (utf8_trans bytes (drop e bytes) (drop at bytes) (tokens_utf8 bytes ts 0 false e s x)
+    prefix_taken bytes at (utf8_trans bytes (drop e bytes) (drop at bytes) (tokens_utf8 bytes ts 0 false e s x)
     (matches_utf8 _ (drop e bytes) (drop at bytes) gap_ascii h.gap_before))
 
 pub tokens_are_text : TokensAreText
@@ -67,8 +67,11 @@ pattern_text p bytes token le x =
 
 string_text : (quote : Quote) (bytes : List ℕ) (token : Token) → token.from ≤ token.to → IsString quote (drop token.from bytes) (drop token.to bytes) → IsString quote (text_of bytes token) []
 string_text quote bytes token le (inl long) = inl (pattern_text (long_string quote) bytes token le long)
-string_text quote bytes token le (inr (short, none)) = inr (pattern_text (short_string quote) bytes token le short, λ m three.
-    none (m ++ drop token.to bytes) (sym (piece bytes token.from token.to le) ∙ ap (λ (t : List ℕ). t ++ drop token.to bytes) three))
+string_text quote bytes token le (inr (short, none)) = inr (
+  pattern_text (short_string quote) bytes token le short,
+  λ m three.
+      none (m ++ drop token.to bytes) (sym (piece bytes token.from token.to le) ∙ ap (λ (t : List ℕ). t ++ drop token.to bytes) three),
+)
 
 of_kind : (kind : TokenKind) (bytes : List ℕ) (token : Token) → token.from ≤ token.to → MatchesKind kind (drop token.from bytes) (drop token.to bytes) → MatchesKind kind (text_of bytes token) []
 of_kind Quoted bytes token le (quote, x) = (quote, string_text quote bytes token le x)

@@ -1,4 +1,4 @@
--- The token at the front of a text, as far as one group of kinds goes.
+-- The token at the start of a text, as far as one group of kinds goes.
 use Rattle.std.proofs.Common.{◌≡◌, ℕ, ◌<◌, ◌≤◌, Bool, true, ◌⊎◌, inl, inr, ⊎_elim, List, ◌∷◌, length, Some, None, refl, sym, ap, ◌∙◌, subst, arith}
 use Rattle.std.proofs.lemmas.Bool.{false≢true}
 use lib.Chars.{codes}
@@ -17,7 +17,7 @@ use Rattle.turtle_lex.specs.Runs.{IsRun}
 use Rattle.turtle_lex.specs.Numbers.{signed, IsLongestNumber, HasNoNumber}
 use Rattle.turtle_lex.specs.Tokens.{IsString, terminal, MatchesKind}
 use Rattle.turtle_lex.specs.Groups.{in_group, IsTokenOfGroup, HasNoTokenOf, kind_of, mark_kind}
-use Rattle.turtle_lex.proofs.Matching.{no_longer, not_read, read_rest, heads, same_rest, none_is_no_rest}
+use Rattle.turtle_lex.proofs.Matching.{no_longer, not_matched, matched_rest, heads, same_rest, none_is_no_rest}
 use Rattle.turtle_lex.proofs.FirstBytes.{excluded, at_least}
 use Rattle.turtle_lex.proofs.RunLemmas.{run_ends}
 
@@ -53,29 +53,29 @@ longest_matches p s m r h x = h.longest r x
 pub longest_none : (p : Pattern) (s r : List ℕ) → MatchesLongest p s None → Matches p s r → ⊥
 longest_none p s r h x = h.longest r x
 
--- after a word in front
+-- after a word at the start
 pub word_then : (w : List ℕ) (p : Pattern) (s m : List ℕ) (e : List ℕ) → MatchesOnly (word w) s (Some m) → MatchesLongest p m (Some e) → MatchesLongest (word w ∘ p) s (Some e)
 word_then w p s m e h k = record {
   found = (m, h.found, k.found);
-  longest = λ r x. k.longest r (subst (λ (u : List ℕ). Matches p u r) (read_rest (word w) s m x.0 h x.1) x.2);
+  longest = λ r x. k.longest r (subst (λ (u : List ℕ). Matches p u r) (matched_rest (word w) s m x.0 h x.1) x.2);
 }
 
 pub word_then_none : (w : List ℕ) (p : Pattern) (s m : List ℕ) → MatchesOnly (word w) s (Some m) → MatchesLongest p m None → MatchesLongest (word w ∘ p) s None
 word_then_none w p s m h k = record {
   found = tt;
-  longest = λ r x. k.longest r (subst (λ (u : List ℕ). Matches p u r) (read_rest (word w) s m x.0 h x.1) x.2);
+  longest = λ r x. k.longest r (subst (λ (u : List ℕ). Matches p u r) (matched_rest (word w) s m x.0 h x.1) x.2);
 }
 
 pub no_word_then : (w : List ℕ) (p : Pattern) (s : List ℕ) → MatchesOnly (word w) s None → MatchesLongest (word w ∘ p) s None
-no_word_then w p s h = record { found = tt; longest = λ r x. absurd (not_read (word w) s x.0 h x.1) }
+no_word_then w p s h = record { found = tt; longest = λ r x. absurd (not_matched (word w) s x.0 h x.1) }
 
 pub label_token : (s m e : List ℕ) → MatchesOnly (word (codes "_:")) s (Some m) → MatchesLongest label m (Some e) → IsTokenOfGroup (in_group Group.Labels) BlankLabel s e
 unfolding blank_label
 label_token s m e h k = let whole = word_then (codes "_:") label s m e h k in alone (in_group Group.Labels) BlankLabel s e only_Labels whole.found (λ r x. longest_matches blank_label s e r whole x)
 
-pub no_label_behind : (s m : List ℕ) → MatchesOnly (word (codes "_:")) s (Some m) → MatchesLongest label m None → HasNoTokenOf (in_group Group.Labels) s
+pub no_label_after : (s m : List ℕ) → MatchesOnly (word (codes "_:")) s (Some m) → MatchesLongest label m None → HasNoTokenOf (in_group Group.Labels) s
 unfolding blank_label
-no_label_behind s m h k = none_alone (in_group Group.Labels) BlankLabel s only_Labels (λ r x. longest_none blank_label s r (word_then_none (codes "_:") label s m h k) x)
+no_label_after s m h k = none_alone (in_group Group.Labels) BlankLabel s only_Labels (λ r x. longest_none blank_label s r (word_then_none (codes "_:") label s m h k) x)
 
 pub no_label_token : (s : List ℕ) → MatchesOnly (word (codes "_:")) s None → HasNoTokenOf (in_group Group.Labels) s
 unfolding blank_label
@@ -85,9 +85,9 @@ pub variable_token : (s m e : List ℕ) → MatchesOnly (word (codes "?")) s (So
 unfolding variable
 variable_token s m e h k = let whole = word_then (codes "?") label s m e h k in alone (in_group Group.Variables) Variable s e only_Variables whole.found (λ r x. longest_matches variable s e r whole x)
 
-pub no_variable_behind : (s m : List ℕ) → MatchesOnly (word (codes "?")) s (Some m) → MatchesLongest label m None → HasNoTokenOf (in_group Group.Variables) s
+pub no_variable_after : (s m : List ℕ) → MatchesOnly (word (codes "?")) s (Some m) → MatchesLongest label m None → HasNoTokenOf (in_group Group.Variables) s
 unfolding variable
-no_variable_behind s m h k = none_alone (in_group Group.Variables) Variable s only_Variables (λ r x. longest_none variable s r (word_then_none (codes "?") label s m h k) x)
+no_variable_after s m h k = none_alone (in_group Group.Variables) Variable s only_Variables (λ r x. longest_none variable s r (word_then_none (codes "?") label s m h k) x)
 
 pub no_variable_token : (s : List ℕ) → MatchesOnly (word (codes "?")) s None → HasNoTokenOf (in_group Group.Variables) s
 unfolding variable
@@ -128,10 +128,10 @@ no_string_token s h k = none_alone (in_group Group.Strings) Quoted s only_String
 anon_is : (s m b r : List ℕ) → MatchesOnly (word (codes "[")) s (Some m) → IsRun is_blank m b → Matches anon s r → Matches (word (codes "]")) b r
 unfolding anon is_blank
 anon_is s m b r h run x =
-    let blanks : Matches (many (one is_blank)) m x.2.0 = subst (λ (u : List ℕ). Matches (many (one is_blank)) u x.2.0) (read_rest (word (codes "[")) s m x.0 h x.1) x.2.1 in
+    let blanks : Matches (many (one is_blank)) m x.2.0 = subst (λ (u : List ℕ). Matches (many (one is_blank)) u x.2.0) (matched_rest (word (codes "[")) s m x.0 h x.1) x.2.1 in
     ⊎_elim
     (λ (same : x.2.0 ≡ b). subst (λ (u : List ℕ). Matches (word (codes "]")) u r) same x.2.2)
-    (λ (other : (w : List ℕ) × Matches (one is_blank) x.2.0 w). absurd (not_read (word (codes "]")) x.2.0 r (excluded (one is_blank) (word (codes "]")) x.2.0 other.0 refl other.1) x.2.2))
+    (λ (other : (w : List ℕ) × Matches (one is_blank) x.2.0 w). absurd (not_matched (word (codes "]")) x.2.0 r (excluded (one is_blank) (word (codes "]")) x.2.0 other.0 refl other.1) x.2.2))
     (run_ends is_blank m b x.2.0 run blanks)
 
 pub anon_token : (s m b e : List ℕ) → MatchesOnly (word (codes "[")) s (Some m) → IsRun is_blank m b → MatchesOnly (word (codes "]")) b (Some e) → IsTokenOfGroup (in_group Group.Squares) Anon s e
@@ -142,32 +142,32 @@ anon_token s m b e h run k = record { matches = (m, h.found, (b, run.found, k.fo
     inside = omega (arith, no_longer (many (one is_blank)) m b run.found, ap length k.found)
 
     longest : (j : TokenKind) (r : List ℕ) → in_group Group.Squares j ≡ true → MatchesKind j s r → length e ≤ length r
-    longest Anon r g x = omega (arith, ap length (read_rest (word (codes "]")) b e r k (anon_is s m b r h run x)))
-    longest OpenSquare r g x = omega (arith, inside, ap length (read_rest (word (codes "[")) s m r h x))
+    longest Anon r g x = omega (arith, ap length (matched_rest (word (codes "]")) b e r k (anon_is s m b r h run x)))
+    longest OpenSquare r g x = omega (arith, inside, ap length (matched_rest (word (codes "[")) s m r h x))
     longest j r g x = absurd (false≢true g)
 
     fixed : (j : TokenKind) → in_group Group.Squares j ≡ true → MatchesKind j s e → (j ≡ Anon) ⊎ (j ≡ LangTag)
     fixed Anon g x = inl refl
-    fixed OpenSquare g x = absurd (omega (arith, inside, ap length (read_rest (word (codes "[")) s m e h x)))
+    fixed OpenSquare g x = absurd (omega (arith, inside, ap length (matched_rest (word (codes "[")) s m e h x)))
     fixed j g x = absurd (false≢true g)
 
 pub open_square_token : (s m b : List ℕ) → MatchesOnly (word (codes "[")) s (Some m) → IsRun is_blank m b → MatchesOnly (word (codes "]")) b None → IsTokenOfGroup (in_group Group.Squares) OpenSquare s m
 open_square_token s m b h run k = record { matches = h.found; longest = longest; fixed = fixed }
   where
     longest : (j : TokenKind) (r : List ℕ) → in_group Group.Squares j ≡ true → MatchesKind j s r → length m ≤ length r
-    longest Anon r g x = absurd (not_read (word (codes "]")) b r k (anon_is s m b r h run x))
-    longest OpenSquare r g x = omega (arith, ap length (read_rest (word (codes "[")) s m r h x))
+    longest Anon r g x = absurd (not_matched (word (codes "]")) b r k (anon_is s m b r h run x))
+    longest OpenSquare r g x = omega (arith, ap length (matched_rest (word (codes "[")) s m r h x))
     longest j r g x = absurd (false≢true g)
 
     fixed : (j : TokenKind) → in_group Group.Squares j ≡ true → MatchesKind j s m → (j ≡ OpenSquare) ⊎ (j ≡ LangTag)
-    fixed Anon g x = absurd (not_read (word (codes "]")) b m k (anon_is s m b m h run x))
+    fixed Anon g x = absurd (not_matched (word (codes "]")) b m k (anon_is s m b m h run x))
     fixed OpenSquare g x = inl refl
     fixed j g x = absurd (false≢true g)
 
 pub no_square_token : (s : List ℕ) → MatchesOnly (word (codes "[")) s None → HasNoTokenOf (in_group Group.Squares) s
 unfolding anon
-no_square_token s h Anon r g x = not_read (word (codes "[")) s x.0 h x.1
-no_square_token s h OpenSquare r g x = not_read (word (codes "[")) s r h x
+no_square_token s h Anon r g x = not_matched (word (codes "[")) s x.0 h x.1
+no_square_token s h OpenSquare r g x = not_matched (word (codes "[")) s r h x
 no_square_token s h j r g x = false≢true g
 
 -- numbers
@@ -213,7 +213,7 @@ no_number_token s h j r g x = false≢true g
 -- a number that begins with a point has a digit after it
 pub beyond_point : (s e q : List ℕ) (n : Number) → Matches (signed n) s e → Matches (word (codes ".")) s q → length e < length q
 unfolding sign exponent is_sign
-beyond_point s e q Number.Integer x at = absurd (not_read (signed Number.Integer) s e (excluded (word (codes ".")) (signed Number.Integer) s q refl at) x)
+beyond_point s e q Number.Integer x at = absurd (not_matched (signed Number.Integer) s e (excluded (word (codes ".")) (signed Number.Integer) s q refl at) x)
 beyond_point s e q Number.Decimal x at = omega (arith, at_least (signed Number.Decimal) s e x, ap length at)
 beyond_point s e q Number.Double x at = omega (arith, at_least (signed Number.Double) s e x, ap length at)
 
@@ -241,7 +241,7 @@ dot_token s m h k = record { matches = k.found; longest = longest; fixed = fixed
     longest Integer r g x = absurd (h Number.Integer r (terminal_signed Number.Integer s r x))
     longest Decimal r g x = absurd (h Number.Decimal r (terminal_signed Number.Decimal s r x))
     longest Double r g x = absurd (h Number.Double r (terminal_signed Number.Double s r x))
-    longest Dot r g x = omega (arith, ap length (read_rest (word (codes ".")) s m r k x))
+    longest Dot r g x = omega (arith, ap length (matched_rest (word (codes ".")) s m r k x))
     longest j r g x = absurd (false≢true g)
 
     fixed : (j : TokenKind) → in_group Group.Dots j ≡ true → MatchesKind j s m → (j ≡ Dot) ⊎ (j ≡ LangTag)
@@ -255,7 +255,7 @@ pub no_dot_token : (s : List ℕ) → HasNoNumber signed s → MatchesOnly (word
 no_dot_token s h k Integer r g x = h Number.Integer r (terminal_signed Number.Integer s r x)
 no_dot_token s h k Decimal r g x = h Number.Decimal r (terminal_signed Number.Decimal s r x)
 no_dot_token s h k Double r g x = h Number.Double r (terminal_signed Number.Double s r x)
-no_dot_token s h k Dot r g x = not_read (word (codes ".")) s r k x
+no_dot_token s h k Dot r g x = not_matched (word (codes ".")) s r k x
 no_dot_token s h k j r g x = false≢true g
 
 -- marks
@@ -270,15 +270,15 @@ only_mark Mark.OpenBrace OpenBrace h = refl
 only_mark Mark.CloseBrace CloseBrace h = refl
 only_mark mark j h = absurd (false≢true h)
 
-mark_stands : (mark : Mark) (s r : List ℕ) → Matches (terminal (mark_kind mark)) s r → MatchesKind (mark_kind mark) s r
-mark_stands Mark.Carets s r x = x
-mark_stands Mark.Semicolon s r x = x
-mark_stands Mark.Comma s r x = x
-mark_stands Mark.CloseSquare s r x = x
-mark_stands Mark.OpenRound s r x = x
-mark_stands Mark.CloseRound s r x = x
-mark_stands Mark.OpenBrace s r x = x
-mark_stands Mark.CloseBrace s r x = x
+mark_matches_kind : (mark : Mark) (s r : List ℕ) → Matches (terminal (mark_kind mark)) s r → MatchesKind (mark_kind mark) s r
+mark_matches_kind Mark.Carets s r x = x
+mark_matches_kind Mark.Semicolon s r x = x
+mark_matches_kind Mark.Comma s r x = x
+mark_matches_kind Mark.CloseSquare s r x = x
+mark_matches_kind Mark.OpenRound s r x = x
+mark_matches_kind Mark.CloseRound s r x = x
+mark_matches_kind Mark.OpenBrace s r x = x
+mark_matches_kind Mark.CloseBrace s r x = x
 
 mark_matches : (mark : Mark) (s r : List ℕ) → MatchesKind (mark_kind mark) s r → Matches (terminal (mark_kind mark)) s r
 mark_matches Mark.Carets s r x = x
@@ -292,9 +292,9 @@ mark_matches Mark.CloseBrace s r x = x
 
 pub mark_token : (mark : Mark) (w s m : List ℕ) → terminal (mark_kind mark) ≡ word w → MatchesOnly (word w) s (Some m) → IsTokenOfGroup (in_group (Group.Marks mark)) (mark_kind mark) s m
 mark_token mark w s m is h = alone (in_group (Group.Marks mark)) (mark_kind mark) s m (only_mark mark)
-    (mark_stands mark s m (subst (λ (p : Pattern). Matches p s m) (sym is) h.found))
-    (λ r x. omega (arith, ap length (read_rest (word w) s m r h (subst (λ (p : Pattern). Matches p s r) is (mark_matches mark s r x)))))
+    (mark_matches_kind mark s m (subst (λ (p : Pattern). Matches p s m) (sym is) h.found))
+    (λ r x. omega (arith, ap length (matched_rest (word w) s m r h (subst (λ (p : Pattern). Matches p s r) is (mark_matches mark s r x)))))
 
 pub no_mark_token : (mark : Mark) (w s : List ℕ) → terminal (mark_kind mark) ≡ word w → MatchesOnly (word w) s None → HasNoTokenOf (in_group (Group.Marks mark)) s
 no_mark_token mark w s is h = none_alone (in_group (Group.Marks mark)) (mark_kind mark) s (only_mark mark)
-    (λ r x. not_read (word w) s r h (subst (λ (p : Pattern). Matches p s r) is (mark_matches mark s r x)))
+    (λ r x. not_matched (word w) s r h (subst (λ (p : Pattern). Matches p s r) is (mark_matches mark s r x)))

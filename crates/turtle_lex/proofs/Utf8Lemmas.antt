@@ -31,10 +31,10 @@ has_ascii_words (p ∣ q) = has_ascii_words p && has_ascii_words q
 has_ascii_words (many p) = has_ascii_words p
 
 -- the text begins with UTF-8, and r is left
-abbrev pub Utf8Front : List ℕ → List ℕ → Type 0
-Utf8Front s r = (t : List ℕ) × IsUtf8 t × (s ≡ t ++ r)
+abbrev pub Utf8Prefix : List ℕ → List ℕ → Type 0
+Utf8Prefix s r = (t : List ℕ) × IsUtf8 t × (s ≡ t ++ r)
 
-pub utf8_trans : (s m r : List ℕ) → Utf8Front s m → Utf8Front m r → Utf8Front s r
+pub utf8_trans : (s m r : List ℕ) → Utf8Prefix s m → Utf8Prefix m r → Utf8Prefix s r
 utf8_trans s m r (t, u, e) (t', u', e') = (t ++ t', IsUtf8-append t t' u u', e ∙ ap (λ (x : List ℕ). t ++ x) e' ∙ sym (append_assoc t t' r))
 
 ascii_list : (w : List ℕ) → list_all is_ascii w ≡ true → IsAscii w
@@ -62,11 +62,11 @@ hex_list [] h = refl
 hex_list (d ∷ ds) h = both (is_ascii d) (list_all is_ascii ds) (hex_low d (and_left (is_ascii_hexdigit d) (list_all is_ascii_hexdigit ds) h))
     (hex_list ds (and_right (is_ascii_hexdigit d) (list_all is_ascii_hexdigit ds) h))
 
-times_utf8 : (R : List ℕ → List ℕ → Type 0) → ((s r : List ℕ) → R s r → Utf8Front s r) → (n : ℕ) (s r : List ℕ) → Times R n s r → Utf8Front s r
+times_utf8 : (R : List ℕ → List ℕ → Type 0) → ((s r : List ℕ) → R s r → Utf8Prefix s r) → (n : ℕ) (s r : List ℕ) → Times R n s r → Utf8Prefix s r
 times_utf8 R h zero s r e = ([], IsUtf8-nil, e)
 times_utf8 R h (suc n) s r (m, x, xs) = utf8_trans s m r (h s m x) (times_utf8 R h n m r xs)
 
-pub matches_utf8 : (p : Pattern) (s r : List ℕ) → has_ascii_words p ≡ true → Matches p s r → Utf8Front s r
+pub matches_utf8 : (p : Pattern) (s r : List ℕ) → has_ascii_words p ≡ true → Matches p s r → Utf8Prefix s r
 matches_utf8 (word w) s r h e = (w, IsUtf8-from_ascii w (ascii_list w h), e)
 matches_utf8 (any_case w) s r h (t, same, e) = (t, IsUtf8-from_ascii t (ascii_list t (case_list w t h same)), e)
 matches_utf8 (one p) s r h (c, scalar, passes, e) = (encode_utf8 c, IsUtf8-encode c scalar, e)
@@ -118,7 +118,7 @@ pub last_gap_ascii : has_ascii_words last_gap ≡ true
 unfolding last_gap gap comment
 last_gap_ascii = refl
 
-pub tokens_utf8 : (bytes : List ℕ) (ts : List Token) (from : ℕ) (after_string : Bool) (e : ℕ) (s : Bool) → AreTokensTo bytes from after_string ts e s → Utf8Front (drop from bytes) (drop e bytes)
+pub tokens_utf8 : (bytes : List ℕ) (ts : List Token) (from : ℕ) (after_string : Bool) (e : ℕ) (s : Bool) → AreTokensTo bytes from after_string ts e s → Utf8Prefix (drop from bytes) (drop e bytes)
 tokens_utf8 bytes [] from after_string e s (at, string) = ([], IsUtf8-nil, ap (λ (n : ℕ). drop n bytes) at)
 tokens_utf8 bytes (t ∷ ts) from after_string e s (next, is_next, listed, rest) =
     utf8_trans (drop from bytes) (drop next.from bytes) (drop e bytes) (matches_utf8 gap (drop from bytes) (drop next.from bytes) gap_ascii is_next.gap_before)
@@ -132,7 +132,7 @@ first_character x y ([], (scalars, e)) less none = absurd (omega (arith, ap leng
 first_character x y (c ∷ cs, (scalars, e)) less none =
     none c (encode_utf8_all cs ++ y) (and_left (scalar c) (all_scalars cs) scalars) (ap (λ (t : List ℕ). t ++ y) (sym e) ∙ append_assoc (encode_utf8 c) (encode_utf8_all cs) y)
 
-valid_up_to : (bytes : List ℕ) (at : ℕ) → at < length bytes → Utf8Front bytes (drop at bytes) → HasNoFirstChar (drop at bytes) → IsValidUpTo bytes at
+valid_up_to : (bytes : List ℕ) (at : ℕ) → at < length bytes → Utf8Prefix bytes (drop at bytes) → HasNoFirstChar (drop at bytes) → IsValidUpTo bytes at
 valid_up_to bytes at less (t, utf8, e) none = record { short = less; front = front_is; longest = longest }
   where
     len : length t ≡ at

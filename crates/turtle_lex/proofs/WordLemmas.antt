@@ -15,7 +15,7 @@ use Rattle.turtle_lex.specs.Pattern.{word, one, many, Matches, MatchesOnly, Matc
 use Rattle.turtle_lex.specs.Terminals.{lang_tag, pn_prefix, pname_ns, pname_ln, pn_local, dotted, plx}
 use Rattle.turtle_lex.specs.Tokens.{terminal, MatchesKind}
 use Rattle.turtle_lex.specs.Groups.{in_group, is_word, IsTokenOfGroup, HasNoTokenOf}
-use Rattle.turtle_lex.proofs.Matching.{front, not_read, read_rest, heads}
+use Rattle.turtle_lex.proofs.Matching.{leaves_suffix, not_matched, matched_rest, heads}
 use Rattle.turtle_lex.proofs.FirstBytes.{excluded, at_least, and_left, and_right}
 
 -- letters are a LANGTAG after an `@`
@@ -45,8 +45,8 @@ at_prefix_tag s q x = tag_of_word 112 (codes "refix") s q refl x
 pub at_base_tag : (s q : List ℕ) → Matches (word (codes "@base")) s q → Matches lang_tag s q
 at_base_tag s q x = tag_of_word 98 (codes "ase") s q refl x
 
-pub tag_front : (s e : List ℕ) → MatchesLongest lang_tag s (Some e) → IsSuffix e s
-tag_front s e h = front lang_tag s e h.found
+pub tag_leaves_suffix : (s e : List ℕ) → MatchesLongest lang_tag s (Some e) → IsSuffix e s
+tag_leaves_suffix s e h = leaves_suffix lang_tag s e h.found
 
 pub plain_tag : (s e : List ℕ) → MatchesLongest lang_tag s (Some e) → (Matches (word (codes "@prefix")) s e → ⊥) → (Matches (word (codes "@base")) s e → ⊥) → IsTokenOfGroup (in_group Group.Tags) LangTag s e
 plain_tag s e h no_prefix no_base = record { matches = h.found; longest = longest; fixed = fixed }
@@ -88,33 +88,33 @@ word_matches kind s r g x = absurd (false≢true g)
 
 other_word : (kind j : TokenKind) (s m r : List ℕ) → is_word kind ≡ true → is_word j ≡ true → Matches (terminal kind) s m → Matches (terminal j) s r → j ≡ kind
 other_word A A s m r g h x y = refl
-other_word A True s m r g h x y = absurd (not_read (terminal True) s r (excluded (terminal A) (terminal True) s m refl x) y)
-other_word A False s m r g h x y = absurd (not_read (terminal False) s r (excluded (terminal A) (terminal False) s m refl x) y)
-other_word A Prefix s m r g h x y = absurd (not_read (terminal Prefix) s r (excluded (terminal A) (terminal Prefix) s m refl x) y)
-other_word A Base s m r g h x y = absurd (not_read (terminal Base) s r (excluded (terminal A) (terminal Base) s m refl x) y)
+other_word A True s m r g h x y = absurd (not_matched (terminal True) s r (excluded (terminal A) (terminal True) s m refl x) y)
+other_word A False s m r g h x y = absurd (not_matched (terminal False) s r (excluded (terminal A) (terminal False) s m refl x) y)
+other_word A Prefix s m r g h x y = absurd (not_matched (terminal Prefix) s r (excluded (terminal A) (terminal Prefix) s m refl x) y)
+other_word A Base s m r g h x y = absurd (not_matched (terminal Base) s r (excluded (terminal A) (terminal Base) s m refl x) y)
 other_word A j s m r g h x y = absurd (false≢true h)
-other_word True A s m r g h x y = absurd (not_read (terminal A) s r (excluded (terminal True) (terminal A) s m refl x) y)
+other_word True A s m r g h x y = absurd (not_matched (terminal A) s r (excluded (terminal True) (terminal A) s m refl x) y)
 other_word True True s m r g h x y = refl
-other_word True False s m r g h x y = absurd (not_read (terminal False) s r (excluded (terminal True) (terminal False) s m refl x) y)
-other_word True Prefix s m r g h x y = absurd (not_read (terminal Prefix) s r (excluded (terminal True) (terminal Prefix) s m refl x) y)
-other_word True Base s m r g h x y = absurd (not_read (terminal Base) s r (excluded (terminal True) (terminal Base) s m refl x) y)
+other_word True False s m r g h x y = absurd (not_matched (terminal False) s r (excluded (terminal True) (terminal False) s m refl x) y)
+other_word True Prefix s m r g h x y = absurd (not_matched (terminal Prefix) s r (excluded (terminal True) (terminal Prefix) s m refl x) y)
+other_word True Base s m r g h x y = absurd (not_matched (terminal Base) s r (excluded (terminal True) (terminal Base) s m refl x) y)
 other_word True j s m r g h x y = absurd (false≢true h)
-other_word False A s m r g h x y = absurd (not_read (terminal A) s r (excluded (terminal False) (terminal A) s m refl x) y)
-other_word False True s m r g h x y = absurd (not_read (terminal True) s r (excluded (terminal False) (terminal True) s m refl x) y)
+other_word False A s m r g h x y = absurd (not_matched (terminal A) s r (excluded (terminal False) (terminal A) s m refl x) y)
+other_word False True s m r g h x y = absurd (not_matched (terminal True) s r (excluded (terminal False) (terminal True) s m refl x) y)
 other_word False False s m r g h x y = refl
-other_word False Prefix s m r g h x y = absurd (not_read (terminal Prefix) s r (excluded (terminal False) (terminal Prefix) s m refl x) y)
-other_word False Base s m r g h x y = absurd (not_read (terminal Base) s r (excluded (terminal False) (terminal Base) s m refl x) y)
+other_word False Prefix s m r g h x y = absurd (not_matched (terminal Prefix) s r (excluded (terminal False) (terminal Prefix) s m refl x) y)
+other_word False Base s m r g h x y = absurd (not_matched (terminal Base) s r (excluded (terminal False) (terminal Base) s m refl x) y)
 other_word False j s m r g h x y = absurd (false≢true h)
-other_word Prefix A s m r g h x y = absurd (not_read (terminal A) s r (excluded (terminal Prefix) (terminal A) s m refl x) y)
-other_word Prefix True s m r g h x y = absurd (not_read (terminal True) s r (excluded (terminal Prefix) (terminal True) s m refl x) y)
-other_word Prefix False s m r g h x y = absurd (not_read (terminal False) s r (excluded (terminal Prefix) (terminal False) s m refl x) y)
+other_word Prefix A s m r g h x y = absurd (not_matched (terminal A) s r (excluded (terminal Prefix) (terminal A) s m refl x) y)
+other_word Prefix True s m r g h x y = absurd (not_matched (terminal True) s r (excluded (terminal Prefix) (terminal True) s m refl x) y)
+other_word Prefix False s m r g h x y = absurd (not_matched (terminal False) s r (excluded (terminal Prefix) (terminal False) s m refl x) y)
 other_word Prefix Prefix s m r g h x y = refl
-other_word Prefix Base s m r g h x y = absurd (not_read (terminal Base) s r (excluded (terminal Prefix) (terminal Base) s m refl x) y)
+other_word Prefix Base s m r g h x y = absurd (not_matched (terminal Base) s r (excluded (terminal Prefix) (terminal Base) s m refl x) y)
 other_word Prefix j s m r g h x y = absurd (false≢true h)
-other_word Base A s m r g h x y = absurd (not_read (terminal A) s r (excluded (terminal Base) (terminal A) s m refl x) y)
-other_word Base True s m r g h x y = absurd (not_read (terminal True) s r (excluded (terminal Base) (terminal True) s m refl x) y)
-other_word Base False s m r g h x y = absurd (not_read (terminal False) s r (excluded (terminal Base) (terminal False) s m refl x) y)
-other_word Base Prefix s m r g h x y = absurd (not_read (terminal Prefix) s r (excluded (terminal Base) (terminal Prefix) s m refl x) y)
+other_word Base A s m r g h x y = absurd (not_matched (terminal A) s r (excluded (terminal Base) (terminal A) s m refl x) y)
+other_word Base True s m r g h x y = absurd (not_matched (terminal True) s r (excluded (terminal Base) (terminal True) s m refl x) y)
+other_word Base False s m r g h x y = absurd (not_matched (terminal False) s r (excluded (terminal Base) (terminal False) s m refl x) y)
+other_word Base Prefix s m r g h x y = absurd (not_matched (terminal Prefix) s r (excluded (terminal Base) (terminal Prefix) s m refl x) y)
 other_word Base Base s m r g h x y = refl
 other_word Base j s m r g h x y = absurd (false≢true h)
 other_word kind j s m r g h x y = absurd (false≢true g)
@@ -123,16 +123,16 @@ pub word_found : (kind : TokenKind) (s m : List ℕ) → is_word kind ≡ true �
 word_found kind s m g h = record {
   matches = word_matches_kind kind s m g h.found;
   longest = λ j r i x. let same = other_word kind j s m r g i h.found (word_matches j s r i x) in
-      omega (arith, ap length (read_rest (terminal kind) s m r h (subst (λ (k : TokenKind). Matches (terminal k) s r) same (word_matches j s r i x))));
+      omega (arith, ap length (matched_rest (terminal kind) s m r h (subst (λ (k : TokenKind). Matches (terminal k) s r) same (word_matches j s r i x))));
   fixed = λ j i x. inl (other_word kind j s m m g i h.found (word_matches j s m i x));
 }
 
 pub no_word : (s : List ℕ) → MatchesOnly (terminal A) s None → MatchesOnly (terminal True) s None → MatchesOnly (terminal False) s None → MatchesOnly (terminal Prefix) s None → MatchesOnly (terminal Base) s None → HasNoTokenOf is_word s
-no_word s a b c d e A r g x = not_read (terminal A) s r a x
-no_word s a b c d e True r g x = not_read (terminal True) s r b x
-no_word s a b c d e False r g x = not_read (terminal False) s r c x
-no_word s a b c d e Prefix r g x = not_read (terminal Prefix) s r d x
-no_word s a b c d e Base r g x = not_read (terminal Base) s r e x
+no_word s a b c d e A r g x = not_matched (terminal A) s r a x
+no_word s a b c d e True r g x = not_matched (terminal True) s r b x
+no_word s a b c d e False r g x = not_matched (terminal False) s r c x
+no_word s a b c d e Prefix r g x = not_matched (terminal Prefix) s r d x
+no_word s a b c d e Base r g x = not_matched (terminal Base) s r e x
 no_word s a b c d e kind r g x = false≢true g
 
 -- a text without a colon
@@ -168,15 +168,15 @@ word_colon Prefix s q g x = (x.0, no_colon_case x.0 (ap (list_all is_no_colon) x
 word_colon Base s q g x = (x.0, no_colon_case x.0 (ap (list_all is_no_colon) x.1 ∙ refl), x.2)
 word_colon kind s q g x = absurd (false≢true g)
 
-ns_front : (s m : List ℕ) → Matches pname_ns s m → (t : List ℕ) × (s ≡ t ++ 58 ∷ m)
+ns_parts : (s m : List ℕ) → Matches pname_ns s m → (t : List ℕ) × (s ≡ t ++ 58 ∷ m)
 unfolding pname_ns
-ns_front s m (u, x, colon) =
-    elim x [ inl a ↦ (let f = front pn_prefix s u a in (f.0, sym f.1 ∙ ap (λ (v : List ℕ). f.0 ++ v) colon)) | inr same ↦ ([], same ∙ colon) ]
+ns_parts s m (u, x, colon) =
+    elim x [ inl a ↦ (let f = leaves_suffix pn_prefix s u a in (f.0, sym f.1 ∙ ap (λ (v : List ℕ). f.0 ++ v) colon)) | inr same ↦ ([], same ∙ colon) ]
 
 -- a name is longer than every fixed word that matches there
 word_shorter : (kind : TokenKind) (s m q : List ℕ) → is_word kind ≡ true → Matches pname_ns s m → MatchesKind kind s q → length m < length q
 word_shorter kind s m q g x y =
-    let t = ns_front s m x in let w = word_colon kind s q g y in
+    let t = ns_parts s m x in let w = word_colon kind s q g y in
     before_colon w.0 t.0 q m w.1 (sym w.2 ∙ t.1)
 
 local_shorter : (s e : List ℕ) → Matches pn_local s e → length e < length s
@@ -192,8 +192,8 @@ pname_ln_token s m e h k = record { matches = (m, h.found, k.found); longest = l
     less = local_shorter m e k.found
 
     longest : (j : TokenKind) (r : List ℕ) → in_group Group.Names j ≡ true → MatchesKind j s r → length e ≤ length r
-    longest PnameLn r g x = k.longest r (subst (λ (u : List ℕ). Matches pn_local u r) (read_rest pname_ns s m x.0 h x.1) x.2)
-    longest PnameNs r g x = omega (arith, less, ap length (read_rest pname_ns s m r h x))
+    longest PnameLn r g x = k.longest r (subst (λ (u : List ℕ). Matches pn_local u r) (matched_rest pname_ns s m x.0 h x.1) x.2)
+    longest PnameNs r g x = omega (arith, less, ap length (matched_rest pname_ns s m r h x))
     longest A r g x = omega (arith, less, word_shorter A s m r refl h.found x)
     longest True r g x = omega (arith, less, word_shorter True s m r refl h.found x)
     longest False r g x = omega (arith, less, word_shorter False s m r refl h.found x)
@@ -203,7 +203,7 @@ pname_ln_token s m e h k = record { matches = (m, h.found, k.found); longest = l
 
     fixed : (j : TokenKind) → in_group Group.Names j ≡ true → MatchesKind j s e → (j ≡ PnameLn) ⊎ (j ≡ LangTag)
     fixed PnameLn g x = inl refl
-    fixed PnameNs g x = absurd (omega (arith, less, ap length (read_rest pname_ns s m e h x)))
+    fixed PnameNs g x = absurd (omega (arith, less, ap length (matched_rest pname_ns s m e h x)))
     fixed A g x = absurd (omega (arith, less, word_shorter A s m e refl h.found x))
     fixed True g x = absurd (omega (arith, less, word_shorter True s m e refl h.found x))
     fixed False g x = absurd (omega (arith, less, word_shorter False s m e refl h.found x))
@@ -216,11 +216,11 @@ unfolding pname_ln
 pname_ns_token s m h k = record { matches = h.found; longest = longest; fixed = fixed }
   where
     no_ln : (r : List ℕ) → MatchesKind PnameLn s r → ⊥
-    no_ln r x = k.longest r (subst (λ (u : List ℕ). Matches pn_local u r) (read_rest pname_ns s m x.0 h x.1) x.2)
+    no_ln r x = k.longest r (subst (λ (u : List ℕ). Matches pn_local u r) (matched_rest pname_ns s m x.0 h x.1) x.2)
 
     longest : (j : TokenKind) (r : List ℕ) → in_group Group.Names j ≡ true → MatchesKind j s r → length m ≤ length r
     longest PnameLn r g x = absurd (no_ln r x)
-    longest PnameNs r g x = omega (arith, ap length (read_rest pname_ns s m r h x))
+    longest PnameNs r g x = omega (arith, ap length (matched_rest pname_ns s m r h x))
     longest A r g x = omega (arith, word_shorter A s m r refl h.found x)
     longest True r g x = omega (arith, word_shorter True s m r refl h.found x)
     longest False r g x = omega (arith, word_shorter False s m r refl h.found x)
@@ -244,8 +244,8 @@ unfolding pname_ln
 word_is_name kind s e none h = record { matches = h.matches; longest = longest; fixed = fixed }
   where
     longest : (j : TokenKind) (r : List ℕ) → in_group Group.Names j ≡ true → MatchesKind j s r → length e ≤ length r
-    longest PnameLn r g x = absurd (not_read pname_ns s x.0 none x.1)
-    longest PnameNs r g x = absurd (not_read pname_ns s r none x)
+    longest PnameLn r g x = absurd (not_matched pname_ns s x.0 none x.1)
+    longest PnameNs r g x = absurd (not_matched pname_ns s r none x)
     longest A r g x = h.longest A r refl x
     longest True r g x = h.longest True r refl x
     longest False r g x = h.longest False r refl x
@@ -254,8 +254,8 @@ word_is_name kind s e none h = record { matches = h.matches; longest = longest; 
     longest j r g x = absurd (false≢true g)
 
     fixed : (j : TokenKind) → in_group Group.Names j ≡ true → MatchesKind j s e → (j ≡ kind) ⊎ (j ≡ LangTag)
-    fixed PnameLn g x = absurd (not_read pname_ns s x.0 none x.1)
-    fixed PnameNs g x = absurd (not_read pname_ns s e none x)
+    fixed PnameLn g x = absurd (not_matched pname_ns s x.0 none x.1)
+    fixed PnameNs g x = absurd (not_matched pname_ns s e none x)
     fixed A g x = h.fixed A refl x
     fixed True g x = h.fixed True refl x
     fixed False g x = h.fixed False refl x
@@ -265,8 +265,8 @@ word_is_name kind s e none h = record { matches = h.matches; longest = longest; 
 
 pub no_word_no_name : (s : List ℕ) → MatchesOnly pname_ns s None → HasNoTokenOf is_word s → HasNoTokenOf (in_group Group.Names) s
 unfolding pname_ln
-no_word_no_name s none h PnameLn r g x = not_read pname_ns s x.0 none x.1
-no_word_no_name s none h PnameNs r g x = not_read pname_ns s r none x
+no_word_no_name s none h PnameLn r g x = not_matched pname_ns s x.0 none x.1
+no_word_no_name s none h PnameNs r g x = not_matched pname_ns s r none x
 no_word_no_name s none h A r g x = h A r refl x
 no_word_no_name s none h True r g x = h True r refl x
 no_word_no_name s none h False r g x = h False r refl x

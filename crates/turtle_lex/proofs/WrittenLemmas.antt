@@ -26,7 +26,7 @@ use Rattle.turtle_lex.specs.Tokens.{IsString, MatchesKind, IsToken, IsNext, kind
 use Rattle.turtle_lex.specs.Groups.{in_group, group_of, IsTokenOfGroup}
 use Rattle.turtle_lex.specs.Delimited.{part, close}
 use Rattle.turtle_lex.specs.Laws.{IsTextOf, EndsTerm, WrittenIri, WrittenString, WrittenLabel, WrittenTag, WrittenWords, WrittenTagAfterString, WrittenCarets, WrittenDot, NextIsToken}
-use Rattle.turtle_lex.proofs.Matching.{heads, word_found, read_rest}
+use Rattle.turtle_lex.proofs.Matching.{heads, word_found, matched_rest}
 use Rattle.turtle_lex.proofs.ByteLemmas.{keeps, ByteTest, kept, kept_ends}
 use Rattle.turtle_lex.proofs.GroupLemmas.{whole_token, token_shorter, blank_small}
 use Rattle.turtle_lex.proofs.LawLemmas.{free, matches_all_its_texts}
@@ -99,7 +99,7 @@ no_three quote text r m (u, first, (t, (n, xs), last)) none three = by n xs
     q : ℕ
     q = quote_char quote
 
-    -- behind the first quote
+    -- after the first quote
     inside : u ++ r ≡ q ∷ q ∷ m
     inside = (heads q q (u ++ r) (q ∷ q ∷ m) (sym (ap (λ (v : List ℕ). v ++ r) first) ∙ three)).1
 
@@ -256,7 +256,7 @@ pub written_dot : WrittenDot
 written_dot r ends = whole_token Dot 46 r r
     (dot_token (codes "." ++ r) r
     (λ n q x. let longer = beyond_point (codes "." ++ r) q r n x refl in
-      let within = before_blank (signed n) (codes ".") r q (signed_no_blank n) ends x in omega arith)
+    let within = before_blank (signed n) (codes ".") r q (signed_no_blank n) ends x in omega arith)
     (word_found (codes ".") (codes "." ++ r) r refl))
 
 -- the next token

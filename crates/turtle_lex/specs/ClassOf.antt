@@ -1,12 +1,17 @@
 -- The characters of each `Class`.
 use Rattle.std.specs.Prelude.{ℕ, Bool}
-use Rattle.std.specs.Char.{is_ascii_digit, is_ascii_hexdigit, is_ascii_alphabetic, is_ascii_alphanumeric}
+use Rattle.std.specs.Char.{is_ascii_digit, is_ascii_hexdigit, is_ascii_alphabetic}
+use Rattle.std.specs.Char.{is_ascii_alphanumeric}
 use Rattle.turtle_lex.specs.declared.classes.Class.{Class}
-use Rattle.turtle_lex.specs.declared.classes.Class.TheVariants.{Blank, LineEnd, InLine, InIri, InLineString}
-use Rattle.turtle_lex.specs.declared.classes.Class.TheVariants.{InLongString, Escaped, LocalEscaped, Digit, HexDigit}
-use Rattle.turtle_lex.specs.declared.classes.Class.TheVariants.{Letter, LetterOrDigit, Sign, ExponentMark}
+use Rattle.turtle_lex.specs.declared.classes.Class.TheVariants.{Blank, LineEnd, InLine, InIri}
+use Rattle.turtle_lex.specs.declared.classes.Class.TheVariants.{InLineString}
+use Rattle.turtle_lex.specs.declared.classes.Class.TheVariants.{InLongString, Escaped, LocalEscaped}
+use Rattle.turtle_lex.specs.declared.classes.Class.TheVariants.{Digit, HexDigit}
+use Rattle.turtle_lex.specs.declared.classes.Class.TheVariants.{Letter, LetterOrDigit, Sign}
+use Rattle.turtle_lex.specs.declared.classes.Class.TheVariants.{ExponentMark}
 use Rattle.turtle_lex.specs.declared.classes.Class.TheVariants.{NameBase, NameFirst, NamePart}
-use Rattle.turtle_lex.specs.Classes.{is_blank, is_line_end, is_in_line, is_iri_char, is_line_char, is_long_char}
+use Rattle.turtle_lex.specs.Classes.{is_blank, is_line_end, is_in_line, is_iri_char, is_line_char}
+use Rattle.turtle_lex.specs.Classes.{is_long_char}
 use Rattle.turtle_lex.specs.Classes.{is_escaped, is_local_escaped, is_sign, is_exponent_mark}
 use Rattle.turtle_lex.specs.Classes.{is_pn_chars_base, is_pn_chars_u, is_pn_chars}
 

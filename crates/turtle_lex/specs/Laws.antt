@@ -1,8 +1,10 @@
 -- What holds of all patterns, texts and tokens. Each law is the contract of a function of `laws`.
 use mathlib.Core.List.{IsPrefix}
 use lib.Chars.{codes}
-use Rattle.std.specs.Prelude.{◌≡◌, ◌≢◌, ◌↔◌, ◌⊎◌, ℕ, ◌+◌, ◌<◌, Bool, true, false, List, [], ◌∷◌, ◌++◌}
-use Rattle.std.specs.Prelude.{length, get_or, replicate, take, Option, Some, Result, Ok, Err, slice_range}
+use Rattle.std.specs.Prelude.{◌≡◌, ◌≢◌, ◌↔◌, ◌⊎◌, ℕ, ◌+◌, ◌<◌, Bool, true, false, List, [], ◌∷◌}
+use Rattle.std.specs.Prelude.{◌++◌}
+use Rattle.std.specs.Prelude.{length, get_or, replicate, take, Option, Some, Result, Ok, Err}
+use Rattle.std.specs.Prelude.{slice_range}
 use Rattle.std.specs.Str.{IsUtf8, IsValidUpTo}
 use Rattle.turtle_lex.specs.declared.classes.Quote.{Quote}
 use Rattle.turtle_lex.specs.declared.classes.Quote.TheVariants.{Double as DoubleQuote}
@@ -13,9 +15,11 @@ use Rattle.turtle_lex.specs.declared.token.LexFault.{LexFault}
 use Rattle.turtle_lex.specs.declared.token.LexFault.TheVariants.{NotText, BadToken}
 use Rattle.turtle_lex.specs.Classes.{quote_char, is_blank}
 use Rattle.turtle_lex.specs.Pattern.{Pattern, one, maybe, Matches}
-use Rattle.turtle_lex.specs.Terminals.{iri_ref, short_string, long_string, blank_label, lang_tag, pn_prefix, pname_ns}
+use Rattle.turtle_lex.specs.Terminals.{iri_ref, short_string, long_string, blank_label, lang_tag}
+use Rattle.turtle_lex.specs.Terminals.{pn_prefix, pname_ns}
 use Rattle.turtle_lex.specs.Terminals.{pn_local, pname_ln, gap}
-use Rattle.turtle_lex.specs.Tokens.{IsString, MatchesKind, IsToken, IsTokenOf, IsNext, IsAnswer, IsEnd, kind_after}
+use Rattle.turtle_lex.specs.Tokens.{IsString, MatchesKind, IsToken, IsTokenOf, IsNext, IsAnswer}
+use Rattle.turtle_lex.specs.Tokens.{IsEnd, kind_after}
 use Rattle.turtle_lex.specs.Tokens.{AreTokensTo, AreTokens, HasFault}
 
 -- Patterns
@@ -31,7 +35,8 @@ MatchesItsTexts = (pattern : Pattern) (s r : List ℕ) → Matches pattern s r
 
 -- Each of its texts it matches, whatever is left.
 abbrev pub MatchesAllItsTexts : Type 0
-MatchesAllItsTexts = (pattern : Pattern) (text r : List ℕ) → IsTextOf pattern text → Matches pattern (text ++ r) r
+MatchesAllItsTexts = (pattern : Pattern) (text r : List ℕ) → IsTextOf pattern text
+    → Matches pattern (text ++ r) r
 
 -- Answers and lists
 
@@ -42,7 +47,8 @@ HasOneAnswer = (bytes : List ℕ) (from : ℕ) (a b : Result (Option Token) LexF
 
 -- A text has at most one list of tokens.
 abbrev pub HasOneList : Type 0
-HasOneList = (bytes : List ℕ) (tokens others : List Token) → AreTokens bytes tokens → AreTokens bytes others
+HasOneList = (bytes : List ℕ) (tokens others : List Token) → AreTokens bytes tokens
+    → AreTokens bytes others
     → tokens ≡ others
 
 -- Tokens that were read are the first of those before the end of the text or its fault.
@@ -84,7 +90,8 @@ TokenTextIsOfKind = (bytes : List ℕ) (token : Token) → IsTokenOf bytes token
 
 -- The text of a token is UTF-8.
 abbrev pub TokenTextIsUtf8 : Type 0
-TokenTextIsUtf8 = (bytes : List ℕ) (token : Token) → IsTokenOf bytes token → IsUtf8 (text_of bytes token)
+TokenTextIsUtf8 = (bytes : List ℕ) (token : Token) → IsTokenOf bytes token
+    → IsUtf8 (text_of bytes token)
 
 -- three of these quotes begin the text
 abbrev pub StartsWithThree : Quote → List ℕ → Type 0
@@ -92,14 +99,16 @@ StartsWithThree quote s = IsPrefix (replicate 3 (quote_char quote)) s
 
 -- A String begins with its quote, and it is long exactly where three quotes begin it.
 abbrev pub StringStartsWithQuote : Type 0
-StringStartsWithQuote = (quote : Quote) (s r : List ℕ) → IsString quote s r → IsPrefix (quote_char quote ∷ []) s
+StringStartsWithQuote = (quote : Quote) (s r : List ℕ) → IsString quote s r
+    → IsPrefix (quote_char quote ∷ []) s
 
 abbrev pub ThreeQuotesAreLong : Type 0
 ThreeQuotesAreLong = (quote : Quote) (s r : List ℕ) → IsString quote s r → StartsWithThree quote s
     → Matches (long_string quote) s r
 
 abbrev pub FewerQuotesAreShort : Type 0
-FewerQuotesAreShort = (quote : Quote) (s r : List ℕ) → IsString quote s r → (StartsWithThree quote s → ⊥)
+FewerQuotesAreShort = (quote : Quote) (s r : List ℕ) → IsString quote s r
+    → (StartsWithThree quote s → ⊥)
     → Matches (short_string quote) s r
 
 -- no byte of the text is a colon
@@ -108,18 +117,21 @@ HasNoColon text = (i : ℕ) → i < length text → get_or text i 0 ≢ 58
 
 -- The first `:` splits a PNAME_LN into its prefix, which may be missing, and its PN_LOCAL.
 abbrev pub FirstColonSplitsName : Type 0
-FirstColonSplitsName = (prefix local : List ℕ) → HasNoColon prefix → IsTextOf pname_ln (prefix ++ 58 ∷ local)
+FirstColonSplitsName = (prefix local : List ℕ) → HasNoColon prefix
+    → IsTextOf pname_ln (prefix ++ 58 ∷ local)
     → IsTextOf (maybe pn_prefix) prefix × IsTextOf pn_local local
 
 -- A PNAME_NS ends in its first `:`.
 abbrev pub FirstColonEndsPrefix : Type 0
-FirstColonEndsPrefix = (prefix rest : List ℕ) → HasNoColon prefix → IsTextOf pname_ns (prefix ++ 58 ∷ rest)
+FirstColonEndsPrefix = (prefix rest : List ℕ) → HasNoColon prefix
+    → IsTextOf pname_ns (prefix ++ 58 ∷ rest)
     → IsTextOf (maybe pn_prefix) prefix × (rest ≡ [])
 
 -- Every PNAME_LN and every PNAME_NS has a `:`.
 abbrev pub NameHasColon : Type 0
 NameHasColon = (s r : List ℕ) → Matches pname_ns s r
-    → (prefix : List ℕ) × HasNoColon prefix × IsTextOf (maybe pn_prefix) prefix × (s ≡ prefix ++ 58 ∷ r)
+    → (prefix : List ℕ) × HasNoColon prefix × IsTextOf (maybe pn_prefix) prefix
+    × (s ≡ prefix ++ 58 ∷ r)
 
 -- Written terms
 
@@ -138,11 +150,13 @@ WrittenString = (quote : Quote) (text r : List ℕ) → IsTextOf (short_string q
 
 -- A text of BLANK_NODE_LABEL is the token before a blank.
 abbrev pub WrittenLabel : Type 0
-WrittenLabel = (text r : List ℕ) → IsTextOf blank_label text → EndsTerm r → IsToken Kind.BlankLabel (text ++ r) r
+WrittenLabel = (text r : List ℕ) → IsTextOf blank_label text → EndsTerm r
+    → IsToken Kind.BlankLabel (text ++ r) r
 
 -- A text of LANGTAG but `@prefix` and `@base` is the token before a blank.
 abbrev pub WrittenTag : Type 0
-WrittenTag = (text r : List ℕ) → IsTextOf lang_tag text → text ≢ codes "@prefix" → text ≢ codes "@base"
+WrittenTag = (text r : List ℕ) → IsTextOf lang_tag text → text ≢ codes "@prefix"
+    → text ≢ codes "@base"
     → EndsTerm r → IsToken Kind.LangTag (text ++ r) r
 
 -- `@prefix` and `@base` are the fixed words before a blank.
@@ -165,7 +179,8 @@ WrittenDot = (r : List ℕ) → EndsTerm r → IsToken Kind.Dot (codes "." ++ r)
 
 -- A token after blanks and comments is the next one, from their start on.
 abbrev pub NextIsToken : Type 0
-NextIsToken = (before blanks text r : List ℕ) (kind : TokenKind) → IsTextOf gap blanks → IsToken kind (text ++ r) r
+NextIsToken = (before blanks text r : List ℕ) (kind : TokenKind) → IsTextOf gap blanks
+    → IsToken kind (text ++ r) r
     → IsNext (before ++ (blanks ++ (text ++ r))) (length before) (record {
       kind = kind;
       from = length before + length blanks;

@@ -4,7 +4,6 @@ pub mod Terminals
 pub mod Tokens
 pub mod LexerState
 pub mod Laws
-
 -- internal: cited by private clauses alone
 pub mod ClassOf
 pub mod Delimited

@@ -6,7 +6,8 @@ use lib.Chars.{codes}
 use Rattle.turtle_lex.specs.declared.names.Parts.{Parts}
 use Rattle.turtle_lex.specs.declared.names.Parts.TheVariants.{Plain, Local}
 use Rattle.turtle_lex.specs.Classes.{is_pn_chars, is_pn_chars_u}
-use Rattle.turtle_lex.specs.Pattern.{Pattern, word, one, ◌∘◌, ◌∣◌, many, maybe, Matches, MatchesOnly}
+use Rattle.turtle_lex.specs.Pattern.{Pattern, word, one, ◌∘◌, ◌∣◌, many, maybe, Matches}
+use Rattle.turtle_lex.specs.Pattern.{MatchesOnly}
 use Rattle.turtle_lex.specs.Terminals.{plx, pn_prefix}
 
 -- HEX HEX
@@ -34,17 +35,18 @@ prefix_and_colon = pn_prefix ∘ word (codes ":")
 abbrev pub dot : Pattern
 dot = word (codes ".")
 
--- what may stand after the first part of a name
+-- what follows the first part of a name
 abbrev pub tail : Pattern → Pattern
 tail part = maybe (many (part ∣ dot) ∘ part)
 
--- The name goes on up to `end`, and the parts and dots up to `stop`.
+-- The name continues up to `end`, and the parts and dots up to `stop`.
 pub record IsTail (part : Pattern) (s end stop : List ℕ) : Type 0 where
   pub found : Matches (tail part) s end
   pub longest : (r : List ℕ) → Matches (tail part) s r → length end ≤ length r
   pub dots : IsSuffix stop end
   -- no other end has something else than a part or a dot after it
-  pub stops : (r : List ℕ) → Matches (tail part) s r → MatchesOnly part r None → MatchesOnly dot r None → r ≡ stop
+  pub stops : (r : List ℕ) → Matches (tail part) s r → MatchesOnly part r None
+      → MatchesOnly dot r None → r ≡ stop
 
 abbrev pub StartsWithAscii : List ℕ → Type 0
 StartsWithAscii [] = ⊥
@@ -52,8 +54,11 @@ StartsWithAscii (b ∷ s) = b < 128
 
 -- No prefix with its colon begins at an ASCII byte of s before stop.
 abbrev pub HasNoPrefixBefore : List ℕ → List ℕ → Type 0
-HasNoPrefixBefore s stop = (u r : List ℕ) → IsSuffix u s → length stop < length u → StartsWithAscii u → Matches prefix_and_colon u r → ⊥
+HasNoPrefixBefore s stop = (u r : List ℕ) → IsSuffix u s → length stop < length u
+    → StartsWithAscii u → Matches prefix_and_colon u r → ⊥
 
 -- A prefix that begins at an ASCII byte before stop has its colon there, and no dot before it.
 abbrev pub PrefixesEnd : List ℕ → List ℕ → List ℕ → Type 0
-PrefixesEnd s end stop = (u r : List ℕ) → IsSuffix u s → length stop < length u → StartsWithAscii u → Matches prefix_and_colon u r → (end ≡ stop) × Matches (word (codes ":")) stop r
+PrefixesEnd s end stop = (u r : List ℕ) → IsSuffix u s → length stop < length u
+    → StartsWithAscii u → Matches prefix_and_colon u r → (end ≡ stop)
+    × Matches (word (codes ":")) stop r

@@ -3,21 +3,29 @@ use Rattle.std.specs.Prelude.{◌≡◌, ℕ, ◌<◌, ◌≤◌, Bool, true, fa
 use Rattle.std.specs.Prelude.{Option, Some, None, Result, Ok, Err}
 use lib.Chars.{codes}
 use Rattle.turtle_lex.specs.declared.classes.Quote.{Quote}
-use Rattle.turtle_lex.specs.declared.classes.Quote.TheVariants.{Double as DoubleQuote, Single as SingleQuote}
+use Rattle.turtle_lex.specs.declared.classes.Quote.TheVariants.{Double as DoubleQuote}
+use Rattle.turtle_lex.specs.declared.classes.Quote.TheVariants.{Single as SingleQuote}
 use Rattle.turtle_lex.specs.declared.token.TokenKind.{TokenKind}
-use Rattle.turtle_lex.specs.declared.token.TokenKind.TheVariants.{IriRef, PnameNs, PnameLn, BlankLabel, LangTag}
-use Rattle.turtle_lex.specs.declared.token.TokenKind.TheVariants.{Integer, Decimal, Double, Quoted, Anon}
-use Rattle.turtle_lex.specs.declared.token.TokenKind.TheVariants.{AtPrefix, AtBase, Prefix, Base, A, True, False}
-use Rattle.turtle_lex.specs.declared.token.TokenKind.TheVariants.{Dot, Semicolon, Comma, Carets, OpenSquare}
-use Rattle.turtle_lex.specs.declared.token.TokenKind.TheVariants.{CloseSquare, OpenRound, CloseRound, OpenBrace}
+use Rattle.turtle_lex.specs.declared.token.TokenKind.TheVariants.{IriRef, PnameNs, PnameLn}
+use Rattle.turtle_lex.specs.declared.token.TokenKind.TheVariants.{BlankLabel, LangTag}
+use Rattle.turtle_lex.specs.declared.token.TokenKind.TheVariants.{Integer, Decimal, Double, Quoted}
+use Rattle.turtle_lex.specs.declared.token.TokenKind.TheVariants.{Anon}
+use Rattle.turtle_lex.specs.declared.token.TokenKind.TheVariants.{AtPrefix, AtBase, Prefix, Base, A}
+use Rattle.turtle_lex.specs.declared.token.TokenKind.TheVariants.{True, False}
+use Rattle.turtle_lex.specs.declared.token.TokenKind.TheVariants.{Dot, Semicolon, Comma, Carets}
+use Rattle.turtle_lex.specs.declared.token.TokenKind.TheVariants.{OpenSquare}
+use Rattle.turtle_lex.specs.declared.token.TokenKind.TheVariants.{CloseSquare, OpenRound}
+use Rattle.turtle_lex.specs.declared.token.TokenKind.TheVariants.{CloseRound, OpenBrace}
 use Rattle.turtle_lex.specs.declared.token.TokenKind.TheVariants.{CloseBrace, Variable}
 use Rattle.turtle_lex.specs.declared.token.Token.{Token}
 use Rattle.turtle_lex.specs.declared.token.LexFault.{LexFault}
 use Rattle.turtle_lex.specs.declared.token.LexFault.TheVariants.{NotText, BadToken, NoMemory}
 use Rattle.turtle_lex.specs.Classes.{is_blank}
 use Rattle.turtle_lex.specs.Pattern.{Pattern, word, any_case, one, ◌∣◌, Matches, HasNoFirstChar}
-use Rattle.turtle_lex.specs.Terminals.{quotes, iri_ref, short_string, long_string, blank_label, variable}
-use Rattle.turtle_lex.specs.Terminals.{pname_ns, pname_ln, lang_tag, integer, decimal, double, anon, gap, last_gap}
+use Rattle.turtle_lex.specs.Terminals.{quotes, iri_ref, short_string, long_string, blank_label}
+use Rattle.turtle_lex.specs.Terminals.{variable}
+use Rattle.turtle_lex.specs.Terminals.{pname_ns, pname_ln, lang_tag, integer, decimal, double, anon}
+use Rattle.turtle_lex.specs.Terminals.{gap, last_gap}
 
 -- the terminal or the fixed word of each kind
 abbrev pub terminal : TokenKind → Pattern
@@ -153,12 +161,14 @@ AreTokensTo bytes from after_string (token ∷ tokens) to string =
 -- The tokens of the bytes: after the last there are only blanks and comments.
 abbrev pub AreTokens : List ℕ → List Token → Type 0
 AreTokens bytes tokens =
-    (end : ℕ) × (string : Bool) × AreTokensTo bytes 0 false tokens end string × IsAnswer bytes end (Ok None)
+    (end : ℕ) × (string : Bool) × AreTokensTo bytes 0 false tokens end string
+    × IsAnswer bytes end (Ok None)
 
 -- The bytes have no tokens: after some tokens comes the fault.
 abbrev pub HasFault : List ℕ → LexFault → Type 0
 HasFault bytes fault =
-    (tokens : List Token) × (end : ℕ) × (string : Bool) × AreTokensTo bytes 0 false tokens end string
+    (tokens : List Token) × (end : ℕ) × (string : Bool)
+    × AreTokensTo bytes 0 false tokens end string
     × IsAnswer bytes end (Err fault)
 
 abbrev pub HasNoTokens : List ℕ → Type 0

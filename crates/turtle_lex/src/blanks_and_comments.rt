@@ -1,4 +1,4 @@
-//! What matches between two tokens.
+//! Blanks and comments, which lie between tokens.
 
 ghost use Rattle.std.specs.Prelude.{None, ◌≤◌, length, IfOk, IfErr};
 ghost use Rattle.turtle_lex.specs.Pattern.{◌∘◌, Matches, MatchesOnly, HasNoFirstChar};
@@ -9,11 +9,13 @@ use crate::classes::{Class, strip_one};
 use crate::escapes::strip_word;
 use crate::runs::strip_run;
 
-/// What follows the blanks and comments at the front, or as an `Err` what follows a comment there that has come to no
-/// end of its line.
+/// What follows the blanks and comments at the start, or as an `Err` what follows a comment that no
+/// end of its line ends.
 pub(crate) fn strip_gap(text: &[u8]) -> Result<&[u8], &[u8]>
-    ensures closed { IfOk result (λ rest. Matches gap text.now rest.now × MatchesOnly gap_start rest.now None) }
-    ensures open { IfErr result (λ rest. Matches (gap ∘ comment) text.now rest.now × HasNoFirstChar rest.now) }
+    ensures closed { IfOk result (λ rest. Matches gap text.now rest.now
+        × MatchesOnly gap_start rest.now None) }
+    ensures open { IfErr result (λ rest. Matches (gap ∘ comment) text.now rest.now
+        × HasNoFirstChar rest.now) }
 {
     let mut rest = text;
     loop {

@@ -1,4 +1,4 @@
-//! One character at the front of a text.
+//! The first character of a text.
 
 ghost use Rattle.std.specs.Prelude.{◌≡◌, ◌<◌, ◌++◌, List, ℕ, length, IfSome, IfNone};
 ghost use Rattle.std.specs.Char.{IsScalar, encode_utf8};
@@ -6,8 +6,8 @@ ghost use Rattle.turtle_lex.specs.Pattern.{HasNoFirstChar};
 
 use bstr::decode_utf8;
 
-/// The character that the text begins with, and what follows it. None comes exactly where the text is empty or begins
-/// with bytes that are no UTF-8.
+/// The first character of the text, and what follows it. Returns `None` exactly where the text is
+/// empty or begins with bytes that are no UTF-8.
 pub(crate) fn first_char(text: &[u8]) -> Option<(char, &[u8])>
     ensures found { IfSome result (λ p. IsScalar p.0 × (text.now ≡ encode_utf8 p.0 ++ p.1.now)) }
     ensures none { IfNone result (HasNoFirstChar text.now) }

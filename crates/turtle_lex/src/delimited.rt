@@ -1,4 +1,4 @@
-//! IRIREF and String: what matches between delimiters.
+//! IRIREF and String: what lies between delimiters.
 
 ghost use Rattle.std.specs.Prelude.{◌≡◌, ◌<◌, false, length, IfSome};
 ghost use Rattle.std.specs.Option.{option_copied};
@@ -8,9 +8,10 @@ ghost use Rattle.turtle_lex.specs.Terminals.{uchar, echar, iri_ref};
 ghost use Rattle.turtle_lex.specs.Delimited.{part, close, StringOnly};
 
 use crate::classes::{Class, Quote, strip_one};
-use crate::escapes::{strip_word, strip_escape, strip_uchar};
+use crate::escapes::{strip_escape, strip_uchar, strip_word};
+use crate::plain_run::strip_plain;
 
-/// The inside of an IRIREF, of a String between single quotes, or of one between three quotes.
+/// The content of an IRIREF, of a String between single quotes, or of one between three quotes.
 #[derive(Clone, Copy, Debug, PartialEq, Eq)]
 pub(crate) enum Content {
     Iri,
@@ -21,7 +22,8 @@ pub(crate) enum Content {
 /// What follows a character of the class, which has no backslash, or an escape.
 fn strip_char(text: &[u8], class: Class) -> Option<&[u8]>
     requires { in_class class 92 ≡ false }
-    ensures matches { MatchesOnly (one (in_class class) ∣ echar ∣ uchar) text.now (option_copied result) }
+    ensures matches { MatchesOnly (one (in_class class) ∣ echar
+        ∣ uchar) text.now (option_copied result) }
     ensures shorter { IfSome result (λ rest. length rest.now < length text.now) }
 {
     match strip_one(text, class) {
@@ -30,7 +32,8 @@ fn strip_char(text: &[u8], class: Class) -> Option<&[u8]>
     }
 }
 
-/// What follows one part of the inside of a String between three quotes: quotes, up to two, and what is no quote.
+/// What follows one part of the content of a String between three quotes: up to two quotes, and
+/// what is no quote.
 fn strip_long_part(text: &[u8], quote: Quote) -> Option<&[u8]>
     ensures matches { MatchesOnly (part (Content.Long quote)) text.now (option_copied result) }
     ensures shorter { IfSome result (λ rest. length rest.now < length text.now) }
@@ -45,7 +48,7 @@ fn strip_long_part(text: &[u8], quote: Quote) -> Option<&[u8]>
     }
 }
 
-/// What follows one part of the inside.
+/// What follows one part of the content.
 fn strip_part(text: &[u8], inside: Content) -> Option<&[u8]>
     ensures matches { MatchesOnly (part inside) text.now (option_copied result) }
     ensures shorter { IfSome result (λ rest. length rest.now < length text.now) }
@@ -60,7 +63,7 @@ fn strip_part(text: &[u8], inside: Content) -> Option<&[u8]>
     }
 }
 
-/// What follows the end of the inside.
+/// What follows the closing delimiter.
 fn strip_close(text: &[u8], inside: Content) -> Option<&[u8]>
     ensures matches { MatchesOnly (close inside) text.now (option_copied result) }
     ensures shorter { IfSome result (λ rest. length rest.now < length text.now) }
@@ -75,17 +78,18 @@ fn strip_close(text: &[u8], inside: Content) -> Option<&[u8]>
     }
 }
 
-/// What follows the inside and its end.
+/// What follows the content and its closing delimiter.
 fn strip_inside(text: &[u8], inside: Content) -> Option<&[u8]>
-    ensures matches { MatchesOnly (many (part inside) ∘ close inside) text.now (option_copied result) }
+    ensures matches { MatchesOnly (many (part inside)
+        ∘ close inside) text.now (option_copied result) }
     ensures shorter { IfSome result (λ rest. length rest.now < length text.now) }
 {
-    let mut rest = text;
+    let mut rest = strip_plain(text, inside);
     loop {
         match strip_close(rest, inside) {
             Some(after) => return Some(after),
             None => match strip_part(rest, inside) {
-                Some(after) => rest = after,
+                Some(after) => rest = strip_plain(after, inside),
                 None => return None,
             },
         }

@@ -1,6 +1,7 @@
-//! Words and escapes at the front of a text.
+//! Words and escapes at the start of a text.
 
-ghost use Rattle.std.specs.Prelude.{◌≡◌, ◌<◌, ◌≤◌, ◌+◌, ◌*◌, true, false, length, IfSome, IfNone, codes};
+ghost use Rattle.std.specs.Prelude.{◌≡◌, ◌<◌, ◌≤◌, ◌+◌, ◌*◌, true, false, length, IfSome, IfNone};
+ghost use Rattle.std.specs.Prelude.{codes};
 ghost use Rattle.std.specs.Option.{option_copied};
 ghost use Rattle.std.specs.List.{list_all};
 ghost use Rattle.std.specs.Char.{is_ascii_hexdigit, digit_value};
@@ -9,12 +10,13 @@ ghost use Rattle.turtle_lex.specs.Terminals.{uchar, echar};
 
 use crate::classes::{Class, strip_one};
 
-/// What follows a word at the front.
-pub(crate) fn strip_word<'a>(text: &'a [u8], front: &[u8]) -> Option<&'a [u8]>
-    ensures matches { MatchesOnly (word front.now) text.now (option_copied result) }
-    ensures shorter { IfSome result (λ rest. length rest.now + length front.now ≡ length text.now) }
+/// What follows a word at the start.
+pub(crate) fn strip_word<'a>(text: &'a [u8], spelling: &[u8]) -> Option<&'a [u8]>
+    ensures matches { MatchesOnly (word spelling.now) text.now (option_copied result) }
+    ensures shorter { IfSome result (λ rest.
+        length rest.now + length spelling.now ≡ length text.now) }
 {
-    text.strip_prefix(front)
+    text.strip_prefix(spelling)
 }
 
 /// The value of a hexadecimal digit.
@@ -31,10 +33,11 @@ fn hex_digit(b: u8) -> Option<u32>
     }
 }
 
-/// The number that hexadecimal digits stand for.
+/// The number that hexadecimal digits represent.
 fn hex_number(digits: &[u8]) -> Option<u32>
     requires { length digits.now ≤ 8 }
-    ensures value { IfSome result (λ n. (list_all is_ascii_hexdigit digits.now ≡ true) × (n ≡ hex_value 0 digits.now)) }
+    ensures value { IfSome result (λ n. (list_all is_ascii_hexdigit digits.now ≡ true)
+        × (n ≡ hex_value 0 digits.now)) }
     ensures none { IfNone result (list_all is_ascii_hexdigit digits.now ≡ false) }
 {
     let mut number = 0;
@@ -44,7 +47,7 @@ fn hex_number(digits: &[u8]) -> Option<u32>
     Some(number)
 }
 
-/// What follows so many hexadecimal digits, which stand for a character.
+/// What follows `count` hexadecimal digits that represent a character.
 fn strip_number(text: &[u8], count: usize) -> Option<&[u8]>
     requires { count ≤ 8 }
     ensures matches { MatchesOnly (number count) text.now (option_copied result) }

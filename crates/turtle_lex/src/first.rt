@@ -1,4 +1,4 @@
-//! The first token of a text from a place on.
+//! The first token of a text from a position on.
 
 ghost use mathlib.Core.List.{IsSuffix};
 ghost use Rattle.std.specs.Prelude.{◌≡◌, ◌-◌, ◌≤◌, length, Result, Option, IfOk, IfSome};
@@ -8,13 +8,13 @@ ghost use Rattle.turtle_lex.specs.declared.token.Token.{Token};
 ghost use Rattle.turtle_lex.specs.declared.token.LexFault.{LexFault};
 ghost use Rattle.turtle_lex.specs.WithoutToken.{IsAnswerWithoutToken};
 
-use crate::chars::first_char;
 use crate::blanks_and_comments::strip_gap;
+use crate::chars::first_char;
 use crate::lexer::Lexer;
 use crate::scan::token_at;
 use crate::token::{LexFault, Token};
 
-/// The answer where no token matches at the rest.
+/// The answer where the rest begins with no token.
 fn without_token(bytes: &[u8], rest: &[u8]) -> Result<Option<Token>, LexFault>
     requires { IsSuffix rest.now bytes.now }
     ensures { IsAnswerWithoutToken bytes.now rest.now result }
@@ -29,8 +29,13 @@ fn without_token(bytes: &[u8], rest: &[u8]) -> Result<Option<Token>, LexFault>
     }
 }
 
-/// The first token of the text, which is an end of the bytes. It is known that no prefix begins before `no_prefix_before`.
-pub(crate) fn first_token(bytes: &[u8], text: &[u8], no_prefix_before: &[u8]) -> Result<Option<Token>, LexFault>
+/// The first token of the text, a suffix of the bytes, in which no prefix begins before
+/// `no_prefix_before`.
+pub(crate) fn first_token(
+    bytes: &[u8],
+    text: &[u8],
+    no_prefix_before: &[u8],
+) -> Result<Option<Token>, LexFault>
     requires suffix { IsSuffix text.now bytes.now }
     requires known { HasNoPrefixBefore text.now no_prefix_before.now }
     ensures { IsAnswer bytes.now (length bytes.now - length text.now) result }
@@ -48,13 +53,16 @@ pub(crate) fn first_token(bytes: &[u8], text: &[u8], no_prefix_before: &[u8]) ->
     }
 }
 
-/// The first token of the text from `from` on. `None` comes exactly where only blanks and comments are left, and a fault
-/// exactly where the text from there has no first token. `@prefix` and `@base` are the fixed words here.
+/// The first token of the text from `from` on. Returns `None` exactly where only blanks and
+/// comments are left, and a fault exactly where the text from there has no first token. `@prefix`
+/// and `@base` are the fixed words here, also after a String: see
+/// [`listed_token`](crate::listed_token).
 pub fn next_token(bytes: &[u8], from: usize) -> Result<Option<Token>, LexFault>
     requires { from ≤ length bytes.now }
     ensures answer { IsAnswer bytes.now from result }
     ensures of_bytes { IfOk result (λ o. IfSome o (IsTokenOf bytes.now)) }
-    ensures only { (other : Result (Option Token) LexFault) → IsAnswer bytes.now from other → other ≡ result }
+    ensures only { (other : Result (Option Token) LexFault) → IsAnswer bytes.now from other
+        → other ≡ result }
 {
     let mut lexer = Lexer::at(bytes, from);
     lexer.next_token()

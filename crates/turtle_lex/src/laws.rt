@@ -9,7 +9,8 @@ ghost use Rattle.turtle_lex.specs.Laws.{TokenTextIsUtf8, StringStartsWithQuote, 
 ghost use Rattle.turtle_lex.specs.Laws.{FewerQuotesAreShort, NameHasColon, FirstColonSplitsName};
 ghost use Rattle.turtle_lex.specs.Laws.{FirstColonEndsPrefix, WrittenIri, WrittenString};
 ghost use Rattle.turtle_lex.specs.Laws.{WrittenLabel, WrittenTag, WrittenWords};
-ghost use Rattle.turtle_lex.specs.Laws.{WrittenTagAfterString, WrittenCarets, WrittenDot, NextIsToken};
+ghost use Rattle.turtle_lex.specs.Laws.{WrittenTagAfterString, WrittenCarets, WrittenDot};
+ghost use Rattle.turtle_lex.specs.Laws.{NextIsToken};
 
 /// A pattern matches exactly its texts, whatever follows them.
 pub fn matches_texts()
@@ -33,7 +34,8 @@ pub fn first_tokens()
 {}
 
 /// What of a text is UTF-8: all of it where it has tokens, the bytes up to the last token that was
-/// read, and the bytes before a fault, which for [`NotText`](crate::LexFault::NotText) can't be more.
+/// read, and the bytes before a fault, which for [`NotText`](crate::LexFault::NotText) can't be
+/// more.
 pub fn utf8()
     ensures tokens { TokensAreText }
     ensures so_far { TokensEndText }

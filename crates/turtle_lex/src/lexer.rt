@@ -1,14 +1,19 @@
-//! A lexer that takes one token after another.
+//! A lexer that returns one token after another.
 
 ghost use Rattle.turtle_lex.specs.Names.{HasNoPrefixBefore};
 
-use crate::names::no_prefix_up_to;
 use crate::first::first_token;
+use crate::names::no_prefix_up_to;
 use crate::token::{LexFault, Token, TokenKind};
 use std::marker::Model;
 
-/// A place before which no prefix begins, once the text begins with a token of this kind, and `no_prefix_before` is such a place.
-fn no_prefix_after_token<'a>(text: &'a [u8], kind: TokenKind, no_prefix_before: &'a [u8]) -> &'a [u8]
+/// A suffix of the text before which no prefix begins, where the text begins with a token of this
+/// kind and `no_prefix_before` is such a suffix.
+fn no_prefix_after_token<'a>(
+    text: &'a [u8],
+    kind: TokenKind,
+    no_prefix_before: &'a [u8],
+) -> &'a [u8]
     requires { HasNoPrefixBefore text.now no_prefix_before.now }
     ensures { HasNoPrefixBefore text.now result.now }
 {
@@ -19,11 +24,11 @@ fn no_prefix_after_token<'a>(text: &'a [u8], kind: TokenKind, no_prefix_before: 
     }
 }
 
-/// Takes the tokens of some bytes one after another.
+/// Returns the tokens of some bytes one after another.
 ///
-/// It gives what [`next_token`](crate::next_token) gives at the place that it has come to. It also keeps what it has
-/// learnt of names, so that all its calls together look at each byte a bounded number of times: in `aaaa` each `a` is a
-/// token, but only since no colon follows.
+/// It returns what [`next_token`](crate::next_token) returns at its position. It also keeps where
+/// the next prefix may begin, so that all its calls together look at each byte a bounded number of
+/// times: in `aaaa` each `a` is a token only because no colon follows.
 #[derive(Drop)]
 pub struct Lexer<'a> {
     bytes: &'a [u8],
@@ -73,17 +78,23 @@ impl<'a> Lexer<'a> {
         Lexer::at(bytes, 0)
     }
 
-    /// The next token. `None` and each fault leave the lexer where it is, so they come again.
+    /// The next token. `None` and each fault leave the position, so they come again. `@prefix` and
+    /// `@base` are the fixed words, also after a String: see [`listed_token`](crate::listed_token).
     pub fn next_token(&mut self) -> Result<Option<Token>, LexFault>
         ensures answer { IsAnswer self.old.bytes self.old.from result }
         ensures of_bytes { IfOk result (λ o. IfSome o (IsTokenOf self.old.bytes)) }
-        ensures only { (other : Result (Option Token) LexFault) → IsAnswer self.old.bytes self.old.from other → other ≡ result }
+        ensures only { (other : Result (Option Token) LexFault)
+            → IsAnswer self.old.bytes self.old.from other → other ≡ result }
         ensures bytes { self.new.bytes ≡ self.old.bytes }
         ensures from { self.new.from ≡ position_after result self.old.from }
     {
         let answer = first_token(self.bytes, self.text, self.no_prefix_before)?;
         if let Some(token) = answer {
-            self.no_prefix_before = no_prefix_after_token(self.bytes.split_at(token.from).1, token.kind, self.no_prefix_before);
+            self.no_prefix_before = no_prefix_after_token(
+                self.bytes.split_at(token.from).1,
+                token.kind,
+                self.no_prefix_before,
+            );
             self.text = self.bytes.split_at(token.to).1;
         }
         Ok(answer)

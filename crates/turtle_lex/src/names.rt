@@ -5,12 +5,14 @@ ghost use Rattle.std.specs.Option.{option_copied};
 ghost use Rattle.turtle_lex.specs.Pattern.{MatchesOnly, MatchesLongest};
 ghost use Rattle.turtle_lex.specs.Terminals.{plx, label, pn_local, pname_ns};
 ghost use Rattle.turtle_lex.specs.declared.names.Parts.TheVariants as Parts;
-ghost use Rattle.turtle_lex.specs.Names.{HasNoPrefixBefore, PrefixesEnd, two_digits, colon_or_plx, name_part, IsTail, label_first, local_first, prefix_and_colon};
+ghost use Rattle.turtle_lex.specs.Names.{HasNoPrefixBefore, PrefixesEnd, two_digits, colon_or_plx};
+ghost use Rattle.turtle_lex.specs.Names.{name_part, IsTail, label_first, local_first};
+ghost use Rattle.turtle_lex.specs.Names.{prefix_and_colon};
 
 use crate::classes::{Class, strip_one};
 use crate::escapes::strip_word;
 
-/// What a name is made of after its first part, beside dots: PN_CHARS, and in a local name colons and PLX too.
+/// The parts of a name after its first, beside dots: PN_CHARS, and in a local name colons and PLX.
 #[derive(Clone, Copy, Debug, PartialEq, Eq)]
 pub(crate) enum Parts {
     Plain,
@@ -67,7 +69,7 @@ fn strip_name_part(text: &[u8], parts: Parts) -> Option<&[u8]>
     }
 }
 
-/// Where a name ends of which the first part is read, and where its parts and dots do.
+/// Where a name ends after its first part, and where its parts and dots end.
 fn strip_tail(text: &[u8], parts: Parts) -> (&[u8], &[u8])
     ensures name { IsTail (name_part parts) text.now result.0.now result.1.now }
     ensures prefixes { parts ≡ Parts.Plain → PrefixesEnd text.now result.0.now result.1.now }
@@ -113,7 +115,7 @@ fn strip_local_first(text: &[u8]) -> Option<&[u8]>
     }
 }
 
-/// What follows the longest label, as matches after `_:` or `?`.
+/// What follows the longest label, as after `_:` or `?`.
 pub(crate) fn strip_label(text: &[u8]) -> Option<&[u8]>
     ensures { MatchesLongest label text.now (option_copied result) }
 {
@@ -160,7 +162,7 @@ fn strip_any_pname_ns(text: &[u8]) -> Option<&[u8]>
     }
 }
 
-/// What follows a PNAME_NS, where it is known that no prefix begins before `no_prefix_before`.
+/// What follows a PNAME_NS, where no prefix begins before `no_prefix_before`.
 pub(crate) fn strip_pname_ns<'a>(text: &'a [u8], no_prefix_before: &[u8]) -> Option<&'a [u8]>
     requires { HasNoPrefixBefore text.now no_prefix_before.now }
     ensures { MatchesOnly pname_ns text.now (option_copied result) }
@@ -171,10 +173,10 @@ pub(crate) fn strip_pname_ns<'a>(text: &'a [u8], no_prefix_before: &[u8]) -> Opt
     strip_any_pname_ns(text)
 }
 
-/// A place before which no prefix begins, as far as the parts and dots at the front of the text tell.
+/// A suffix of the text before which no prefix begins, by the parts and dots at its start.
 ///
-/// In `aaaa` each `a` is a token, since no colon follows. With this place known, the text is looked through for that
-/// colon once, and not again for each token.
+/// In `aaaa` each `a` is a token, since no colon follows. With this suffix known, the text is
+/// searched for that colon once, and not again for each token.
 pub(crate) fn no_prefix_up_to(text: &[u8]) -> &[u8]
     ensures { HasNoPrefixBefore text.now result.now }
 {

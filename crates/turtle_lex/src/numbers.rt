@@ -1,6 +1,7 @@
 //! INTEGER, DECIMAL and DOUBLE.
 
-ghost use Rattle.std.specs.Prelude.{◌≡◌, ◌<◌, ◌≤◌, ◌≢◌, ◌⊎◌, None, Some, length, codes, IfSome, IfNone};
+ghost use Rattle.std.specs.Prelude.{◌≡◌, ◌<◌, ◌≤◌, ◌≢◌, ◌⊎◌, None, Some, length, codes, IfSome};
+ghost use Rattle.std.specs.Prelude.{IfNone};
 ghost use Rattle.std.specs.Option.{option_copied};
 ghost use Rattle.std.specs.Char.{is_ascii_digit};
 ghost use Rattle.turtle_lex.specs.Pattern.{word, MatchesOnly, MatchesLongest};
@@ -42,7 +43,8 @@ fn strip_exponent(text: &[u8]) -> Option<&[u8]>
     }
 }
 
-/// The longest number without a sign at the front of a text, whose digits end at `digits`, where no point is.
+/// The longest number without a sign at the start of a text, whose digits end at `digits`, before
+/// anything but a point.
 fn whole_number<'a>(text: &'a [u8], digits: &'a [u8]) -> Option<(Number, &'a [u8])>
     requires run { IsRun is_ascii_digit text.now digits.now }
     requires no_longer { length digits.now ≤ length text.now }
@@ -59,7 +61,8 @@ fn whole_number<'a>(text: &'a [u8], digits: &'a [u8]) -> Option<(Number, &'a [u8
     }
 }
 
-/// The longest number without a sign at the front of a text, whose digits end at `digits`, where a point is.
+/// The longest number without a sign at the start of a text, whose digits end at `digits`, before a
+/// point.
 fn pointed_number<'a>(
     text: &'a [u8],
     digits: &'a [u8],
@@ -87,7 +90,7 @@ fn pointed_number<'a>(
     }
 }
 
-/// The longest number without a sign at the front of a text.
+/// The longest number without a sign at the start of a text.
 fn unsigned_number(text: &[u8]) -> Option<(Number, &[u8])>
     ensures found { IfSome result (λ n. IsLongestNumber body n.0 text.now n.1.now) }
     ensures none { IfNone result (HasNoNumber body text.now) }
@@ -99,7 +102,7 @@ fn unsigned_number(text: &[u8]) -> Option<(Number, &[u8])>
     }
 }
 
-/// The longest number at the front of a text.
+/// The longest number at the start of a text.
 pub(crate) fn longest_number(text: &[u8]) -> Option<(Number, &[u8])>
     ensures found { IfSome result (λ n. IsLongestNumber signed n.0 text.now n.1.now) }
     ensures none { IfNone result (HasNoNumber signed text.now) }

@@ -1,4 +1,4 @@
-//! The token at the front of a text, by the kinds that its first byte may begin.
+//! The token at the start of a text, by the kinds that its first byte may begin.
 
 ghost use mathlib.Core.List.{IsSuffix};
 ghost use Rattle.std.specs.Prelude.{◌≡◌, Some, None, IfSome, IfNone, MatchBool};
@@ -33,7 +33,8 @@ fn iri_token(text: &[u8]) -> Option<(TokenKind, &[u8])>
 
 /// String.
 fn string_token(text: &[u8]) -> Option<(TokenKind, &[u8])>
-    ensures found { IfSome result (λ t. IsTokenOfGroup (in_group Group.Strings) t.0 text.now t.1.now) }
+    ensures found { IfSome result (λ t.
+        IsTokenOfGroup (in_group Group.Strings) t.0 text.now t.1.now) }
     ensures none { IfNone result (HasNoTokenOf (in_group Group.Strings) text.now) }
 {
     match strip_string(text, Quote::Double) {
@@ -47,7 +48,8 @@ fn string_token(text: &[u8]) -> Option<(TokenKind, &[u8])>
 
 /// BLANK_NODE_LABEL.
 fn blank_label_token(text: &[u8]) -> Option<(TokenKind, &[u8])>
-    ensures found { IfSome result (λ t. IsTokenOfGroup (in_group Group.Labels) t.0 text.now t.1.now) }
+    ensures found { IfSome result (λ t.
+        IsTokenOfGroup (in_group Group.Labels) t.0 text.now t.1.now) }
     ensures none { IfNone result (HasNoTokenOf (in_group Group.Labels) text.now) }
 {
     match strip_word(text, b"_:") {
@@ -61,7 +63,8 @@ fn blank_label_token(text: &[u8]) -> Option<(TokenKind, &[u8])>
 
 /// A variable.
 fn variable_token(text: &[u8]) -> Option<(TokenKind, &[u8])>
-    ensures found { IfSome result (λ t. IsTokenOfGroup (in_group Group.Variables) t.0 text.now t.1.now) }
+    ensures found { IfSome result (λ t.
+        IsTokenOfGroup (in_group Group.Variables) t.0 text.now t.1.now) }
     ensures none { IfNone result (HasNoTokenOf (in_group Group.Variables) text.now) }
 {
     match strip_word(text, b"?") {
@@ -75,7 +78,8 @@ fn variable_token(text: &[u8]) -> Option<(TokenKind, &[u8])>
 
 /// `[` or ANON.
 fn square_token(text: &[u8]) -> Option<(TokenKind, &[u8])>
-    ensures found { IfSome result (λ t. IsTokenOfGroup (in_group Group.Squares) t.0 text.now t.1.now) }
+    ensures found { IfSome result (λ t.
+        IsTokenOfGroup (in_group Group.Squares) t.0 text.now t.1.now) }
     ensures none { IfNone result (HasNoTokenOf (in_group Group.Squares) text.now) }
 {
     match strip_word(text, b"[") {
@@ -100,7 +104,8 @@ fn kind_of(number: Number) -> TokenKind
 
 /// INTEGER, DECIMAL or DOUBLE.
 fn number_token(text: &[u8]) -> Option<(TokenKind, &[u8])>
-    ensures found { IfSome result (λ t. IsTokenOfGroup (in_group Group.Numbers) t.0 text.now t.1.now) }
+    ensures found { IfSome result (λ t.
+        IsTokenOfGroup (in_group Group.Numbers) t.0 text.now t.1.now) }
     ensures none { IfNone result (HasNoTokenOf (in_group Group.Numbers) text.now) }
 {
     match longest_number(text) {
@@ -125,7 +130,8 @@ fn dot_token(text: &[u8]) -> Option<(TokenKind, &[u8])>
 
 /// A mark.
 fn mark_token(text: &[u8], mark: Mark) -> Option<(TokenKind, &[u8])>
-    ensures found { IfSome result (λ t. IsTokenOfGroup (in_group (Group.Marks mark)) t.0 text.now t.1.now) }
+    ensures found { IfSome result (λ t.
+        IsTokenOfGroup (in_group (Group.Marks mark)) t.0 text.now t.1.now) }
     ensures none { IfNone result (HasNoTokenOf (in_group (Group.Marks mark)) text.now) }
 {
     match strip_word(text, mark.spelling()) {
@@ -135,17 +141,18 @@ fn mark_token(text: &[u8], mark: Mark) -> Option<(TokenKind, &[u8])>
 }
 
 /// Whether the text is the word and then the rest.
-fn is_word_before(text: &[u8], front: &[u8], rest: &[u8]) -> bool
+fn is_word_before(text: &[u8], spelling: &[u8], rest: &[u8]) -> bool
     requires { IsSuffix rest.now text.now }
-    ensures { MatchBool result (Matches (word front.now) text.now rest.now) (Matches (word front.now) text.now rest.now → ⊥) }
+    ensures { MatchBool result (Matches (word spelling.now) text.now rest.now)
+        (Matches (word spelling.now) text.now rest.now → ⊥) }
 {
-    match strip_word(text, front) {
+    match strip_word(text, spelling) {
         Some(after) => after.len() == rest.len(),
         None => false,
     }
 }
 
-/// The kind of the text that a LANGTAG is, in front of the rest.
+/// The kind of the LANGTAG that ends before the rest.
 fn tag_kind(text: &[u8], rest: &[u8]) -> TokenKind
     requires { MatchesLongest lang_tag text.now (Some rest.now) }
     ensures { IsTokenOfGroup (in_group Group.Tags) result text.now rest.now }
@@ -172,21 +179,21 @@ fn tag_token(text: &[u8]) -> Option<(TokenKind, &[u8])>
 }
 
 /// What follows the letters of a word in any case.
-fn strip_any_case<'a>(text: &'a [u8], front: &[u8]) -> Option<&'a [u8]>
-    ensures { MatchesOnly (any_case front.now) text.now (option_copied result) }
+fn strip_any_case<'a>(text: &'a [u8], spelling: &[u8]) -> Option<&'a [u8]>
+    ensures { MatchesOnly (any_case spelling.now) text.now (option_copied result) }
 {
-    if text.len() < front.len() {
+    if text.len() < spelling.len() {
         return None;
     }
-    let (letters, rest) = text.split_at(front.len());
-    if letters.eq_ignore_ascii_case(front) {
+    let (letters, rest) = text.split_at(spelling.len());
+    if letters.eq_ignore_ascii_case(spelling) {
         Some(rest)
     } else {
         None
     }
 }
 
-/// `PREFIX` or `BASE`, where no other fixed word of letters is.
+/// `PREFIX` or `BASE`, where the text begins with no other fixed word of letters.
 fn any_case_token(text: &[u8]) -> Option<(TokenKind, &[u8])>
     requires no_a { MatchesOnly (terminal TokenKind.A) text.now None }
     requires no_true { MatchesOnly (terminal TokenKind.True) text.now None }
@@ -220,10 +227,11 @@ fn word_token(text: &[u8]) -> Option<(TokenKind, &[u8])>
     }
 }
 
-/// PNAME_NS, PNAME_LN or a fixed word of letters, where it is known that no prefix begins before `no_prefix_before`.
+/// PNAME_NS, PNAME_LN or a fixed word of letters, where no prefix begins before `no_prefix_before`.
 fn name_token<'a>(text: &'a [u8], no_prefix_before: &[u8]) -> Option<(TokenKind, &'a [u8])>
     requires { HasNoPrefixBefore text.now no_prefix_before.now }
-    ensures found { IfSome result (λ t. IsTokenOfGroup (in_group Group.Names) t.0 text.now t.1.now) }
+    ensures found { IfSome result (λ t.
+        IsTokenOfGroup (in_group Group.Names) t.0 text.now t.1.now) }
     ensures none { IfNone result (HasNoTokenOf (in_group Group.Names) text.now) }
 {
     match strip_pname_ns(text, no_prefix_before) {
@@ -235,8 +243,12 @@ fn name_token<'a>(text: &'a [u8], no_prefix_before: &[u8]) -> Option<(TokenKind,
     }
 }
 
-/// The token at the front, as far as the kinds of the group go.
-fn token_of<'a>(text: &'a [u8], no_prefix_before: &[u8], group: Group) -> Option<(TokenKind, &'a [u8])>
+/// The token at the start among the kinds of the group.
+fn token_of<'a>(
+    text: &'a [u8],
+    no_prefix_before: &[u8],
+    group: Group,
+) -> Option<(TokenKind, &'a [u8])>
     requires { HasNoPrefixBefore text.now no_prefix_before.now }
     ensures found { IfSome result (λ t. IsTokenOfGroup (in_group group) t.0 text.now t.1.now) }
     ensures none { IfNone result (HasNoTokenOf (in_group group) text.now) }
@@ -256,7 +268,8 @@ fn token_of<'a>(text: &'a [u8], no_prefix_before: &[u8], group: Group) -> Option
     }
 }
 
-/// The token at the front of a text, and what follows it. It is known that no prefix begins before `no_prefix_before`.
+/// The token at the start of a text, and what follows it, where no prefix begins before
+/// `no_prefix_before`.
 pub(crate) fn token_at<'a>(text: &'a [u8], no_prefix_before: &[u8]) -> Option<(TokenKind, &'a [u8])>
     requires { HasNoPrefixBefore text.now no_prefix_before.now }
     ensures found { IfSome result (λ t. IsToken t.0 text.now t.1.now) }

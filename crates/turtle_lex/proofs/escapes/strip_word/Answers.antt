@@ -12,4 +12,4 @@ stripped w s None h = word_refused w s h
 stripped w s (Some x) h = word_found w s x.now h
 
 pub returns-clause-matches : goal.returns-clause-matches
-returns-clause-matches c = stripped c.args.front.now c.args.text.now c.strip_prefix.result (strip_prefix_is Decides-eqb _ _ _ c.strip_prefix.ensures.cases)
+returns-clause-matches c = stripped c.args.spelling.now c.args.text.now c.strip_prefix.result (strip_prefix_is Decides-eqb _ _ _ c.strip_prefix.ensures.cases)

@@ -2,7 +2,7 @@ use Rattle.std.proofs.Common.{[], Some, None, refl, subst}
 use Rattle.turtle_lex.specs.declared.names.Parts.{Parts}
 use Rattle.turtle_lex.specs.Pattern.{MatchesOnly}
 use Rattle.turtle_lex.specs.Names.{name_part, dot}
-use Rattle.turtle_lex.proofs.Matching.{front, front_trans}
+use Rattle.turtle_lex.proofs.Matching.{leaves_suffix, suffix_trans}
 use Rattle.turtle_lex.proofs.NameLemmas.{run_start, run_part, run_dot, run_end, part_no_dot, inside_start, inside_part, inside_dot, inside_end}
 use Rattle.turtle_lex.proofs.names.strip_tail.Goals as goal
 
@@ -19,7 +19,7 @@ loop-after-preserved-in-Some c =
     let no_dot = part_no_dot c.args.parts _ _ matches.found in
     record {
       run = run_part (name_part c.args.parts) c.args.text.now c.loop-after.end.now c.loop-after.rest.now c.in-Some.after.now c.loop-after.invariant.run matches no_dot;
-      suffix = front_trans _ _ _ c.loop-after.invariant.suffix (front (name_part c.args.parts) _ _ matches.found);
+      suffix = suffix_trans _ _ _ c.loop-after.invariant.suffix (leaves_suffix (name_part c.args.parts) _ _ matches.found);
       inside = λ plain. inside_part c.args.text.now c.loop-after.end.now c.loop-after.rest.now c.in-Some.after.now c.loop-after.invariant.suffix (c.loop-after.invariant.inside plain)
           (subst (λ (p : Parts). MatchesOnly (name_part p) c.loop-after.rest.now (Some c.in-Some.after.now)) plain matches) no_dot;
     }
@@ -29,7 +29,7 @@ loop-after-preserved c =
     let matches = c.in-Some-strip_word.ensures.matches in
     record {
       run = run_dot (name_part c.args.parts) c.args.text.now c.loop-after.end.now c.loop-after.rest.now c.in-Some-strip_word.after.now c.loop-after.invariant.run c.in-None.ensures.matches matches;
-      suffix = front_trans _ _ _ c.loop-after.invariant.suffix (front dot _ _ matches.found);
+      suffix = suffix_trans _ _ _ c.loop-after.invariant.suffix (leaves_suffix dot _ _ matches.found);
       inside = λ plain. inside_dot c.args.text.now c.loop-after.end.now c.loop-after.rest.now c.in-Some-strip_word.after.now c.loop-after.invariant.suffix (c.loop-after.invariant.inside plain)
           (subst (λ (p : Parts). MatchesOnly (name_part p) c.loop-after.rest.now None) plain c.in-None.ensures.matches) matches;
     }
