@@ -3,12 +3,12 @@ use Rattle.std.proofs.Common.{◌≡◌, ℕ, Bool, true, false, not, cond, ◌|
 use Rattle.std.specs.Prelude.{IsTrue, fold, unwrap_or}
 use Rattle.std.specs.List.{list_all, list_any, before_last, onto_first, join_with_byte, AllByRecursion}
 use Rattle.iri_ref.specs.Characters.{slash, is_slash, is_allowed, AllAllowed, Lacks}
-use Rattle.iri_ref.specs.Segments.{segments, is_here, is_up, is_dots, with_last_slash, without_last, kept_after, kept, without_dots, HasNoDots}
-use Rattle.iri_ref.specs.Writing.{Written, after_segment, after_segments, ends_in_dots}
+use Rattle.iri_ref.specs.Segments.{segments, is_single_dot, is_double_dot, is_dot_segment, with_trailing_slash, without_last_segment, push_segment, kept_segments, remove_dot_segments, HasNoDotSegments}
+use Rattle.iri_ref.specs.PathWriter.{WriterState, after_segment, after_segments, ends_in_dot_segment}
 use Rattle.iri_ref.proofs.Texts.{and_left, and_right, and_both, all_append, all_left}
 use Rattle.std.proofs.lemmas.List.{append-nil, take-append-drop}
 use Rattle.std.proofs.lemmas.List.Splits.{join_with_byte-slice_split}
-use Rattle.iri_ref.proofs.Writing.{last_plain}
+use Rattle.iri_ref.proofs.PathWriting.{last_plain}
 use Rattle.iri_ref.proofs.Paths.{before_last_cut, before_last_lacking}
 
 abbrev pub joined : List (List ℕ) → List ℕ
@@ -40,16 +40,16 @@ joined_more k (l ∷ ks) s = ap (λ (t : List ℕ). k ++ slash ∷ t) (joined_mo
 
 -- two segments or more, cut at the last slash
 record LastCut (s t : List ℕ) (ss : List (List ℕ)) : Type 0 where
-  front : List ℕ
+  prefix : List ℕ
   last : List ℕ
   lacks : Lacks is_slash last
-  whole : joined (s ∷ t ∷ ss) ≡ front ++ slash ∷ last
-  without : joined (without_last (s ∷ t ∷ ss)) ≡ front
+  whole : joined (s ∷ t ∷ ss) ≡ prefix ++ slash ∷ last
+  without : joined (without_last_segment (s ∷ t ∷ ss)) ≡ prefix
 
 last_cut : (s t : List ℕ) (ss : List (List ℕ)) → AreFree (s ∷ t ∷ ss) → LastCut s t ss
-last_cut s t [] free = record { front = s; last = t; lacks = free.1.0; whole = refl; without = refl }
+last_cut s t [] free = record { prefix = s; last = t; lacks = free.1.0; whole = refl; without = refl }
 last_cut s t (u ∷ []) free = record {
-  front = s ++ slash ∷ t;
+  prefix = s ++ slash ∷ t;
   last = u;
   lacks = free.1.1.0;
   whole = sym (append_assoc s (slash ∷ t) (slash ∷ u));
@@ -58,28 +58,28 @@ last_cut s t (u ∷ []) free = record {
 last_cut s t (u ∷ v ∷ ss) free =
     let below = last_cut t u (v ∷ ss) free.1 in
     record {
-      front = s ++ slash ∷ below.front;
+      prefix = s ++ slash ∷ below.prefix;
       last = below.last;
       lacks = below.lacks;
-      whole = ap (λ (x : List ℕ). s ++ slash ∷ x) below.whole ∙ sym (append_assoc s (slash ∷ below.front) (slash ∷ below.last));
+      whole = ap (λ (x : List ℕ). s ++ slash ∷ x) below.whole ∙ sym (append_assoc s (slash ∷ below.prefix) (slash ∷ below.last));
       without = ap (λ (x : List ℕ). s ++ slash ∷ x) below.without;
     }
 
 -- the path before its last slash is the segments without the last
-up_is : (ks : List (List ℕ)) → IsSome ks → AreFree ks → before_last is_slash (joined ks) ≡ joined (without_last ks)
+up_is : (ks : List (List ℕ)) → IsSome ks → AreFree ks → before_last is_slash (joined ks) ≡ joined (without_last_segment ks)
 up_is [] some free = absurd some
 up_is (k ∷ []) some free = before_last_lacking k free.0
 up_is (k ∷ l ∷ ks) some free =
     let cut = last_cut k l ks free in
-    ap (before_last is_slash) cut.whole ∙ before_last_cut cut.front cut.last cut.lacks ∙ sym cut.without
+    ap (before_last is_slash) cut.whole ∙ before_last_cut cut.prefix cut.last cut.lacks ∙ sym cut.without
 
-without_last_some : (ks : List (List ℕ)) → IsSome (without_last ks)
+without_last_some : (ks : List (List ℕ)) → IsSome (without_last_segment ks)
 without_last_some [] = tt
 without_last_some (k ∷ []) = tt
 without_last_some (k ∷ l ∷ []) = tt
 without_last_some (k ∷ l ∷ m ∷ ks) = tt
 
-without_last_free : (ks : List (List ℕ)) → AreFree ks → AreFree (without_last ks)
+without_last_free : (ks : List (List ℕ)) → AreFree ks → AreFree (without_last_segment ks)
 without_last_free [] free = (refl, tt)
 without_last_free (k ∷ []) free = (refl, tt)
 without_last_free (k ∷ l ∷ []) free = (free.0, tt)
@@ -104,31 +104,31 @@ adds [] s some = absurd some
 adds (k ∷ ks) s some = sym (joined_more k ks s)
 
 -- one more segment, in the text and in the list
-step : (ks : List (List ℕ)) (s : List ℕ) → IsSome ks → AreFree ks → Lacks is_slash s → Agrees (after_segment (Some (joined ks)) s) (kept_after ks s)
-step ks s some free h = by_tests (is_here s) (is_up s)
+step : (ks : List (List ℕ)) (s : List ℕ) → IsSome ks → AreFree ks → Lacks is_slash s → Agrees (after_segment (Some (joined ks)) s) (push_segment ks s)
+step ks s some free h = by_tests (is_single_dot s) (is_double_dot s)
   where
-    by_tests : (a b : Bool) → Agrees (cond a (Some (joined ks)) (cond b (Some (before_last is_slash (joined ks))) (Some (joined ks ++ slash ∷ s)))) (cond a ks (cond b (without_last ks) (ks ++ s ∷ [])))
+    by_tests : (a b : Bool) → Agrees (cond a (Some (joined ks)) (cond b (Some (before_last is_slash (joined ks))) (Some (joined ks ++ slash ∷ s)))) (cond a ks (cond b (without_last_segment ks) (ks ++ s ∷ [])))
     by_tests true b = record { same = refl; some = some; free = free }
     by_tests false true = record { same = ap (λ (t : List ℕ). Some t) (up_is ks some free); some = without_last_some ks; free = without_last_free ks free }
     by_tests false false = record { same = ap (λ (t : List ℕ). Some t) (adds ks s some); some = more_some ks s; free = more_free ks s free h }
 
-walk : (ss ks : List (List ℕ)) → IsSome ks → AreFree ks → AreFree ss → after_segments (Some (joined ks)) ss ≡ Some (joined (fold kept_after ks ss))
+walk : (ss ks : List (List ℕ)) → IsSome ks → AreFree ks → AreFree ss → after_segments (Some (joined ks)) ss ≡ Some (joined (fold push_segment ks ss))
 walk [] ks some free all = refl
 walk (s ∷ ss) ks some free all =
     let one = step ks s some free all.0 in
-    ap (λ (p : Option (List ℕ)). after_segments p ss) one.same ∙ walk ss (kept_after ks s) one.some one.free all.1
+    ap (λ (p : Option (List ℕ)). after_segments p ss) one.same ∙ walk ss (push_segment ks s) one.some one.free all.1
 
-pub written_is : (ss : List (List ℕ)) → AreFree ss → unwrap_or (after_segments None ss) [] ≡ joined (kept ss)
+pub written_is : (ss : List (List ℕ)) → AreFree ss → unwrap_or (after_segments None ss) [] ≡ joined (kept_segments ss)
 written_is [] free = refl
-written_is (s ∷ ss) free = by_test (is_dots s) (written_is ss free.1)
+written_is (s ∷ ss) free = by_test (is_dot_segment s) (written_is ss free.1)
   where
-    by_test : (b : Bool) → unwrap_or (after_segments None ss) [] ≡ joined (kept ss) → unwrap_or (after_segments (cond b None (Some s)) ss) [] ≡ joined (cond b (kept ss) (fold kept_after (s ∷ []) ss))
+    by_test : (b : Bool) → unwrap_or (after_segments None ss) [] ≡ joined (kept_segments ss) → unwrap_or (after_segments (cond b None (Some s)) ss) [] ≡ joined (cond b (kept_segments ss) (fold push_segment (s ∷ []) ss))
     by_test true below = below
     by_test false below = ap (λ (p : Option (List ℕ)). unwrap_or p []) (walk ss (s ∷ []) tt (free.0, tt) free.1)
 
-with_last_slash_free : (ss : List (List ℕ)) → AreFree ss → AreFree (with_last_slash ss)
+with_last_slash_free : (ss : List (List ℕ)) → AreFree ss → AreFree (with_trailing_slash ss)
 with_last_slash_free [] free = tt
-with_last_slash_free (s ∷ []) free = by_test (is_dots s)
+with_last_slash_free (s ∷ []) free = by_test (is_dot_segment s)
   where
     by_test : (b : Bool) → AreFree (cond b (s ∷ [] ∷ []) (s ∷ []))
     by_test true = (free.0, (refl, tt))
@@ -136,15 +136,15 @@ with_last_slash_free (s ∷ []) free = by_test (is_dots s)
 with_last_slash_free (s ∷ t ∷ ss) free = (free.0, with_last_slash_free (t ∷ ss) free.1)
 
 -- the text that is written is the path without dot segments
-pub written_path : (path : List ℕ) → unwrap_or (after_segments None (with_last_slash (segments path))) [] ≡ without_dots path
-written_path path = written_is (with_last_slash (segments path)) (with_last_slash_free (segments path) (segments_free path))
+pub written_path : (path : List ℕ) → unwrap_or (after_segments None (with_trailing_slash (segments path))) [] ≡ remove_dot_segments path
+written_path path = written_is (with_trailing_slash (segments path)) (with_last_slash_free (segments path) (segments_free path))
 
-pub clean_written : (w v : Written) (text path : List ℕ) → w.before ≡ text → w.path ≡ None → v ≡ record { before = w.before; path = after_segments w.path (with_last_slash (segments path)) }
-    → v.before ++ unwrap_or v.path [] ≡ text ++ without_dots path
+pub clean_written : (w v : WriterState) (text path : List ℕ) → w.before ≡ text → w.path ≡ None → v ≡ record { before = w.before; path = after_segments w.path (with_trailing_slash (segments path)) }
+    → v.before ++ unwrap_or v.path [] ≡ text ++ remove_dot_segments path
 clean_written w v text path before none e =
-    ap (λ (x : Written). x.before ++ unwrap_or x.path []) e
-    ∙ ap (λ (p : Option (List ℕ)). w.before ++ unwrap_or (after_segments p (with_last_slash (segments path))) []) none
-    ∙ ap (λ (t : List ℕ). t ++ unwrap_or (after_segments None (with_last_slash (segments path))) []) before
+    ap (λ (x : WriterState). x.before ++ unwrap_or x.path []) e
+    ∙ ap (λ (p : Option (List ℕ)). w.before ++ unwrap_or (after_segments p (with_trailing_slash (segments path))) []) none
+    ∙ ap (λ (t : List ℕ). t ++ unwrap_or (after_segments None (with_trailing_slash (segments path))) []) before
     ∙ ap (λ (t : List ℕ). text ++ t) (written_path path)
 
 -- ---- a path that has no dot segments stays
@@ -153,33 +153,33 @@ plain_parts : (a b : Bool) → (a || b) ≡ false → (a ≡ false) × (b ≡ fa
 plain_parts true b e = absurd cc
 plain_parts false b e = (refl, e)
 
-keeps_all : (ss ks : List (List ℕ)) → list_any is_dots ss ≡ false → fold kept_after ks ss ≡ ks ++ ss
+keeps_all : (ss ks : List (List ℕ)) → list_any is_dot_segment ss ≡ false → fold push_segment ks ss ≡ ks ++ ss
 keeps_all [] ks plain = sym (append-nil ks)
 keeps_all (s ∷ ss) ks plain =
-    let parts = plain_parts (is_dots s) (list_any is_dots ss) plain in
-    let tests = plain_parts (is_here s) (is_up s) parts.0 in
-    let one : kept_after ks s ≡ ks ++ s ∷ [] = ap (λ (a : Bool). cond a ks (cond (is_up s) (without_last ks) (ks ++ s ∷ []))) tests.0 ∙ ap (λ (b : Bool). cond b (without_last ks) (ks ++ s ∷ [])) tests.1 in
-    ap (λ (x : List (List ℕ)). fold kept_after x ss) one ∙ keeps_all ss (ks ++ s ∷ []) parts.1 ∙ append_assoc ks (s ∷ []) ss
+    let parts = plain_parts (is_dot_segment s) (list_any is_dot_segment ss) plain in
+    let tests = plain_parts (is_single_dot s) (is_double_dot s) parts.0 in
+    let one : push_segment ks s ≡ ks ++ s ∷ [] = ap (λ (a : Bool). cond a ks (cond (is_double_dot s) (without_last_segment ks) (ks ++ s ∷ []))) tests.0 ∙ ap (λ (b : Bool). cond b (without_last_segment ks) (ks ++ s ∷ [])) tests.1 in
+    ap (λ (x : List (List ℕ)). fold push_segment x ss) one ∙ keeps_all ss (ks ++ s ∷ []) parts.1 ∙ append_assoc ks (s ∷ []) ss
 
-kept_plain : (ss : List (List ℕ)) → list_any is_dots ss ≡ false → kept ss ≡ ss
+kept_plain : (ss : List (List ℕ)) → list_any is_dot_segment ss ≡ false → kept_segments ss ≡ ss
 kept_plain [] plain = refl
 kept_plain (s ∷ ss) plain =
-    let parts = plain_parts (is_dots s) (list_any is_dots ss) plain in
-    ap (λ (b : Bool). cond b (kept ss) (fold kept_after (s ∷ []) ss)) parts.0 ∙ keeps_all ss (s ∷ []) parts.1
+    let parts = plain_parts (is_dot_segment s) (list_any is_dot_segment ss) plain in
+    ap (λ (b : Bool). cond b (kept_segments ss) (fold push_segment (s ∷ []) ss)) parts.0 ∙ keeps_all ss (s ∷ []) parts.1
 
-ends_plain : (ss : List (List ℕ)) → list_any is_dots ss ≡ false → ends_in_dots ss ≡ false
+ends_plain : (ss : List (List ℕ)) → list_any is_dot_segment ss ≡ false → ends_in_dot_segment ss ≡ false
 ends_plain [] plain = refl
-ends_plain (s ∷ []) plain = (plain_parts (is_dots s) false plain).0
-ends_plain (s ∷ t ∷ ss) plain = ends_plain (t ∷ ss) (plain_parts (is_dots s) (list_any is_dots (t ∷ ss)) plain).1
+ends_plain (s ∷ []) plain = (plain_parts (is_dot_segment s) false plain).0
+ends_plain (s ∷ t ∷ ss) plain = ends_plain (t ∷ ss) (plain_parts (is_dot_segment s) (list_any is_dot_segment (t ∷ ss)) plain).1
 
 not_any : (b : Bool) → IsTrue (not b) → b ≡ false
 not_any true h = absurd cc
 not_any false h = refl
 
-pub without_dots_plain : (path : List ℕ) → HasNoDots path → without_dots path ≡ path
+pub without_dots_plain : (path : List ℕ) → HasNoDotSegments path → remove_dot_segments path ≡ path
 without_dots_plain path h =
-    let plain = not_any (list_any is_dots (segments path)) h in
-    ap (λ (ss : List (List ℕ)). joined (kept ss)) (last_plain (segments path) (ends_plain (segments path) plain))
+    let plain = not_any (list_any is_dot_segment (segments path)) h in
+    ap (λ (ss : List (List ℕ)). joined (kept_segments ss)) (last_plain (segments path) (ends_plain (segments path) plain))
     ∙ ap joined (kept_plain (segments path) plain)
     ∙ join_with_byte-slice_split slash path
 
@@ -193,12 +193,12 @@ PathAllowed None = Unit {0}
 PathAllowed (Some path) = AllAllowed path
 
 after_allowed : (p : Option (List ℕ)) (s : List ℕ) → PathAllowed p → AllAllowed s → PathAllowed (after_segment p s)
-after_allowed None s h hs = by_test (is_dots s)
+after_allowed None s h hs = by_test (is_dot_segment s)
   where
     by_test : (b : Bool) → PathAllowed (cond b None (Some s))
     by_test true = tt
     by_test false = hs
-after_allowed (Some path) s h hs = by_tests (is_here s) (is_up s)
+after_allowed (Some path) s h hs = by_tests (is_single_dot s) (is_double_dot s)
   where
     by_tests : (a b : Bool) → PathAllowed (cond a (Some path) (cond b (Some (before_last is_slash path)) (Some (path ++ slash ∷ s))))
     by_tests true b = h
@@ -224,9 +224,9 @@ segments_allowed (c ∷ cs) h = by_test (is_slash c) (segments_allowed cs (and_r
     by_test true all = (refl, all)
     by_test false all = onto_allowed c (and_left _ (list_all is_allowed cs) h) (segments cs) all
 
-with_last_slash_allowed : (ss : List (List ℕ)) → AreAllowed ss → AreAllowed (with_last_slash ss)
+with_last_slash_allowed : (ss : List (List ℕ)) → AreAllowed ss → AreAllowed (with_trailing_slash ss)
 with_last_slash_allowed [] all = tt
-with_last_slash_allowed (s ∷ []) all = by_test (is_dots s)
+with_last_slash_allowed (s ∷ []) all = by_test (is_dot_segment s)
   where
     by_test : (b : Bool) → AreAllowed (cond b (s ∷ [] ∷ []) (s ∷ []))
     by_test true = (all.0, (refl, tt))
@@ -237,7 +237,7 @@ path_allowed : (p : Option (List ℕ)) → PathAllowed p → AllAllowed (unwrap_
 path_allowed None h = refl
 path_allowed (Some path) h = h
 
-pub without_dots_allowed : (path : List ℕ) → AllAllowed path → AllAllowed (without_dots path)
+pub without_dots_allowed : (path : List ℕ) → AllAllowed path → AllAllowed (remove_dot_segments path)
 without_dots_allowed path h =
-    let ss = with_last_slash (segments path) in
+    let ss = with_trailing_slash (segments path) in
     subst AllAllowed (written_path path) (path_allowed (after_segments None ss) (all_after_allowed ss None tt (with_last_slash_allowed (segments path) (segments_allowed path h))))

@@ -1,8 +1,10 @@
+-- kept for the crates above
 pub mod Texts
-pub mod Cuts
 pub mod Schemes
-pub mod Splits
 pub mod Paths
-pub mod Writing
+pub mod PathWriting
+
+pub mod UniqueSplits
+pub mod Splits
 pub mod Dots
 pub mod Resolving

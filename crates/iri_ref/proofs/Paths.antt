@@ -33,16 +33,16 @@ no_front path lacks =
     let same : length path - suffix_len (λ c. not (is_slash c)) path - 1 ≡ 0 = omega arith in
     ap (λ (n : ℕ). take n path) same
 
-pub before_last_cut : (front rest : List ℕ) → Lacks is_slash rest → before_last is_slash (front ++ slash ∷ rest) ≡ front
-before_last_cut front rest h =
-    let whole = front ++ slash ∷ rest in
-    let len : length whole ≡ length front + suc (length rest) = length-append front (slash ∷ rest) in
-    sym (front_at whole (length front) (omega arith) (get_or_at front slash rest 0 (length front) refl)
+pub before_last_cut : (prefix rest : List ℕ) → Lacks is_slash rest → before_last is_slash (prefix ++ slash ∷ rest) ≡ prefix
+before_last_cut prefix rest h =
+    let whole = prefix ++ slash ∷ rest in
+    let len : length whole ≡ length prefix + suc (length rest) = length-append prefix (slash ∷ rest) in
+    sym (front_at whole (length prefix) (omega arith) (get_or_at prefix slash rest 0 (length prefix) refl)
     (λ k after below.
-    let step : get_or whole k 0 ≡ get_or (slash ∷ rest) (k - length front) 0 = get_or-append_right front (slash ∷ rest) (length front) k 0 refl (omega arith) in
-    let next : k - length front ≡ suc (k - length front - 1) = omega arith in
-    ap is_slash (step ∙ ap (λ (i : ℕ). get_or (slash ∷ rest) i 0) next) ∙ reads_lack is_slash rest h (k - length front - 1) (omega arith)))
-    ∙ take_at front (slash ∷ rest) (length front) refl
+    let step : get_or whole k 0 ≡ get_or (slash ∷ rest) (k - length prefix) 0 = get_or-append_right prefix (slash ∷ rest) (length prefix) k 0 refl (omega arith) in
+    let next : k - length prefix ≡ suc (k - length prefix - 1) = omega arith in
+    ap is_slash (step ∙ ap (λ (i : ℕ). get_or (slash ∷ rest) i 0) next) ∙ reads_lack is_slash rest h (k - length prefix - 1) (omega arith)))
+    ∙ take_at prefix (slash ∷ rest) (length prefix) refl
 
 pub before_last_lacking : (path : List ℕ) → Lacks is_slash path → before_last is_slash path ≡ []
 before_last_lacking path h = no_front path (reads_lack is_slash path h)
@@ -56,20 +56,20 @@ none_of test [] h = refl
 none_of test (x ∷ xs) h = rw (not_true (test x) (and_left _ (list_all (λ c. not (test c)) xs) h)) (none_of test xs (and_right (not (test x)) _ h))
 
 -- a text that holds a slash further on
-has_slash : (front rest : List ℕ) → list_any is_slash (front ++ slash ∷ rest) ≡ true
+has_slash : (prefix rest : List ℕ) → list_any is_slash (prefix ++ slash ∷ rest) ≡ true
 has_slash [] rest = refl
-has_slash (c ∷ front) rest = or_right (is_slash c) _ (has_slash front rest)
+has_slash (c ∷ prefix) rest = or_right (is_slash c) _ (has_slash prefix rest)
 
 pub up_to_lacking : (path : List ℕ) → Lacks is_slash path → up_to_last_slash path ≡ []
 up_to_lacking [] h = refl
 up_to_lacking (c ∷ cs) h = ap (λ (b : Bool). cond b (c ∷ up_to_last_slash cs) []) (none_of is_slash (c ∷ cs) h)
 
-pub up_to_cut : (front rest : List ℕ) → Lacks is_slash rest → up_to_last_slash (front ++ slash ∷ rest) ≡ front ++ slash ∷ []
+pub up_to_cut : (prefix rest : List ℕ) → Lacks is_slash rest → up_to_last_slash (prefix ++ slash ∷ rest) ≡ prefix ++ slash ∷ []
 up_to_cut [] rest h = ap (λ (t : List ℕ). slash ∷ t) (up_to_lacking rest h)
-up_to_cut (c ∷ front) rest h =
-    ap (λ (b : Bool). cond b (c ∷ up_to_last_slash (front ++ slash ∷ rest)) []) (has_slash (c ∷ front) rest)
-    ∙ ap (λ (t : List ℕ). c ∷ t) (up_to_cut front rest h)
+up_to_cut (c ∷ prefix) rest h =
+    ap (λ (b : Bool). cond b (c ∷ up_to_last_slash (prefix ++ slash ∷ rest)) []) (has_slash (c ∷ prefix) rest)
+    ∙ ap (λ (t : List ℕ). c ∷ t) (up_to_cut prefix rest h)
 
--- what is written behind a place leaves what stands before it
+-- writing after a position leaves the text before it
 pub text_before : (bytes more : List ℕ) (start : ℕ) → start ≤ length bytes → IsUtf8 (take start bytes) → IsUtf8 (take start (bytes ++ more))
 text_before bytes more start le h = subst IsUtf8 (sym (take-append-le start bytes more le)) h

@@ -3,21 +3,21 @@ use Rattle.std.proofs.Common.{◌≡◌, ℕ, Bool, true, false, cond, List, [],
 use Rattle.std.specs.Prelude.{IsTrue, IfSome, IfNone, codes}
 use Rattle.std.specs.List.{list_all, list_any}
 use Rattle.iri_ref.specs.Characters.{colon, is_slash, is_allowed, is_scheme, AllAllowed}
-use Rattle.iri_ref.specs.Components.{Components, HasComponents, HasScheme, BeginsWithScheme, IsAbsolute, recomposed, scheme_text, led_by, authority_text, query_text, fragment_text}
-use Rattle.iri_ref.specs.Segments.{without_dots}
+use Rattle.iri_ref.specs.Components.{Components, HasComponents, HasScheme, BeginsWithScheme, IsAbsolute, recomposed, scheme_text, prefixed, authority_text, query_text, fragment_text}
+use Rattle.iri_ref.specs.Segments.{remove_dot_segments}
 use Rattle.iri_ref.specs.Resolution.{transformed, by_scheme, in_scheme_of, path_from, query_from, merged, up_to_last_slash, IsResolved, first_of, TakesScheme, StaysResolved}
 use Rattle.iri_ref.proofs.Texts.{and_left, and_right, and_both, all_left, all_right, all_append}
 use Rattle.iri_ref.proofs.Schemes.{one_colon, scheme_lacks_colon}
-use Rattle.iri_ref.proofs.Splits.{one_split, some_split}
+use Rattle.iri_ref.proofs.Splits.{texts_split_uniquely, some_split}
 use Rattle.iri_ref.proofs.Dots.{without_dots_plain, without_dots_allowed}
 
 -- ---- one result
 
-pub one_result : (base ref x y : List ℕ) → IsResolved base ref x → IsResolved base ref y → x ≡ y
-one_result base ref x y hx hy =
+pub references_resolve_uniquely : (base ref x y : List ℕ) → IsResolved base ref x → IsResolved base ref y → x ≡ y
+references_resolve_uniquely base ref x y hx hy =
     hx.whole
-    ∙ ap (λ (b : Components). recomposed (transformed b hx.ref_parts)) (one_split base hx.base_parts hy.base_parts hx.base_has hy.base_has)
-    ∙ ap (λ (r : Components). recomposed (transformed hy.base_parts r)) (one_split ref hx.ref_parts hy.ref_parts hx.ref_has hy.ref_has)
+    ∙ ap (λ (b : Components). recomposed (transformed b hx.ref_parts)) (texts_split_uniquely base hx.base_parts hy.base_parts hx.base_has hy.base_has)
+    ∙ ap (λ (r : Components). recomposed (transformed hy.base_parts r)) (texts_split_uniquely ref hx.ref_parts hy.ref_parts hx.ref_has hy.ref_has)
     ∙ sym hy.whole
 
 -- ---- schemes
@@ -67,7 +67,7 @@ target_scheme base ref text hs b r hb hr whole =
 
 pub takes_scheme : (base ref text : List ℕ) → HasScheme base → IsResolved base ref text → TakesScheme base ref text
 takes_scheme base ref text hs h b r c hb hr hc =
-    let whole : text ≡ recomposed (transformed b r) = one_result base ref text _ h (record { base_parts = b; ref_parts = r; base_has = hb; ref_has = hr; whole = refl }) in
+    let whole : text ≡ recomposed (transformed b r) = references_resolve_uniquely base ref text _ h (record { base_parts = b; ref_parts = r; base_has = hb; ref_has = hr; whole = refl }) in
     let target = target_scheme base ref text hs b r hb hr whole in
     scheme_is text target.scheme target.rest target.begins c hc ∙ sym target.is
 
@@ -78,7 +78,7 @@ resolved_has_scheme base ref text hs h =
 
 -- ---- once more
 
-stays_same : (b p : Components) (s : List ℕ) → p.scheme ≡ Some s → without_dots p.path ≡ p.path → transformed b p ≡ p
+stays_same : (b p : Components) (s : List ℕ) → p.scheme ≡ Some s → remove_dot_segments p.path ≡ p.path → transformed b p ≡ p
 stays_same b p s e d =
     ap (by_scheme b p) e ∙ (λ i. record { scheme = sym e i; authority = p.authority; path = d i; query = p.query; fragment = p.fragment })
 
@@ -100,11 +100,11 @@ record PartsAllowed (c : Components) : Type 0 where
   query : IfAllowed c.query
   fragment : IfAllowed c.fragment
 
-led_allowed : (mark : List ℕ) (o : Option (List ℕ)) → AllAllowed (led_by mark o) → IfAllowed o
+led_allowed : (mark : List ℕ) (o : Option (List ℕ)) → AllAllowed (prefixed mark o) → IfAllowed o
 led_allowed mark None h = tt
 led_allowed mark (Some text) h = all_right is_allowed mark text h
 
-allowed_led : (mark : List ℕ) (o : Option (List ℕ)) → AllAllowed mark → IfAllowed o → AllAllowed (led_by mark o)
+allowed_led : (mark : List ℕ) (o : Option (List ℕ)) → AllAllowed mark → IfAllowed o → AllAllowed (prefixed mark o)
 allowed_led mark None hm h = refl
 allowed_led mark (Some text) hm h = all_append is_allowed mark text hm h
 

@@ -1,4 +1,4 @@
--- A scheme stands before the first colon of a text.
+-- A scheme precedes the first colon of a text.
 use Rattle.std.proofs.Common.{◌≡◌, ℕ, Bool, true, false, not, eqb, List, [], ◌∷◌, ◌++◌, refl, sym, ap, subst, ◌∙◌, inl, inr}
 use Rattle.std.specs.Prelude.{IsTrue}
 use Rattle.std.specs.List.{list_all}
@@ -6,7 +6,7 @@ use Rattle.std.proofs.lemmas.Bool.Decides.{eqb_tells}
 use Rattle.iri_ref.specs.Characters.{colon, is_colon, is_letter, is_scheme_character, is_scheme, Lacks}
 use Rattle.iri_ref.specs.Components.{HasScheme}
 use Rattle.iri_ref.proofs.Texts.{and_left, and_right, and_both, all_right, all_weaker}
-use Rattle.iri_ref.proofs.Cuts.{one_cut}
+use Rattle.iri_ref.proofs.UniqueSplits.{one_cut}
 
 -- a character of a kind that leaves out another one
 pub other_kind : (test : ℕ → Bool) (d : ℕ) → test d ≡ false → (c : ℕ) → IsTrue (test c) → IsTrue (not (eqb c d))
@@ -34,8 +34,8 @@ one_colon a b x y ha hb e =
     let tails : colon ∷ x ≡ colon ∷ y = cut.1 in
     (cut.0, cc)
 
-pub other_front : (text front rest : List ℕ) → text ≡ front ++ colon ∷ rest → Lacks is_colon front → is_scheme front ≡ false → HasScheme text → ⊥
-other_front text front rest e lacks not_one h =
-    let same = one_colon h.0 front h.1 rest (scheme_lacks_colon h.0 h.2.is_one) lacks (sym h.2.whole ∙ e) in
+pub other_front : (text prefix rest : List ℕ) → text ≡ prefix ++ colon ∷ rest → Lacks is_colon prefix → is_scheme prefix ≡ false → HasScheme text → ⊥
+other_front text prefix rest e lacks not_one h =
+    let same = one_colon h.0 prefix h.1 rest (scheme_lacks_colon h.0 h.2.is_one) lacks (sym h.2.whole ∙ e) in
     let no : true ≡ false = sym h.2.is_one ∙ ap is_scheme same.0 ∙ not_one in
     cc

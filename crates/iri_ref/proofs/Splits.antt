@@ -5,9 +5,9 @@ use Rattle.std.specs.List.{list_all}
 use Rattle.std.proofs.lemmas.Bool.{eqb-true, eqb-false}
 use Rattle.std.proofs.lemmas.List.{append-nil}
 use Rattle.iri_ref.specs.Characters.{slash, colon, hash, question_mark, is_slash, is_colon, is_hash, is_question_mark, is_scheme, Lacks}
-use Rattle.iri_ref.specs.Components.{Components, HasComponents, HasScheme, BeginsWithScheme, IsEmptyOrRooted, ends_authority, ends_path, scheme_text, led_by, authority_text, query_text, fragment_text}
+use Rattle.iri_ref.specs.Components.{Components, HasComponents, HasScheme, BeginsWithScheme, IsEmptyOrRooted, ends_authority, ends_path, scheme_text, prefixed, authority_text, query_text, fragment_text}
 use Rattle.iri_ref.proofs.Texts.{and_left, and_right, and_both, all_left, all_right, all_append, all_weaker}
-use Rattle.iri_ref.proofs.Cuts.{Starts, one_cut}
+use Rattle.iri_ref.proofs.UniqueSplits.{Starts, one_cut}
 use Rattle.iri_ref.proofs.Schemes.{one_colon, scheme_lacks_colon, no_colon_no_scheme, other_front}
 
 neither : (a b : Bool) → IsTrue (not a) → IsTrue (not b) → IsTrue (not (a || b))
@@ -38,14 +38,14 @@ lacks_either p q (x ∷ xs) hp hq =
 -- the steps that find the components, from left to right
 pub record Found (text : List ℕ) (c : Components) : Type 0 where
   pub rest : List ℕ
-  pub front : List ℕ
+  pub prefix : List ℕ
   pub body : List ℕ
   pub scheme : IfSome c.scheme (λ scheme. BeginsWithScheme text scheme rest)
   pub no_scheme : IfNone c.scheme (HasScheme text → ⊥)
   pub same : IfNone c.scheme (rest ≡ text)
-  pub at_hash : rest ≡ front ++ fragment_text c.fragment
-  pub before_hash : Lacks is_hash front
-  pub at_mark : front ≡ body ++ query_text c.query
+  pub at_hash : rest ≡ prefix ++ fragment_text c.fragment
+  pub before_hash : Lacks is_hash prefix
+  pub at_mark : prefix ≡ body ++ query_text c.query
   pub before_mark : Lacks is_question_mark body
   pub parts : body ≡ authority_text c.authority ++ c.path
   pub authority : IfSome c.authority (λ authority. Lacks is_slash authority)
@@ -56,9 +56,9 @@ whole_of : (text rest : List ℕ) (scheme : Option (List ℕ)) → IfSome scheme
 whole_of text rest None h e = sym e
 whole_of text rest (Some s) h e = h.whole ∙ sym (append_assoc s (colon ∷ []) rest)
 
-scheme_of : (text rest : List ℕ) (scheme : Option (List ℕ)) → IfSome scheme (λ s. BeginsWithScheme text s rest) → IfSome scheme (λ s. IsTrue (is_scheme s))
-scheme_of text rest None h = tt
-scheme_of text rest (Some s) h = h.is_one
+split_scheme : (text rest : List ℕ) (scheme : Option (List ℕ)) → IfSome scheme (λ s. BeginsWithScheme text s rest) → IfSome scheme (λ s. IsTrue (is_scheme s))
+split_scheme text rest None h = tt
+split_scheme text rest (Some s) h = h.is_one
 
 authority_lacks : (authority : Option (List ℕ)) (path : List ℕ) → IfSome authority (λ a. Lacks is_slash a) → Lacks ends_path (authority_text authority ++ path) → IfSome authority (λ a. Lacks ends_authority a)
 authority_lacks None path h k = tt
@@ -70,7 +70,7 @@ query_lacks (Some q) body h = all_right (λ c. not (is_hash c)) body (question_m
 
 pub has_found : (text : List ℕ) (c : Components) → Found text c → HasComponents text c
 has_found text c f =
-    let inside : f.front ≡ (authority_text c.authority ++ c.path) ++ query_text c.query = f.at_mark ∙ ap (λ (t : List ℕ). t ++ query_text c.query) f.parts in
+    let inside : f.prefix ≡ (authority_text c.authority ++ c.path) ++ query_text c.query = f.at_mark ∙ ap (λ (t : List ℕ). t ++ query_text c.query) f.parts in
     let no_hash : Lacks is_hash (f.body ++ query_text c.query) = subst (λ (t : List ℕ). Lacks is_hash t) f.at_mark f.before_hash in
     let body_ends : Lacks ends_path f.body = lacks_either is_question_mark is_hash f.body f.before_mark (all_left (λ d. not (is_hash d)) f.body (query_text c.query) no_hash) in
     let parts_end : Lacks ends_path (authority_text c.authority ++ c.path) = subst (λ (t : List ℕ). Lacks ends_path t) f.parts body_ends in
@@ -80,7 +80,7 @@ has_found text c f =
     ∙ append_assoc (authority_text c.authority) c.path (query_text c.query ++ fragment_text c.fragment) in
     record {
       whole = whole_of text f.rest c.scheme f.scheme f.same ∙ ap (λ (t : List ℕ). scheme_text c.scheme ++ t) regrouped;
-      scheme = scheme_of text f.rest c.scheme f.scheme;
+      scheme = split_scheme text f.rest c.scheme f.scheme;
       no_scheme = f.no_scheme;
       authority = authority_lacks c.authority c.path f.authority parts_end;
       no_authority = f.no_authority;
@@ -100,19 +100,19 @@ same_scheme text (Some a) (Some b) x y ex ey hs ht ns nt =
     let cut = one_colon a b x y (scheme_lacks_colon a hs) (scheme_lacks_colon b ht) (sym (append_assoc a (colon ∷ []) x) ∙ sym ex ∙ ey ∙ append_assoc b (colon ∷ []) y) in
     (ap (λ (t : List ℕ). Some t) cut.0, cut.1)
 
-led_starts : (mark : ℕ) (f : Option (List ℕ)) → Starts (λ c. eqb c mark) (led_by (mark ∷ []) f)
+led_starts : (mark : ℕ) (f : Option (List ℕ)) → Starts (λ c. eqb c mark) (prefixed (mark ∷ []) f)
 led_starts mark None = tt
 led_starts mark (Some text) = eq-eqb mark mark refl
 
-same_led : (mark : ℕ) (f g : Option (List ℕ)) → led_by (mark ∷ []) f ≡ led_by (mark ∷ []) g → f ≡ g
+same_led : (mark : ℕ) (f g : Option (List ℕ)) → prefixed (mark ∷ []) f ≡ prefixed (mark ∷ []) g → f ≡ g
 same_led mark None None e = refl
 same_led mark None (Some y) e = absurd cc
 same_led mark (Some x) None e = absurd cc
 same_led mark (Some x) (Some y) e = let tails : x ≡ y = cc in ap (λ (t : List ℕ). Some t) tails
 
-one_led : (mark : ℕ) (a b : List ℕ) (f g : Option (List ℕ)) → Lacks (λ c. eqb c mark) a → Lacks (λ c. eqb c mark) b → a ++ led_by (mark ∷ []) f ≡ b ++ led_by (mark ∷ []) g → (a ≡ b) × (f ≡ g)
+one_led : (mark : ℕ) (a b : List ℕ) (f g : Option (List ℕ)) → Lacks (λ c. eqb c mark) a → Lacks (λ c. eqb c mark) b → a ++ prefixed (mark ∷ []) f ≡ b ++ prefixed (mark ∷ []) g → (a ≡ b) × (f ≡ g)
 one_led mark a b f g ha hb e =
-    let cut = one_cut (λ c. eqb c mark) a b (led_by (mark ∷ []) f) (led_by (mark ∷ []) g) ha hb (led_starts mark f) (led_starts mark g) e in
+    let cut = one_cut (λ c. eqb c mark) a b (prefixed (mark ∷ []) f) (prefixed (mark ∷ []) g) ha hb (led_starts mark f) (led_starts mark g) e in
     (cut.0, same_led mark f g cut.1)
 
 rooted_starts : (path : List ℕ) → IsEmptyOrRooted path → Starts is_slash path
@@ -144,7 +144,7 @@ weaker_authority : (test : ℕ → Bool) (a : Option (List ℕ)) → ((c : ℕ) 
 weaker_authority test None w h = tt
 weaker_authority test (Some x) w h = all_weaker _ _ w x h
 
--- the text behind a scheme, in three parts
+-- the text after a scheme, in three parts
 regrouped : (c : Components) → authority_text c.authority ++ (c.path ++ (query_text c.query ++ fragment_text c.fragment)) ≡ ((authority_text c.authority ++ c.path) ++ query_text c.query) ++ fragment_text c.fragment
 regrouped c =
     sym (append_assoc (authority_text c.authority ++ c.path) (query_text c.query) (fragment_text c.fragment)
@@ -159,8 +159,8 @@ body_lacks test out w text c h =
     (weaker_authority test c.authority (λ d k. w d (right_of_either is_slash ends_path d k)) h.authority)
     (all_weaker _ _ w c.path h.path)
 
-pub one_split : (text : List ℕ) (c d : Components) → HasComponents text c → HasComponents text d → c ≡ d
-one_split text c d hc hd =
+pub texts_split_uniquely : (text : List ℕ) (c d : Components) → HasComponents text c → HasComponents text d → c ≡ d
+texts_split_uniquely text c d hc hd =
     let schemes = same_scheme text c.scheme d.scheme _ _ hc.whole hd.whole hc.scheme hd.scheme hc.no_scheme hd.no_scheme in
     let hash_out : (e : Components) → HasComponents text e → Lacks is_hash (body_of e ++ query_text e.query) =
     λ e he. all_append (λ c. not (is_hash c)) (body_of e) (query_text e.query) (body_lacks is_hash refl (right_of_either is_question_mark is_hash) text e he) (query_keeps e.query he.query) in
@@ -174,27 +174,27 @@ one_split text c d hc hd =
 -- ---- there is a split
 
 record Cut (test : ℕ → Bool) (text : List ℕ) : Type 0 where
-  front : List ℕ
+  prefix : List ℕ
   back : List ℕ
-  whole : text ≡ front ++ back
-  lacks : Lacks test front
+  whole : text ≡ prefix ++ back
+  lacks : Lacks test prefix
   starts : Starts test back
 
 cut_of : (test : ℕ → Bool) (text : List ℕ) → Cut test text
-cut_of test [] = record { front = []; back = []; whole = refl; lacks = refl; starts = tt }
+cut_of test [] = record { prefix = []; back = []; whole = refl; lacks = refl; starts = tt }
 cut_of test (c ∷ cs) = by_test (test c) refl (cut_of test cs)
   where
     by_test : (b : Bool) → test c ≡ b → Cut test cs → Cut test (c ∷ cs)
-    by_test true e below = record { front = []; back = c ∷ cs; whole = refl; lacks = refl; starts = e }
+    by_test true e below = record { prefix = []; back = c ∷ cs; whole = refl; lacks = refl; starts = e }
     by_test false e below = record {
-      front = c ∷ below.front;
+      prefix = c ∷ below.prefix;
       back = below.back;
       whole = ap (λ (t : List ℕ). c ∷ t) below.whole;
       lacks = and_both _ _ (ap not e) below.lacks;
       starts = below.starts;
     }
 
-led_of : (mark : ℕ) (back : List ℕ) → Starts (λ c. eqb c mark) back → (f : Option (List ℕ)) × (back ≡ led_by (mark ∷ []) f)
+led_of : (mark : ℕ) (back : List ℕ) → Starts (λ c. eqb c mark) back → (f : Option (List ℕ)) × (back ≡ prefixed (mark ∷ []) f)
 led_of mark [] h = (None, refl)
 led_of mark (c ∷ cs) h = (Some cs, ap (λ (d : ℕ). d ∷ cs) (eqb-true c mark h))
 
@@ -208,23 +208,23 @@ record SchemeCut (text : List ℕ) : Type 0 where
 scheme_cut : (text : List ℕ) → SchemeCut text
 scheme_cut text = by_colon (cut_of is_colon text)
   where
-    by_test : (front rest : List ℕ) → text ≡ front ++ colon ∷ rest → Lacks is_colon front → (b : Bool) → is_scheme front ≡ b → SchemeCut text
-    by_test front rest whole lacks true e = record { scheme = Some front; rest = rest; some = record { is_one = e; whole = whole }; none = tt; same = tt }
-    by_test front rest whole lacks false e = record { scheme = None; rest = text; some = tt; none = other_front text front rest whole lacks e; same = refl }
+    by_test : (prefix rest : List ℕ) → text ≡ prefix ++ colon ∷ rest → Lacks is_colon prefix → (b : Bool) → is_scheme prefix ≡ b → SchemeCut text
+    by_test prefix rest whole lacks true e = record { scheme = Some prefix; rest = rest; some = record { is_one = e; whole = whole }; none = tt; same = tt }
+    by_test prefix rest whole lacks false e = record { scheme = None; rest = text; some = tt; none = other_front text prefix rest whole lacks e; same = refl }
 
-    by_back : (front back : List ℕ) → text ≡ front ++ back → Lacks is_colon front → Starts is_colon back → SchemeCut text
-    by_back front [] whole lacks starts = record {
+    by_back : (prefix back : List ℕ) → text ≡ prefix ++ back → Lacks is_colon prefix → Starts is_colon back → SchemeCut text
+    by_back prefix [] whole lacks starts = record {
       scheme = None;
       rest = text;
       some = tt;
-      none = no_colon_no_scheme text (subst (λ (t : List ℕ). Lacks is_colon t) (sym (whole ∙ append-nil front)) lacks);
+      none = no_colon_no_scheme text (subst (λ (t : List ℕ). Lacks is_colon t) (sym (whole ∙ append-nil prefix)) lacks);
       same = refl;
     }
-    by_back front (c ∷ cs) whole lacks starts =
-        by_test front cs (whole ∙ ap (λ (d : ℕ). front ++ d ∷ cs) (eqb-true c colon starts)) lacks (is_scheme front) refl
+    by_back prefix (c ∷ cs) whole lacks starts =
+        by_test prefix cs (whole ∙ ap (λ (d : ℕ). prefix ++ d ∷ cs) (eqb-true c colon starts)) lacks (is_scheme prefix) refl
 
     by_colon : Cut is_colon text → SchemeCut text
-    by_colon cut = by_back cut.front cut.back cut.whole cut.lacks cut.starts
+    by_colon cut = by_back cut.prefix cut.back cut.whole cut.lacks cut.starts
 
 record AuthorityCut (body : List ℕ) : Type 0 where
   authority : Option (List ℕ)
@@ -250,7 +250,7 @@ authority_cut (c ∷ d ∷ cs) = by_tests (is_slash c) (is_slash d) refl refl
     by_tests true true ec ed =
         let cut = cut_of is_slash cs in
         record {
-          authority = Some cut.front;
+          authority = Some cut.prefix;
           path = cut.back;
           whole = ap (λ (a : ℕ). a ∷ d ∷ cs) (eqb-true c slash ec) ∙ ap (λ (a : ℕ). slash ∷ a ∷ cs) (eqb-true d slash ed) ∙ ap (λ (t : List ℕ). slash ∷ slash ∷ t) cut.whole;
           lacks = cut.lacks;
@@ -265,21 +265,21 @@ some_split text =
     let scheme = scheme_cut text in
     let at_hash = cut_of is_hash scheme.rest in
     let fragment = led_of hash at_hash.back at_hash.starts in
-    let at_mark = cut_of is_question_mark at_hash.front in
+    let at_mark = cut_of is_question_mark at_hash.prefix in
     let query = led_of question_mark at_mark.back at_mark.starts in
-    let authority = authority_cut at_mark.front in
+    let authority = authority_cut at_mark.prefix in
     let c : Components = record { scheme = scheme.scheme; authority = authority.authority; path = authority.path; query = query.0; fragment = fragment.0 } in (
       c,
       has_found text c (record {
         rest = scheme.rest;
-        front = at_hash.front;
-        body = at_mark.front;
+        prefix = at_hash.prefix;
+        body = at_mark.prefix;
         scheme = scheme.some;
         no_scheme = scheme.none;
         same = scheme.same;
-        at_hash = at_hash.whole ∙ ap (λ (t : List ℕ). at_hash.front ++ t) fragment.1;
+        at_hash = at_hash.whole ∙ ap (λ (t : List ℕ). at_hash.prefix ++ t) fragment.1;
         before_hash = at_hash.lacks;
-        at_mark = at_mark.whole ∙ ap (λ (t : List ℕ). at_mark.front ++ t) query.1;
+        at_mark = at_mark.whole ∙ ap (λ (t : List ℕ). at_mark.prefix ++ t) query.1;
         before_mark = at_mark.lacks;
         parts = authority.whole;
         authority = authority.lacks;

@@ -1,4 +1,4 @@
--- Characters of references. All that are told apart here are ASCII, so each is one byte of the UTF-8 text.
+-- Characters of references. All that are distinguished here are ASCII: each is one byte of UTF-8.
 use Rattle.std.specs.Prelude.{ℕ, Bool, false, not, ◌&&◌, ◌||◌, ◌==◌, nat_le, IsTrue, List, [], ◌∷◌}
 use Rattle.std.specs.List.{list_all}
 
@@ -32,7 +32,8 @@ is_hash c = c == hash
 
 -- what Turtle's IRIREF leaves out: controls and space, and < > " { } | ^ ` \
 abbrev pub is_forbidden : ℕ → Bool
-is_forbidden c = nat_le c 32 || (c == 34 || (c == 60 || (c == 62 || (c == 92 || (c == 94 || (c == 96 || is_between 123 c 125))))))
+is_forbidden c = nat_le c 32 || (c == 34
+    || (c == 60 || (c == 62 || (c == 92 || (c == 94 || (c == 96 || is_between 123 c 125))))))
 
 abbrev pub is_allowed : ℕ → Bool
 is_allowed c = not (is_forbidden c)

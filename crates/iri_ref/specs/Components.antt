@@ -1,6 +1,8 @@
 -- The five components of a reference (RFC 3986, section 3 and appendix B).
-use Rattle.std.specs.Prelude.{◌≡◌, ℕ, Bool, ◌||◌, IsTrue, codes, List, [], ◌∷◌, ◌++◌, Option, Some, None, IfSome, IfNone, OnSome}
-use Rattle.iri_ref.specs.Characters.{slash, colon, is_slash, is_question_mark, is_hash, is_scheme, Lacks, AllAllowed}
+use Rattle.std.specs.Prelude.{◌≡◌, ℕ, Bool, ◌||◌, IsTrue, codes, List, [], ◌∷◌, ◌++◌, Option, Some}
+use Rattle.std.specs.Prelude.{None, IfSome, IfNone, OnSome}
+use Rattle.iri_ref.specs.Characters.{slash, colon, is_slash, is_question_mark, is_hash, is_scheme}
+use Rattle.iri_ref.specs.Characters.{Lacks, AllAllowed}
 
 -- The components without the delimiters that end or begin them.
 pub record Components : Type 0 where
@@ -15,23 +17,24 @@ abbrev pub scheme_text : Option (List ℕ) → List ℕ
 scheme_text None = []
 scheme_text (Some scheme) = scheme ++ colon ∷ []
 
--- What a mark leads in, with the mark, or nothing.
-abbrev pub led_by : List ℕ → Option (List ℕ) → List ℕ
-led_by mark None = []
-led_by mark (Some text) = mark ++ text
+-- A component after its mark, or nothing.
+abbrev pub prefixed : List ℕ → Option (List ℕ) → List ℕ
+prefixed mark None = []
+prefixed mark (Some text) = mark ++ text
 
 abbrev pub authority_text : Option (List ℕ) → List ℕ
-authority_text authority = led_by (codes "//") authority
+authority_text authority = prefixed (codes "//") authority
 
 abbrev pub query_text : Option (List ℕ) → List ℕ
-query_text query = led_by (codes "?") query
+query_text query = prefixed (codes "?") query
 
 abbrev pub fragment_text : Option (List ℕ) → List ℕ
-fragment_text fragment = led_by (codes "#") fragment
+fragment_text fragment = prefixed (codes "#") fragment
 
 -- The text of these components (section 5.3).
 abbrev pub recomposed : Components → List ℕ
-recomposed c = scheme_text c.scheme ++ (authority_text c.authority ++ (c.path ++ (query_text c.query ++ fragment_text c.fragment)))
+recomposed c = scheme_text c.scheme ++
+    (authority_text c.authority ++ (c.path ++ (query_text c.query ++ fragment_text c.fragment)))
 
 -- A scheme, and a colon after it, begin the text.
 pub record BeginsWithScheme (text scheme rest : List ℕ) : Type 0 where
@@ -56,14 +59,14 @@ abbrev pub IsEmptyOrRooted : List ℕ → Type 0
 IsEmptyOrRooted [] = Unit {0}
 IsEmptyOrRooted (c ∷ cs) = c ≡ slash
 
--- These are the components of the text: what the expression of appendix B matches, where a scheme is a letter
--- and letters, digits, + - and . before the first colon.
+-- These are the components of the text: what the expression of appendix B matches, where a scheme
+-- is a letter and letters, digits, + - and . before the first colon.
 pub record HasComponents (text : List ℕ) (c : Components) : Type 0 where
   pub whole : text ≡ recomposed c
   -- A scheme is taken wherever there is one.
   pub scheme : IfSome c.scheme (λ scheme. IsTrue (is_scheme scheme))
   pub no_scheme : IfNone c.scheme (HasScheme text → ⊥)
-  -- An authority is taken wherever two slashes stand, and ends at the next slash.
+  -- An authority is taken wherever two slashes come next, and ends at the next slash.
   pub authority : IfSome c.authority (λ authority. Lacks ends_authority authority)
   pub no_authority : IfNone c.authority ((rest : List ℕ) → c.path ≡ slash ∷ slash ∷ rest → ⊥)
   pub rooted : OnSome c.authority (IsEmptyOrRooted c.path)

@@ -2,6 +2,8 @@ pub mod Characters
 pub mod Components
 pub mod Segments
 pub mod Resolution
-pub mod Reading
-pub mod Writing
+
+-- internal: cited by private clauses alone
+pub mod Reference
+pub mod PathWriter
 pub mod Target

@@ -1,13 +1,15 @@
-//! A reference taken apart.
+//! The components of a reference (RFC 3986, section 3 and appendix B).
 
-ghost use Rattle.std.specs.Prelude.{◌≡◌, [], ◌<◌, ◌==◌, ◌↔◌, ◌++◌, ◌∷◌, List, ℕ, IsTrue, IfSome, IfNone, OnSome, option_copied};
+ghost use Rattle.std.specs.Prelude.{◌≡◌, [], ◌<◌, ◌==◌, ◌↔◌, ◌++◌, ◌∷◌, List, ℕ, IsTrue, IfSome};
+ghost use Rattle.std.specs.Prelude.{IfNone, OnSome, option_copied};
 ghost use Rattle.iri_ref.specs.Characters.{Lacks, slash, is_slash};
-ghost use Rattle.iri_ref.specs.Components.{HasComponents, BeginsWithScheme, HasScheme, IsAbsolute, IsEmptyOrRooted, authority_text, led_by};
-ghost use Rattle.iri_ref.specs.Reading.{components_of};
+ghost use Rattle.iri_ref.specs.Components.{HasComponents, BeginsWithScheme, HasScheme, IsAbsolute};
+ghost use Rattle.iri_ref.specs.Components.{IsEmptyOrRooted, authority_text, prefixed};
+ghost use Rattle.iri_ref.specs.Reference.{components_of};
 
 use crate::characters::{all_allowed, is_scheme};
 
-/// The five components of a reference (RFC 3986, section 3), without the delimiters that begin or end them.
+/// The five components of a reference, without the delimiters that begin or end them.
 #[derive(Clone, Copy)]
 pub(crate) struct Reference<'a> {
     pub(crate) scheme: Option<&'a str>,
@@ -18,8 +20,9 @@ pub(crate) struct Reference<'a> {
 }
 
 /// The scheme of a text and what follows its colon, or the text.
-fn scheme_of(text: &str) -> (Option<&str>, &str)
-    ensures some { IfSome (option_copied result.0) (λ scheme. BeginsWithScheme text.now scheme result.1.now) }
+fn split_scheme(text: &str) -> (Option<&str>, &str)
+    ensures some { IfSome (option_copied result.0)
+        (λ scheme. BeginsWithScheme text.now scheme result.1.now) }
     ensures none { IfNone (option_copied result.0) (HasScheme text.now → ⊥) }
     ensures rest { IfNone (option_copied result.0) (result.1.now ≡ text.now) }
 {
@@ -33,26 +36,26 @@ fn scheme_of(text: &str) -> (Option<&str>, &str)
 pub(crate) fn is_absolute(text: &str) -> bool
     ensures { IsTrue result ↔ IsAbsolute text.now }
 {
-    match scheme_of(text) {
+    match split_scheme(text) {
         (Some(_), _) => all_allowed(text),
         (None, _) => false,
     }
 }
 
 /// The text up to the first such mark, and what follows it where there is one.
-fn cut(text: &str, mark: char) -> (&str, Option<&str>)
+fn split_at_mark(text: &str, mark: char) -> (&str, Option<&str>)
     requires { mark < 128 }
-    ensures whole { text.now ≡ result.0.now ++ led_by (mark ∷ []) (option_copied result.1) }
+    ensures whole { text.now ≡ result.0.now ++ prefixed (mark ∷ []) (option_copied result.1) }
     ensures first { Lacks (λ c. c == mark) result.0.now }
 {
     match text.split_once(mark) {
-        Some((front, rest)) => (front, Some(rest)),
+        Some((prefix, rest)) => (prefix, Some(rest)),
         None => (text, None),
     }
 }
 
 /// The text before its first slash, and what begins with it.
-fn at_slash(text: &str) -> (&str, &str)
+fn split_at_slash(text: &str) -> (&str, &str)
     ensures whole { text.now ≡ result.0.now ++ result.1.now }
     ensures first { Lacks is_slash result.0.now }
     ensures rooted { IsEmptyOrRooted result.1.now }
@@ -64,27 +67,28 @@ fn at_slash(text: &str) -> (&str, &str)
 }
 
 /// The authority after two slashes, and the path.
-fn authority_of(text: &str) -> (Option<&str>, &str)
+fn split_authority(text: &str) -> (Option<&str>, &str)
     ensures whole { text.now ≡ authority_text (option_copied result.0) ++ result.1.now }
     ensures authority { IfSome (option_copied result.0) (λ authority. Lacks is_slash authority) }
     ensures rooted { OnSome (option_copied result.0) (IsEmptyOrRooted result.1.now) }
-    ensures none { IfNone (option_copied result.0) ((rest : List ℕ) → result.1.now ≡ slash ∷ slash ∷ rest → ⊥) }
+    ensures none { IfNone (option_copied result.0) ((rest : List ℕ)
+        → result.1.now ≡ slash ∷ slash ∷ rest → ⊥) }
 {
     let Some(rest) = text.strip_prefix("//") else {
         return (None, text);
     };
-    let (authority, path) = at_slash(rest);
+    let (authority, path) = split_at_slash(rest);
     (Some(authority), path)
 }
 
 /// The components of a text: what the expression of appendix B matches.
-pub(crate) fn components(text: &str) -> Reference<'_>
+pub(crate) fn parse_components(text: &str) -> Reference<'_>
     ensures { HasComponents text.now (components_of result) }
 {
-    let (scheme, rest) = scheme_of(text);
-    let (rest, fragment) = cut(rest, '#');
-    let (rest, query) = cut(rest, '?');
-    let (authority, path) = authority_of(rest);
+    let (scheme, rest) = split_scheme(text);
+    let (rest, fragment) = split_at_mark(rest, '#');
+    let (rest, query) = split_at_mark(rest, '?');
+    let (authority, path) = split_authority(rest);
     Reference {
         scheme,
         authority,

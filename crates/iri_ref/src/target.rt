@@ -1,71 +1,76 @@
-//! What a reference leads to from its base, before it is written.
+//! The target of a reference and its base (RFC 3986, section 5.2.2), before it is written.
 
-ghost use Rattle.std.specs.Prelude.{◌≡◌, [], ◌∷◌, ◌++◌, List, ℕ, IfOk, IfSome, IfNone, OnOk, option_copied, string_bytes};
+ghost use Rattle.std.specs.Prelude.{◌≡◌, [], ◌∷◌, ◌++◌, List, ℕ, IfOk, IfSome, IfNone, OnOk};
+ghost use Rattle.std.specs.Prelude.{option_copied, string_bytes};
 ghost use Rattle.iri_ref.specs.Characters.{slash, is_slash, Lacks};
-ghost use Rattle.iri_ref.specs.Components.{Components, recomposed, scheme_text, led_by};
-ghost use Rattle.iri_ref.specs.Reading.{components_of};
-ghost use Rattle.iri_ref.specs.Resolution.{transformed, path_from, query_from, up_to_last_slash, merged};
-ghost use Rattle.iri_ref.specs.Target.{joined_path, path_of, target_of};
+ghost use Rattle.iri_ref.specs.Components.{Components, recomposed, scheme_text, prefixed};
+ghost use Rattle.iri_ref.specs.Reference.{components_of};
+ghost use Rattle.iri_ref.specs.Resolution.{transformed, path_from, query_from, up_to_last_slash};
+ghost use Rattle.iri_ref.specs.Resolution.{merged};
+ghost use Rattle.iri_ref.specs.Target.{joined_path, target_path_text, target_of};
 
 use crate::components::Reference;
-use crate::writer::without_dots;
+use crate::dot_segments::remove_dot_segments;
 use std::alloc::{AllocError, Global};
 
 /// The path of a target.
 #[derive(Clone, Copy)]
-pub(crate) enum Path<'a> {
-    /// This path as it stands.
-    Kept(&'a str),
-    /// This path without its dot segments; where there is a first text, it stands before the path with a slash.
-    Cleaned(Option<&'a str>, &'a str),
+pub(crate) enum TargetPath<'a> {
+    /// This path, unchanged.
+    Unchanged(&'a str),
+    /// This path without its dot segments; a prefix precedes it with a slash.
+    WithoutDots(Option<&'a str>, &'a str),
 }
 
-/// The components of what a reference leads to.
+/// The components of a target.
 #[derive(Clone, Copy)]
 pub(crate) struct Target<'a> {
     pub(crate) scheme: Option<&'a str>,
     pub(crate) authority: Option<&'a str>,
-    pub(crate) path: Path<'a>,
+    pub(crate) path: TargetPath<'a>,
     pub(crate) query: Option<&'a str>,
     pub(crate) fragment: Option<&'a str>,
 }
 
 /// A path before its last slash.
-fn before_last_slash(path: &str) -> Option<&str>
-    ensures some { IfSome (option_copied result) (λ front. up_to_last_slash path.now ≡ front ++ slash ∷ []) }
+fn strip_last_segment(path: &str) -> Option<&str>
+    ensures some { IfSome (option_copied result)
+        (λ prefix. up_to_last_slash path.now ≡ prefix ++ slash ∷ []) }
     ensures none { IfNone (option_copied result) (up_to_last_slash path.now ≡ []) }
 {
     match path.rsplit_once('/') {
-        Some((front, _)) => Some(front),
+        Some((prefix, _)) => Some(prefix),
         None => None,
     }
 }
 
-/// The path that a reference with neither scheme nor authority leads to.
-fn path_from<'a>(base: Reference<'a>, path: &'a str) -> Path<'a>
-    ensures { path_of result ≡ path_from (components_of base.entry) path.entry.now }
+/// The target's path where the reference has neither scheme nor authority.
+fn choose_path<'a>(base: Reference<'a>, path: &'a str) -> TargetPath<'a>
+    ensures { target_path_text result ≡ path_from (components_of base.entry) path.entry.now }
 {
     if path.is_empty() {
-        return Path::Kept(base.path);
+        return TargetPath::Unchanged(base.path);
     }
     if path.starts_with('/') {
-        return Path::Cleaned(None, path);
+        return TargetPath::WithoutDots(None, path);
     }
     if base.authority.is_some() && base.path.is_empty() {
-        return Path::Cleaned(Some(""), path);
+        return TargetPath::WithoutDots(Some(""), path);
     }
-    Path::Cleaned(before_last_slash(base.path), path)
+    TargetPath::WithoutDots(strip_last_segment(base.path), path)
 }
 
-/// The transform of section 5.2.2, strict: a scheme in the reference counts even where it is the base's.
+/// The transform of section 5.2.2, strict: a scheme in the reference counts even where it is the
+/// base's.
 pub(crate) fn transform<'a>(base: Reference<'a>, reference: Reference<'a>) -> Target<'a>
-    ensures { target_of result ≡ transformed (components_of base.entry) (components_of reference.entry) }
+    ensures { target_of result ≡ transformed (components_of base.entry)
+        (components_of reference.entry) }
 {
     if reference.scheme.is_some() {
         return Target {
             scheme: reference.scheme,
             authority: reference.authority,
-            path: Path::Cleaned(None, reference.path),
+            path: TargetPath::WithoutDots(None, reference.path),
             query: reference.query,
             fragment: reference.fragment,
         };
@@ -74,7 +79,7 @@ pub(crate) fn transform<'a>(base: Reference<'a>, reference: Reference<'a>) -> Ta
         return Target {
             scheme: base.scheme,
             authority: reference.authority,
-            path: Path::Cleaned(None, reference.path),
+            path: TargetPath::WithoutDots(None, reference.path),
             query: reference.query,
             fragment: reference.fragment,
         };
@@ -87,20 +92,21 @@ pub(crate) fn transform<'a>(base: Reference<'a>, reference: Reference<'a>) -> Ta
     Target {
         scheme: base.scheme,
         authority: base.authority,
-        path: path_from(base, reference.path),
+        path: choose_path(base, reference.path),
         query,
         fragment: reference.fragment,
     }
 }
 
 /// The length of a component in bytes.
-fn len_of(component: Option<&str>) -> usize {
+fn component_len(component: Option<&str>) -> usize {
     component.map_or(0, |text| text.len())
 }
 
-/// Writes a component behind its mark, where there is one.
-fn push_led(text: &mut String, mark: &str, component: Option<&str>) -> Result<(), AllocError>
-    ensures { OnOk result (string_bytes text.new ≡ string_bytes text.old ++ led_by mark.now (option_copied component.entry)) }
+/// Writes a component after its mark, where there is one.
+fn push_component(text: &mut String, mark: &str, component: Option<&str>) -> Result<(), AllocError>
+    ensures { OnOk result (string_bytes text.new ≡ string_bytes text.old
+        ++ prefixed mark.now (option_copied component.entry)) }
 {
     if let Some(component) = component {
         text.push_str(mark)?;
@@ -111,7 +117,8 @@ fn push_led(text: &mut String, mark: &str, component: Option<&str>) -> Result<()
 
 /// Writes a scheme and its colon, where there is one.
 fn push_scheme(text: &mut String, scheme: Option<&str>) -> Result<(), AllocError>
-    ensures { OnOk result (string_bytes text.new ≡ string_bytes text.old ++ scheme_text (option_copied scheme.entry)) }
+    ensures { OnOk result (string_bytes text.new ≡ string_bytes text.old
+        ++ scheme_text (option_copied scheme.entry)) }
 {
     if let Some(scheme) = scheme {
         text.push_str(scheme)?;
@@ -120,51 +127,54 @@ fn push_scheme(text: &mut String, scheme: Option<&str>) -> Result<(), AllocError
     Ok(())
 }
 
-impl<'a> Path<'a> {
+impl<'a> TargetPath<'a> {
     /// The length with all segments, in bytes, but for a slash between two texts.
-    fn room(&self) -> usize {
+    fn max_len(&self) -> usize {
         match *self {
-            Path::Kept(path) => path.len(),
-            Path::Cleaned(front, path) => len_of(front).saturating_add(path.len()),
+            TargetPath::Unchanged(path) => path.len(),
+            TargetPath::WithoutDots(prefix, path) => component_len(prefix).saturating_add(
+                path.len(),
+            ),
         }
     }
 
     /// Writes the path at the end of a text.
-    fn written(self, mut text: String) -> Result<String, AllocError>
-        ensures { IfOk result (λ more. string_bytes more ≡ string_bytes text ++ path_of self.entry) }
+    fn push_onto(self, mut text: String) -> Result<String, AllocError>
+        ensures { IfOk result (λ more. string_bytes more ≡ string_bytes text
+            ++ target_path_text self.entry) }
     {
         match self {
-            Path::Kept(path) => {
+            TargetPath::Unchanged(path) => {
                 text.push_str(path)?;
                 Ok(text)
             }
-            Path::Cleaned(front, path) => without_dots(text, front, path),
+            TargetPath::WithoutDots(prefix, path) => remove_dot_segments(text, prefix, path),
         }
     }
 }
 
 impl<'a> Target<'a> {
     /// A length, in bytes, that the text doesn't pass: that with all segments, and with all marks.
-    fn room(&self) -> usize {
+    fn max_len(&self) -> usize {
         ":///?#"
             .len()
-            .saturating_add(len_of(self.scheme))
-            .saturating_add(len_of(self.authority))
-            .saturating_add(self.path.room())
-            .saturating_add(len_of(self.query))
-            .saturating_add(len_of(self.fragment))
+            .saturating_add(component_len(self.scheme))
+            .saturating_add(component_len(self.authority))
+            .saturating_add(self.path.max_len())
+            .saturating_add(component_len(self.query))
+            .saturating_add(component_len(self.fragment))
     }
 
     /// The text of the components: section 5.3.
-    pub(crate) fn text(&self, alloc: Global) -> Result<String, AllocError>
+    pub(crate) fn recompose(&self, alloc: Global) -> Result<String, AllocError>
         ensures { IfOk result (λ text. string_bytes text ≡ recomposed (target_of self.now)) }
     {
-        let mut text = String::with_capacity(alloc, self.room())?;
+        let mut text = String::with_capacity(alloc, self.max_len())?;
         push_scheme(&mut text, self.scheme)?;
-        push_led(&mut text, "//", self.authority)?;
-        let mut text = self.path.written(text)?;
-        push_led(&mut text, "?", self.query)?;
-        push_led(&mut text, "#", self.fragment)?;
+        push_component(&mut text, "//", self.authority)?;
+        let mut text = self.path.push_onto(text)?;
+        push_component(&mut text, "?", self.query)?;
+        push_component(&mut text, "#", self.fragment)?;
         Ok(text)
     }
 }

@@ -6,27 +6,27 @@ use Rattle.std.proofs.lemmas.List.{take-append-drop, take_at, drop_at, reverse-a
 use Rattle.std.proofs.lemmas.Slice.Eq.{bytes_eq-Decides}
 use Rattle.std.proofs.lemmas.Bool.{eqb-true}
 use Rattle.iri_ref.proofs.Texts.{and_left, and_right, and_both}
-use Rattle.iri_ref.specs.Segments.{is_up, is_dots}
-use Rattle.pod_path.specs.Norm.{is_auxiliary_name, is_of_dots, is_reserved_name}
-use Rattle.pod_path.specs.Places.{without_end}
+use Rattle.iri_ref.specs.Segments.{is_double_dot, is_dot_segment}
+use Rattle.pod_path.specs.Norm.{is_auxiliary_name, is_dot_auxiliary, is_reserved_name}
+use Rattle.pod_path.specs.Hierarchy.{without_end}
 
--- ---- an end, and what stands before it
+-- ---- an end, and the text before it
 
 pub ends_is : (text end : List ℕ) → IsTrue (ends_with nat_eq text end) → text ≡ without_end (length end) text ++ end
 ends_is text end h =
     let same : end ≡ drop (length text - length end) text = (bytes_eq-Decides end (drop (length text - length end) text)).0 h in
     sym (take-append-drop (length text - length end) text) ∙ ap (λ (x : List ℕ). take (length text - length end) text ++ x) (sym same)
 
-pub without_append : (front end : List ℕ) → without_end (length end) (front ++ end) ≡ front
-without_append front end =
-    let n : length (front ++ end) - length end ≡ length front = omega (arith, length-append front end) in
-    ap (λ (k : ℕ). take k (front ++ end)) n ∙ take_at front end (length front) refl
+pub without_append : (prefix end : List ℕ) → without_end (length end) (prefix ++ end) ≡ prefix
+without_append prefix end =
+    let n : length (prefix ++ end) - length end ≡ length prefix = omega (arith, length-append prefix end) in
+    ap (λ (k : ℕ). take k (prefix ++ end)) n ∙ take_at prefix end (length prefix) refl
 
-pub ends_append : (front end : List ℕ) → IsTrue (ends_with nat_eq (front ++ end) end)
-ends_append front end =
-    let n : length (front ++ end) - length end ≡ length front = omega (arith, length-append front end) in
-    let same : end ≡ drop (length (front ++ end) - length end) (front ++ end) = sym (ap (λ (k : ℕ). drop k (front ++ end)) n ∙ drop_at front end (length front) refl) in
-    (bytes_eq-Decides end (drop (length (front ++ end) - length end) (front ++ end))).1 same
+pub ends_append : (prefix end : List ℕ) → IsTrue (ends_with nat_eq (prefix ++ end) end)
+ends_append prefix end =
+    let n : length (prefix ++ end) - length end ≡ length prefix = omega (arith, length-append prefix end) in
+    let same : end ≡ drop (length (prefix ++ end) - length end) (prefix ++ end) = sym (ap (λ (k : ℕ). drop k (prefix ++ end)) n ∙ drop_at prefix end (length prefix) refl) in
+    (bytes_eq-Decides end (drop (length (prefix ++ end) - length end) (prefix ++ end))).1 same
 
 -- ---- reading from the end
 
@@ -53,7 +53,7 @@ starts_prefix (c ∷ p) q [] h = absurd cc
 starts_prefix (c ∷ p) q (d ∷ text) h = and_both (eqb c d) _ (and_left _ (starts (p ++ q) text) h) (starts_prefix p q text (and_right (eqb c d) _ h))
 
 abbrev Ends : List ℕ → List ℕ → Type 0
-Ends text end = (front : List ℕ) × (text ≡ front ++ end)
+Ends text end = (prefix : List ℕ) × (text ≡ prefix ++ end)
 
 same_tests : (P : Type 0) (a b : Bool) → (IsTrue a → P) → (P → IsTrue a) → (IsTrue b → P) → (P → IsTrue b) → a ≡ b
 same_tests P true true p q r s = refl
@@ -98,14 +98,14 @@ auxiliary_is s =
     ap (λ (b : Bool). b || ends_with nat_eq s (codes ".meta")) (ends_starts s (codes ".acl"))
     ∙ ap (λ (b : Bool). starts (reverse (codes ".acl")) (reverse s) || b) (ends_starts s (codes ".meta"))
 
-dots_is : (s : List ℕ) → is_dots s ≡ dots (reverse s)
+dots_is : (s : List ℕ) → is_dot_segment s ≡ dots (reverse s)
 dots_is s =
-    ap (λ (b : Bool). b || is_up s) (bytes_reverse s (codes "."))
+    ap (λ (b : Bool). b || is_double_dot s) (bytes_reverse s (codes "."))
     ∙ ap (λ (b : Bool). bytes_eq (reverse s) (codes ".") || b) (bytes_reverse s (codes ".."))
 
 reserved_is : (s : List ℕ) → is_reserved_name s ≡ (ended (reverse s) || of_dots (reverse s))
 reserved_is s =
-    ap (λ (b : Bool). b || is_of_dots s) (any_same (λ end. ends_with nat_eq s end) (λ end. starts (reverse end) (reverse s)) (λ end. ends_starts s end) (codes ".acl.acl" ∷ codes ".meta.acl" ∷ codes ".acl.meta" ∷ codes ".meta.meta" ∷ []))
+    ap (λ (b : Bool). b || is_dot_auxiliary s) (any_same (λ end. ends_with nat_eq s end) (λ end. starts (reverse end) (reverse s)) (λ end. ends_starts s end) (codes ".acl.acl" ∷ codes ".meta.acl" ∷ codes ".acl.meta" ∷ codes ".meta.meta" ∷ []))
     ∙ ap (λ (b : Bool). ended (reverse s) || b) (any_same (λ name. bytes_eq s name) (λ name. bytes_eq (reverse s) (reverse name)) (λ name. bytes_reverse s name) (codes "..acl" ∷ codes "...acl" ∷ codes "..meta" ∷ codes "...meta" ∷ []))
 
 four : (a b c d : Bool) → ((a || (b || false)) || (c || (d || false))) ≡ ((a || b) || (c || d))
@@ -124,17 +124,17 @@ pub data IsSuffix : List ℕ → Type 0 where
 abbrev shaped : List ℕ → Bool
 shaped back = auxiliary back || dots back
 
-shaped_is : (s : List ℕ) → shaped (reverse s) ≡ (is_auxiliary_name s || is_dots s)
+shaped_is : (s : List ℕ) → shaped (reverse s) ≡ (is_auxiliary_name s || is_dot_segment s)
 shaped_is s = ap (λ (b : Bool). b || dots (reverse s)) (sym (auxiliary_is s)) ∙ ap (λ (b : Bool). is_auxiliary_name s || b) (sym (dots_is s))
 
-reserved_acl : (s : List ℕ) → is_reserved_name (s ++ codes ".acl") ≡ (is_auxiliary_name s || is_dots s)
+reserved_acl : (s : List ℕ) → is_reserved_name (s ++ codes ".acl") ≡ (is_auxiliary_name s || is_dot_segment s)
 reserved_acl s =
     reserved_is (s ++ codes ".acl")
     ∙ ap (λ (back : List ℕ). ended back || of_dots back) (reverse-append s (codes ".acl"))
     ∙ four (starts (reverse (codes ".acl")) (reverse s)) (starts (reverse (codes ".meta")) (reverse s)) (bytes_eq (reverse s) (codes ".")) (bytes_eq (reverse s) (codes ".."))
     ∙ shaped_is s
 
-reserved_meta : (s : List ℕ) → is_reserved_name (s ++ codes ".meta") ≡ (is_auxiliary_name s || is_dots s)
+reserved_meta : (s : List ℕ) → is_reserved_name (s ++ codes ".meta") ≡ (is_auxiliary_name s || is_dot_segment s)
 reserved_meta s =
     reserved_is (s ++ codes ".meta")
     ∙ ap (λ (back : List ℕ). ended back || of_dots back) (reverse-append s (codes ".meta"))
@@ -144,8 +144,8 @@ reserved_meta s =
 -- What the end of an auxiliary makes of a name: it is reserved exactly where the name is that of an auxiliary or a
 -- dot segment.
 pub record IsSuffixed (s end : List ℕ) : Type 0 where
-  pub reserved : is_reserved_name (s ++ end) ≡ (is_auxiliary_name s || is_dots s)
-  pub plain : is_dots (s ++ end) ≡ false
+  pub reserved : is_reserved_name (s ++ end) ≡ (is_auxiliary_name s || is_dot_segment s)
+  pub plain : is_dot_segment (s ++ end) ≡ false
   pub auxiliary : IsTrue (is_auxiliary_name (s ++ end))
 
 pub suffixed : (end : List ℕ) → IsSuffix end → (s : List ℕ) → IsSuffixed s end

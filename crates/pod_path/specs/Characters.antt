@@ -1,16 +1,10 @@
 -- Characters of paths.
-use Rattle.std.specs.Prelude.{ℕ, Bool, ◌&&◌, ◌||◌, ◌==◌, nat_le, codes}
+use Rattle.std.specs.Prelude.{ℕ, Bool, ◌||◌, ◌==◌, codes}
 use Rattle.std.specs.List.{list_any}
+use Rattle.iri_ref.specs.Characters.{is_between}
 
 abbrev pub percent : ℕ
 percent = 37
-
-abbrev pub question_mark : ℕ
-question_mark = 63
-
--- is b from a up to c?
-abbrev pub is_between : ℕ → ℕ → ℕ → Bool
-is_between a b c = nat_le a b && nat_le b c
 
 abbrev pub is_letter_or_digit : ℕ → Bool
 is_letter_or_digit c = is_between 97 c 122 || (is_between 65 c 90 || is_between 48 c 57)
@@ -19,9 +13,6 @@ is_letter_or_digit c = is_between 97 c 122 || (is_between 65 c 90 || is_between 
 abbrev pub is_unreserved : ℕ → Bool
 is_unreserved c = is_letter_or_digit c || list_any (λ d. c == d) (codes "-._~")
 
--- what may stand in a path: % begins an escape
+-- a character of a path; % begins an escape
 abbrev pub is_path_character : ℕ → Bool
 is_path_character c = is_unreserved c || list_any (λ d. c == d) (codes "!$&'()*+,;=:@/%")
-
-abbrev pub is_question_mark : ℕ → Bool
-is_question_mark c = c == question_mark

@@ -1,8 +1,11 @@
 -- Escapes of a path: % and two hexadecimal digits.
-use Rattle.std.specs.Prelude.{◌≡◌, ℕ, ◌+◌, ◌-◌, ◌*◌, Bool, ◌&&◌, ◌||◌, ◌==◌, nat_le, if◌then◌else◌, List, [], ◌∷◌, ◌++◌, Option, Some, None}
+use Rattle.std.specs.Prelude.{◌≡◌, ℕ, ◌+◌, ◌-◌, ◌*◌, Bool, ◌&&◌, ◌||◌, ◌==◌, nat_le, if◌then◌else◌}
+use Rattle.std.specs.Prelude.{List, [], ◌∷◌, ◌++◌, Option, Some, None}
 use Rattle.pod_path.specs.declared.fault.PathFault.{PathFault}
-use Rattle.pod_path.specs.declared.fault.PathFault.TheVariants.{BadEscape, NotNormal, Reserved, TooLong, TooDeep, NoMemory}
-use Rattle.pod_path.specs.Characters.{percent, is_between, is_unreserved}
+use Rattle.pod_path.specs.declared.fault.PathFault.TheVariants.{BadEscape, NotNormal, Reserved}
+use Rattle.pod_path.specs.declared.fault.PathFault.TheVariants.{TooLong, TooDeep, NoMemory}
+use Rattle.pod_path.specs.Characters.{percent, is_unreserved}
+use Rattle.iri_ref.specs.Characters.{is_between}
 
 abbrev pub is_hex : ℕ → Bool
 is_hex c = is_between 48 c 57 || (is_between 65 c 70 || is_between 97 c 102)
@@ -20,22 +23,24 @@ normal_escape high low =
     let byte = 16 * hex_value high + hex_value low in
     if is_unreserved byte then byte ∷ [] else percent ∷ upper high ∷ upper low ∷ []
 
--- What stands before a text, where there is one.
-abbrev pub before : List ℕ → Option (List ℕ) → Option (List ℕ)
-before front None = None
-before front (Some text) = Some (front ++ text)
+-- The text after this prefix, where there is one.
+abbrev pub prepend : List ℕ → Option (List ℕ) → Option (List ℕ)
+prepend prefix None = None
+prepend prefix (Some text) = Some (prefix ++ text)
 
--- The text with each escape in its normal form; none where a % stands without two digits.
-abbrev pub unescaped : List ℕ → Option (List ℕ)
-unescaped [] = Some []
-unescaped (c ∷ []) = if c == percent then None else Some (c ∷ [])
-unescaped (c ∷ d ∷ []) = if c == percent then None else before (c ∷ []) (unescaped (d ∷ []))
-unescaped (c ∷ high ∷ low ∷ rest) =
+-- The text with each escape in its normal form; none where a % has no two digits after it.
+abbrev pub normalize_escapes : List ℕ → Option (List ℕ)
+normalize_escapes [] = Some []
+normalize_escapes (c ∷ []) = if c == percent then None else Some (c ∷ [])
+normalize_escapes (c ∷ d ∷ []) = if c == percent then None
+    else prepend (c ∷ []) (normalize_escapes (d ∷ []))
+normalize_escapes (c ∷ high ∷ low ∷ rest) =
     if c == percent
-    then (if is_hex high && is_hex low then before (normal_escape high low) (unescaped rest) else None)
-    else before (c ∷ []) (unescaped (high ∷ low ∷ rest))
+    then (if is_hex high && is_hex low then prepend (normal_escape high low)
+    (normalize_escapes rest) else None)
+    else prepend (c ∷ []) (normalize_escapes (high ∷ low ∷ rest))
 
--- The fault says that an escape is bad, or that memory ran out.
+-- An escape is malformed, or memory ran out.
 abbrev pub FailsEscape : PathFault → Option (List ℕ) → Type 0
 FailsEscape BadEscape read = read ≡ None
 FailsEscape NoMemory read = Unit {0}

@@ -1,4 +1,4 @@
 pub mod Characters
 pub mod Escapes
 pub mod Norm
-pub mod Places
+pub mod Hierarchy

@@ -1,9 +1,12 @@
 //! Escapes in their normal form.
 
-ghost use Rattle.std.specs.Prelude.{◌≡◌, ◌++◌, ◌∷◌, [], ◌+◌, ◌*◌, ◌<◌, IsTrue, IfSome, IfNone, OnOk, IfOk, IfErr, is_some, Some, None, length};
+ghost use Rattle.std.specs.Prelude.{◌≡◌, ◌++◌, ◌∷◌, [], ◌+◌, ◌*◌, ◌<◌, IsTrue, IfSome, IfNone};
+ghost use Rattle.std.specs.Prelude.{OnOk, IfOk, IfErr, is_some, Some, None, length};
 ghost use Rattle.std.specs.List.{before_first, position};
-ghost use Rattle.pod_path.specs.Characters.{percent, is_unreserved, is_question_mark};
-ghost use Rattle.pod_path.specs.Escapes.{is_hex, hex_value, upper, normal_escape, before, unescaped, FailsEscape};
+ghost use Rattle.pod_path.specs.Characters.{percent, is_unreserved};
+ghost use Rattle.iri_ref.specs.Characters.{is_question_mark};
+ghost use Rattle.pod_path.specs.Escapes.{is_hex, hex_value, upper, normal_escape, prepend};
+ghost use Rattle.pod_path.specs.Escapes.{normalize_escapes, FailsEscape};
 
 use crate::fault::PathFault;
 use std::alloc::{AllocError, Global};
@@ -23,7 +26,7 @@ fn hex_value(b: u8) -> Option<u8>
 }
 
 /// A hexadecimal digit in upper case.
-fn upper(b: u8) -> u8
+fn to_upper(b: u8) -> u8
     ensures { IsTrue (is_hex b) → result ≡ upper b }
 {
     b.to_ascii_uppercase()
@@ -47,17 +50,20 @@ fn push_escape(text: &mut Vec<u8>, byte: u8, high: u8, low: u8) -> Result<(), Al
         text.push(byte)?;
     } else {
         text.push(b'%')?;
-        text.push(upper(high))?;
-        text.push(upper(low))?;
+        text.push(to_upper(high))?;
+        text.push(to_upper(low))?;
     }
     Ok(())
 }
 
 /// Writes the escape whose digits begin a text, and gives what follows them.
 fn push_first_escape<'a>(bytes: &mut Vec<u8>, digits: &'a [u8]) -> Result<&'a [u8], PathFault>
-    ensures text { IfOk result (λ rest. before bytes.old.items (unescaped (percent ∷ digits.entry.now)) ≡ before bytes.new.items (unescaped rest.now)) }
+    ensures text { IfOk result (λ rest. prepend bytes.old.items
+        (normalize_escapes (percent ∷ digits.entry.now))
+        ≡ prepend bytes.new.items (normalize_escapes rest.now)) }
     ensures shorter { IfOk result (λ rest. length rest.now < length digits.entry.now) }
-    ensures fault { IfErr result (λ fault. FailsEscape fault (unescaped (percent ∷ digits.entry.now))) }
+    ensures fault { IfErr result (λ fault. FailsEscape fault
+        (normalize_escapes (percent ∷ digits.entry.now))) }
 {
     let [high, low, rest @ ..] = digits else {
         return Err(PathFault::BadEscape);
@@ -70,26 +76,26 @@ fn push_first_escape<'a>(bytes: &mut Vec<u8>, digits: &'a [u8]) -> Result<&'a [u
 }
 
 /// Where the query of a target begins.
-fn query_start(target: &[u8]) -> Option<usize>
+fn find_query(target: &[u8]) -> Option<usize>
     ensures { result ≡ position is_question_mark target.now }
 {
     target.iter().position(|b| *b == b'?')
 }
 
 /// The target before its query.
-pub(crate) fn before_query(target: &[u8]) -> &[u8]
+pub(crate) fn strip_query(target: &[u8]) -> &[u8]
     ensures { result.now ≡ before_first is_question_mark target.now }
 {
-    match query_start(target) {
+    match find_query(target) {
         Some(at) => &target[..at],
         None => target,
     }
 }
 
 /// A text with its escapes in their normal form.
-pub(crate) fn unescaped(alloc: Global, text: &[u8]) -> Result<Vec<u8>, PathFault>
-    ensures text { IfOk result (λ bytes. unescaped text.now ≡ Some bytes.items) }
-    ensures fault { IfErr result (λ fault. FailsEscape fault (unescaped text.now)) }
+pub(crate) fn normalize_escapes(alloc: Global, text: &[u8]) -> Result<Vec<u8>, PathFault>
+    ensures text { IfOk result (λ bytes. normalize_escapes text.now ≡ Some bytes.items) }
+    ensures fault { IfErr result (λ fault. FailsEscape fault (normalize_escapes text.now)) }
 {
     let mut bytes = Vec::with_capacity(alloc, text.len())?;
     let mut rest = text;

@@ -1,34 +1,48 @@
-//! Paths.
+//! [`Path`]: the path of a resource, and the paths about it.
 
-ghost use Rattle.std.specs.Prelude.{◌≡◌, ◌↔◌, ◌++◌, ◌∷◌, [], List, ℕ, Bool, true, false, IsTrue, IfOk, IfErr, IfSome, IfNone, Ok, Some, string_bytes, length, codes};
-ghost use Rattle.pod_path.specs.Norm.{IsPath, norm, FailsAs};
-ghost use Rattle.pod_path.specs.Places.{is_root, is_container, is_acl, is_meta, is_auxiliary, parent_of, twin_of, acl_of, meta_of, subject_of, IsUnder, member_text, uri_of, IsUriOf, IsName};
+ghost use Rattle.std.specs.Prelude.{◌≡◌, ◌↔◌, ◌++◌, ◌∷◌, ◌<◌, [], List, ℕ, Bool, true, false};
+ghost use Rattle.std.specs.Prelude.{IsTrue, IfOk, IfErr, IfSome, IfNone, Ok, Some, string_bytes};
+ghost use Rattle.std.specs.Prelude.{length, codes, nat_eq};
+ghost use Rattle.std.specs.Cmp.{partial_equiv_from_equiv};
+ghost use Rattle.std.specs.Cmp.Lexicographic.{slice_cmp};
+ghost use Rattle.std.specs.Ordering.{nat_cmp};
+ghost use Rattle.iri_ref.specs.Characters.{slash};
+ghost use Rattle.pod_path.specs.Norm.{IsPath, norm, FailsAs, IsLimitFault, is_within_limits, depth};
+ghost use Rattle.pod_path.specs.Hierarchy.{is_root, is_container, is_acl, is_meta, is_auxiliary};
+ghost use Rattle.pod_path.specs.Hierarchy.{parent_of, twin_of, acl_of, meta_of, subject_of};
+ghost use Rattle.pod_path.specs.Hierarchy.{IsUnder, IsInside, member_text, uri_of, IsUriOf, IsName};
+ghost use Rattle.pod_path.specs.Hierarchy.{IsPlainName};
 
 use crate::fault::PathFault;
-use crate::reading::{behind_slash, read};
+use crate::limits::is_within;
+use crate::normalize::{normalize_target, normalize_text, strip_first_slash};
+use crate::path_text::{
+    concatenate, count_slashes, is_inside, member_text, parent_text, strip_end, subject_text,
+};
 use crate::segments::ends_with;
-use crate::text::{above, before_end, before_fragment, behind_front, joined};
+use crate::uri::uri_part;
 use iri_ref::{Iri, IriFault};
-use pod_base::{Mem, NoMemory};
+use pod_base::{Mem, NoMemory, Text};
 use std::alloc::Global;
+use std::cmp::Ordering;
 use std::marker::Model;
 
-/// The path of a resource, kept in its normal form. Contracts see its text, which the first three steps of reading
-/// leave as it is.
+/// The path of a resource, in its normal form. Contracts see its text, which the first three steps
+/// of parsing leave as it is. A copy shares its memory.
 #[derive(Debug, Drop)]
 pub struct Path {
-    text: String,
+    text: Text,
 }
 
 impl Model for Path {
-    ghost use Rattle.std.specs.Prelude.{List, ℕ, string_bytes};
+    ghost use Rattle.std.specs.Prelude.{List, ℕ};
     ghost use Rattle.pod_path.specs.Norm.{IsPath};
 
     ghost Value = { List ℕ };
 
-    ghost view = { λ path. string_bytes path.text };
+    ghost view = { λ path. path.text };
 
-    ghost invariant = { λ path. IsPath (string_bytes path.text) };
+    ghost invariant = { λ path. IsPath path.text };
 }
 
 /// Which paths are rows.
@@ -40,17 +54,87 @@ pub trait Taken {
         ensures { result ≡ is_row self.now path.now };
 }
 
+impl PartialEq for Path {
+    ghost use Rattle.std.specs.Cmp.Lexicographic.{pointwise, nat_list_eq_equiv};
+
+    ghost eq = { pointwise nat_eq };
+
+    ghost laws = { partial_equiv_from_equiv nat_list_eq_equiv };
+
+    fn eq(&self, other: &Path) -> bool {
+        self.as_str() == other.as_str()
+    }
+}
+
+impl Eq for Path {
+    ghost use Rattle.std.specs.Cmp.Lexicographic.{nat_list_eq_equiv};
+
+    ghost laws = { nat_list_eq_equiv };
+}
+
+impl PartialOrd for Path {
+    ghost use Rattle.std.specs.Cmp.Lexicographic.{texts_po};
+
+    ghost partial_cmp = { λ x y. Some (slice_cmp nat_cmp x y) };
+
+    ghost laws = { texts_po };
+
+    fn partial_cmp(&self, other: &Path) -> Option<Ordering> {
+        Some(self.cmp(other))
+    }
+}
+
+/// Paths are ordered by the bytes of their texts.
+impl Ord for Path {
+    ghost use mathlib.Core.Path.{refl};
+    ghost use Rattle.std.specs.Cmp.Lexicographic.{nat_list_cmp_total, texts_ties};
+
+    ghost cmp = { slice_cmp nat_cmp };
+
+    ghost total = { nat_list_cmp_total };
+
+    ghost matches_partial_cmp = { λ x y. refl };
+
+    ghost matches_eq = { texts_ties };
+
+    fn cmp(&self, other: &Path) -> Ordering {
+        self.as_str().cmp(other.as_str())
+    }
+}
+
 impl Path {
-    /// The normal path of a target, without its query. The limits are 1,024 bytes and 32 segments.
+    /// Parses a target without its query to its normal path. The limits are
+    /// [`crate::PATH_BYTES_LIMIT`] and [`crate::PATH_SEGMENTS_LIMIT`].
     pub fn read(alloc: Global, target: &[u8]) -> Result<Path, PathFault>
         ensures path { IfOk result (λ path. norm target.now ≡ Ok path) }
         ensures fault { IfErr result (λ fault. FailsAs fault (norm target.now)) }
 
-        // A normal path reads as itself.
+        // A normal path parses to itself.
         ensures again { IfOk result (λ path. norm path ≡ Ok path) }
     {
-        let text = read(alloc, target)?;
+        let text = normalize_target(alloc, target)?;
+        let text = Text::from_string(alloc, text)?;
         Ok(Path { text })
+    }
+
+    /// The path with this text: `Some` exactly where steps 1 to 3 of parsing leave the text as it
+    /// is. It may pass the limits.
+    pub fn of_text(alloc: Global, text: &str) -> Mem<Option<Path>>
+        ensures some { IfOk result (λ found. IfSome found (λ path. path ≡ text.now)) }
+        ensures path { IfOk result (λ found. IfSome found (λ _. IsPath text.now)) }
+        ensures none { IfOk result (λ found. IfNone found (IsPath text.now → ⊥)) }
+    {
+        match normalize_text(alloc, text.as_bytes()) {
+            Ok((normal, _)) => {
+                if normal.as_str() != text {
+                    return Ok(None);
+                }
+                let text = Text::from_string(alloc, normal)?;
+                Ok(Some(Path { text }))
+            }
+            Err(PathFault::NoMemory) => Err(NoMemory),
+            Err(_) => Ok(None),
+        }
     }
 
     /// The text.
@@ -61,12 +145,24 @@ impl Path {
         self.text.as_str()
     }
 
-    /// The same path once more.
+    /// An equal path, which shares the memory of this one.
     pub fn copy(&self, alloc: Global) -> Mem<Path>
         ensures { IfOk result (λ copy. copy ≡ self.now) }
     {
-        let text = String::from_str(alloc, self.as_str())?;
+        let text = self.text.copy(alloc)?;
         Ok(Path { text })
+    }
+
+    /// Whether the path has at most [`crate::PATH_BYTES_LIMIT`] bytes and
+    /// [`crate::PATH_SEGMENTS_LIMIT`] segments.
+    pub fn is_within_limits(&self) -> bool
+        ensures limits { result ≡ is_within_limits self.now }
+
+        // These are the paths that parse to themselves.
+        ensures normal { IsTrue result ↔ norm self.now ≡ Ok self.now }
+    {
+        let text = self.as_str();
+        is_within(text.len(), count_slashes(text))
     }
 
     /// Whether the path ends in a slash.
@@ -97,6 +193,7 @@ impl Path {
         self.as_str() == "/"
     }
 
+    /// Whether this is the path of an ACL or of a description.
     fn is_auxiliary(&self) -> bool
         ensures is { result ≡ is_auxiliary self.now }
         ensures path { IsPath self.now }
@@ -105,32 +202,39 @@ impl Path {
         ends_with(text, ".acl") || ends_with(text, ".meta")
     }
 
-    /// The path with this text.
-    fn of(alloc: Global, text: &str) -> Mem<Path>
+    /// The path with a text that is one.
+    fn from_text(alloc: Global, text: &str) -> Mem<Path>
         requires { IsPath text.now }
         ensures { IfOk result (λ path. path ≡ text.now) }
     {
-        let text = String::from_str(alloc, text)?;
+        let text = Text::of(alloc, text)?;
         Ok(Path { text })
     }
 
-    /// The path with this text behind it.
-    fn with(&self, alloc: Global, end: &str) -> Mem<Path>
+    /// The path with `end` after its text.
+    fn appended(&self, alloc: Global, end: &str) -> Mem<Path>
         requires { IsPath (self.now ++ end.now) }
         ensures { IfOk result (λ path. path ≡ self.now ++ end.now) }
     {
-        let text = joined(alloc, self.as_str(), end)?;
+        let text = concatenate(alloc, self.as_str(), end)?;
+        let text = Text::from_string(alloc, text)?;
         Ok(Path { text })
     }
 
     /// The container just above; none at the root alone.
     pub fn parent(&self, alloc: Global) -> Mem<Option<Path>>
-        ensures { IfOk result (λ parent. parent ≡ parent_of self.now) }
+        ensures parent { IfOk result (λ parent. parent ≡ parent_of self.now) }
+        ensures container { IfOk result (λ parent. IfSome parent
+            (λ text. is_container text ≡ true)) }
+        ensures shorter { IfOk result (λ parent. IfSome parent
+            (λ text. length text < length self.now)) }
+        ensures normal { norm self.now ≡ Ok self.now
+            → IfOk result (λ parent. IfSome parent (λ text. norm text ≡ Ok text)) }
     {
         if self.is_root() {
             return Ok(None);
         }
-        let parent = Path::of(alloc, above(self.as_str()))?;
+        let parent = Path::from_text(alloc, parent_text(self.as_str()))?;
         Ok(Some(parent))
     }
 
@@ -140,24 +244,26 @@ impl Path {
 
         // Its twin is the path.
         ensures back { IfOk result (λ twin. IfSome twin (λ text. twin_of text ≡ Some self.now)) }
+        ensures parent { IfOk result (λ twin. IfSome twin
+            (λ text. parent_of text ≡ parent_of self.now)) }
     {
         if self.is_root() || self.is_auxiliary() {
             return Ok(None);
         }
-        let twin = self.other_end(alloc)?;
+        let twin = self.twin_text(alloc)?;
         Ok(Some(twin))
     }
 
     /// The path with or without the last slash.
-    fn other_end(&self, alloc: Global) -> Mem<Path>
+    fn twin_text(&self, alloc: Global) -> Mem<Path>
         requires root { is_root self.now ≡ false }
         requires auxiliary { is_auxiliary self.now ≡ false }
         ensures twin { IfOk result (λ twin. Some twin ≡ twin_of self.now) }
         ensures path { IsPath self.now }
     {
-        match before_end(self.as_str(), "/") {
-            Some(front) => Path::of(alloc, front),
-            None => self.with(alloc, "/"),
+        match strip_end(self.as_str(), "/") {
+            Some(prefix) => Path::from_text(alloc, prefix),
+            None => self.appended(alloc, "/"),
         }
     }
 
@@ -171,7 +277,7 @@ impl Path {
         if self.is_auxiliary() {
             return Ok(None);
         }
-        let acl = self.with(alloc, ".acl")?;
+        let acl = self.appended(alloc, ".acl")?;
         Ok(Some(acl))
     }
 
@@ -185,46 +291,56 @@ impl Path {
         if self.is_auxiliary() {
             return Ok(None);
         }
-        let meta = self.with(alloc, ".meta")?;
+        let meta = self.appended(alloc, ".meta")?;
         Ok(Some(meta))
     }
 
-    /// What an ACL or a description is of; none where the path is neither.
+    /// The subject of an ACL or a description; none where the path is neither.
     pub fn subject(&self, alloc: Global) -> Mem<Option<Path>>
-        ensures { IfOk result (λ subject. subject ≡ subject_of self.now) }
+        ensures subject { IfOk result (λ subject. subject ≡ subject_of self.now) }
+
+        // Its ACL, or its description, is the path.
+        ensures acl_back { is_acl self.now ≡ true
+            → IfOk result (λ subject. IfSome subject (λ text. acl_of text ≡ Some self.now)) }
+        ensures meta_back { is_meta self.now ≡ true
+            → IfOk result (λ subject. IfSome subject (λ text. meta_of text ≡ Some self.now)) }
     {
-        if let Some(front) = before_end(self.as_str(), ".acl") {
-            let subject = Path::of(alloc, front)?;
-            return Ok(Some(subject));
+        match subject_text(self.as_str()) {
+            Some(text) => {
+                let subject = Path::from_text(alloc, text)?;
+                Ok(Some(subject))
+            }
+            None => Ok(None),
         }
-        if let Some(front) = before_end(self.as_str(), ".meta") {
-            let subject = Path::of(alloc, front)?;
-            return Ok(Some(subject));
-        }
-        Ok(None)
     }
 
     /// Whether the other path is an ancestor of this one.
     pub fn under(&self, other: &Path) -> bool
-        ensures { IsTrue result ↔ IsUnder self.now other.now }
+        ensures ancestor { IsTrue result ↔ IsUnder self.now other.now }
+        ensures inside { IsTrue result ↔ IsInside self.now other.now }
     {
-        match behind_front(self.as_str(), other.as_str()) {
-            Some(rest) => other.is_container() && !rest.is_empty(),
-            None => false,
-        }
+        is_inside(self.as_str(), other.as_str())
     }
 
-    /// The path of a member by its name. The path must be a container. The limits are those of `read`.
+    /// The path of a member of this container by its name. The limits are those of `read`.
     pub fn child(&self, alloc: Global, name: &str, container: bool) -> Result<Path, PathFault>
         requires { is_container self.now ≡ true }
-        ensures path { IfOk result (λ path. norm (member_text self.now name.now container) ≡ Ok path) }
-        ensures fault { IfErr result (λ fault. FailsAs fault (norm (member_text self.now name.now container))) }
+        ensures path { IfOk result (λ path. norm (member_text self.now name.now container)
+            ≡ Ok path) }
+        ensures fault { IfErr result (λ fault. FailsAs fault
+            (norm (member_text self.now name.now container))) }
+        ensures normal { IfOk result (λ path. norm path ≡ Ok path) }
 
-        // The container is the parent, where the name is one segment.
+        // Where the name is one segment, the path is the parent, and `container` decides the kind.
         ensures parent { IsName name.now → IfOk result (λ path. parent_of path ≡ Some self.now) }
+        ensures container { IsName name.now → IfOk result (λ path. is_container path ≡ container) }
+
+        // A name that needs no change is part of the member's path as it is, and only limits fault.
+        ensures plain { IsPlainName name.now container
+            → IfOk result (λ path. path ≡ member_text self.now name.now container) }
+        ensures limits { IsPlainName name.now container → IfErr result IsLimitFault }
     {
-        let front = joined(alloc, self.as_str(), name)?;
-        let text = joined(alloc, front.as_str(), if container { "/" } else { "" })?;
+        let text = member_text(alloc, self.as_str(), name, container)?;
         Path::read(alloc, text.as_bytes())
     }
 
@@ -232,36 +348,50 @@ impl Path {
     pub fn uri(&self, alloc: Global, base: &Iri) -> Mem<Iri>
         ensures { IfOk result (λ iri. iri ≡ uri_of base.now self.now) }
     {
-        let text = joined(alloc, base.as_str(), behind_slash(self.as_str()))?;
-        match Iri::read(alloc, text.as_str()) {
+        match base.appended(alloc, strip_first_slash(self.as_str())) {
             Ok(iri) => Ok(iri),
             Err(IriFault::NoMemory) => Err(NoMemory),
             Err(IriFault::BadReference) => unreachable!(),
         }
     }
 
-    /// The normal path of a URI, without its fragment; none exactly where it is that of no normal path. The limits
-    /// are those of `read`.
+    /// The normal path of a URI without its fragment; none exactly where it is that of no normal
+    /// path. The limits are those of `read`. After the base it reads at most
+    /// [`crate::PATH_BYTES_LIMIT`] bytes.
     pub fn of_uri(alloc: Global, base: &Iri, uri: &str) -> Mem<Option<Path>>
         ensures some { IfOk result (λ found. IfSome found (λ path. IsUriOf base.now uri.now path)) }
-        ensures none { IfOk result (λ found. IfNone found ((path : List ℕ) → IsUriOf base.now uri.now path → ⊥)) }
+        ensures none { IfOk result (λ found. IfNone found ((path : List ℕ)
+            → IsUriOf base.now uri.now path → ⊥)) }
     {
-        let Some(rest) = behind_front(before_fragment(uri), base.as_str()) else {
+        let Some(part) = uri_part(base.as_str(), uri) else {
             return Ok(None);
         };
-        let text = joined(alloc, "/", rest)?;
-        Path::read_same(alloc, text.as_str())
+        Path::read_after_slash(alloc, part)
     }
 
-    /// A text as a path, where it reads as itself.
-    fn read_same(alloc: Global, text: &str) -> Mem<Option<Path>>
+    /// The path of a slash and these bytes, where it parses to itself.
+    fn read_after_slash(alloc: Global, part: &[u8]) -> Mem<Option<Path>>
+        ensures some { IfOk result (λ found. IfSome found (λ path. path ≡ slash ∷ part.now)) }
+        ensures normal { IfOk result (λ found. IfSome found
+            (λ path. norm (slash ∷ part.now) ≡ Ok path)) }
+        ensures none { IfOk result (λ found. IfNone found
+            (norm (slash ∷ part.now) ≡ Ok (slash ∷ part.now) → ⊥)) }
+    {
+        let mut text = Vec::with_capacity(alloc, part.len().saturating_add(1))?;
+        text.push(b'/')?;
+        text.extend_from_slice(part)?;
+        Path::read_normal(alloc, &text)
+    }
+
+    /// A text as a path, where it parses to itself.
+    fn read_normal(alloc: Global, text: &[u8]) -> Mem<Option<Path>>
         ensures some { IfOk result (λ found. IfSome found (λ path. path ≡ text.now)) }
         ensures normal { IfOk result (λ found. IfSome found (λ path. norm text.now ≡ Ok path)) }
         ensures none { IfOk result (λ found. IfNone found (norm text.now ≡ Ok text.now → ⊥)) }
     {
-        match Path::read(alloc, text.as_bytes()) {
+        match Path::read(alloc, text) {
             Ok(path) => {
-                if path.as_str() == text {
+                if path.as_str().as_bytes() == text {
                     return Ok(Some(path));
                 }
                 Ok(None)

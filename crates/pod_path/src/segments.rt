@@ -1,18 +1,15 @@
-//! What the segments of a path are worth.
+//! The segments of a path: which are normal, reserved or an auxiliary's.
 
 ghost use Rattle.std.specs.Prelude.{◌≡◌, ◌||◌, nat_eq, IfOk, IfErr, Ok, Err, length};
 ghost use Rattle.std.specs.List.{ends_with, list_all};
-ghost use Rattle.iri_ref.specs.Segments.{segments, is_dots};
+ghost use Rattle.iri_ref.specs.Segments.{segments, is_dot_segment};
 ghost use Rattle.pod_path.specs.Characters.{is_unreserved, is_path_character};
-ghost use Rattle.pod_path.specs.Norm.{is_empty, is_auxiliary_name, has_reserved_end, is_of_dots, is_reserved_name, are_normal, are_reserved, measure_of};
+ghost use Rattle.pod_path.specs.Norm.{is_empty, is_auxiliary_name, has_reserved_end};
+ghost use Rattle.pod_path.specs.Norm.{is_dot_auxiliary, is_reserved_name, are_normal, are_reserved};
+ghost use Rattle.pod_path.specs.Norm.{segment_count};
 
 use crate::fault::PathFault;
-
-fn is_dots(segment: &str) -> bool
-    ensures { result ≡ is_dots segment.now }
-{
-    segment == "." || segment == ".."
-}
+use iri_ref::is_dot_segment;
 
 /// Whether a text ends with this one.
 pub(crate) fn ends_with(text: &str, end: &str) -> bool
@@ -37,8 +34,8 @@ fn has_reserved_end(segment: &str) -> bool
         || ends_with(segment, ".meta.meta")
 }
 
-fn is_of_dots(segment: &str) -> bool
-    ensures { result ≡ is_of_dots segment.now }
+fn is_dot_auxiliary(segment: &str) -> bool
+    ensures { result ≡ is_dot_auxiliary segment.now }
 {
     segment == "..acl" || segment == "...acl" || segment == "..meta" || segment == "...meta"
 }
@@ -47,7 +44,7 @@ fn is_of_dots(segment: &str) -> bool
 fn is_reserved_name(segment: &str) -> bool
     ensures { result ≡ is_reserved_name segment.now }
 {
-    has_reserved_end(segment) || is_of_dots(segment)
+    has_reserved_end(segment) || is_dot_auxiliary(segment)
 }
 
 fn is_path_character(b: u8) -> bool
@@ -74,10 +71,10 @@ fn is_path_character(b: u8) -> bool
     )
 }
 
-fn is_empty_or_dots(segment: &str) -> bool
-    ensures { result ≡ (is_empty segment.now || is_dots segment.now) }
+fn is_empty_or_dot_segment(segment: &str) -> bool
+    ensures { result ≡ (is_empty segment.now || is_dot_segment segment.now) }
 {
-    segment.is_empty() || is_dots(segment)
+    segment.is_empty() || is_dot_segment(segment)
 }
 
 fn is_either(a: bool, b: bool) -> bool
@@ -86,22 +83,22 @@ fn is_either(a: bool, b: bool) -> bool
     a || b
 }
 
-/// How many segments stand in a text behind a path's first slash, or why they stand in no path.
-pub(crate) fn measure(path: &str) -> Result<usize, PathFault>
-    ensures { result ≡ measure_of (segments path.now) }
+/// How many segments a text after a path's first slash has, or why it is part of no path.
+pub(crate) fn count_segments(path: &str) -> Result<usize, PathFault>
+    ensures { result ≡ segment_count (segments path.now) }
 {
     let mut rest = path;
     let mut count = 1;
     let mut reserved = false;
     while let Some((segment, after)) = rest.split_once('/') {
-        if is_empty_or_dots(segment) {
+        if is_empty_or_dot_segment(segment) {
             return Err(PathFault::NotNormal);
         }
         reserved = is_either(reserved, is_auxiliary_name(segment));
         count += 1;
         rest = after;
     }
-    if is_dots(rest) {
+    if is_dot_segment(rest) {
         return Err(PathFault::NotNormal);
     }
     if is_either(reserved, is_reserved_name(rest)) {
@@ -110,7 +107,7 @@ pub(crate) fn measure(path: &str) -> Result<usize, PathFault>
     Ok(count)
 }
 
-/// Whether each byte may stand in a path.
+/// Whether each byte is a character of paths.
 pub(crate) fn are_path_characters(bytes: &[u8]) -> bool
     ensures { result ≡ list_all is_path_character bytes.now }
 {

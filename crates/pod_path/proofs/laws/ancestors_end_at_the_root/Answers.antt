@@ -1,5 +1,5 @@
 use Rattle.std.proofs.Common.{refl}
-use Rattle.pod_path.proofs.Above.{under_root}
+use Rattle.pod_path.proofs.Ancestors.{under_root}
 use Rattle.pod_path.proofs.laws.ancestors_end_at_the_root.Goals as goal
 
 pub returns-clause-root : goal.returns-clause-root

@@ -1,27 +1,19 @@
-use Rattle.std.proofs.Common.{◌≡◌, ◌++◌, List, ℕ, Some, ap, sym, subst, ◌∙◌}
-use Rattle.std.specs.Prelude.{codes}
-use Rattle.pod_path.proofs.Names.{acl, meta}
-use Rattle.pod_path.proofs.ReadAgain.{Parts, parts_of, is_path}
-use Rattle.pod_path.proofs.Places.{without_suffix}
-use Rattle.pod_path.proofs.Subjects.{subject_meta, subject_none}
+use Rattle.std.proofs.Common.{◌≡◌, Some, ap, ◌∙◌, rules}
+use Rattle.pod_path.specs.Hierarchy.{subject_of, acl_of, meta_of}
+use Rattle.pod_path.proofs.Subjects.{subject_path, acl_undone, meta_undone}
 use Rattle.pod_path.proofs.path.Path.subject.Goals as goal
 
-pub of-requires : goal.of-requires
-of-requires c =
-    let whole = sym c.as_str.ensures.text ∙ c.in-Some.ensures.some in
-    is_path c.in-Some.front.now (without_suffix c.in-Some.front.now (codes ".acl") acl (subst Parts whole (parts_of c.args.self.now c.as_str.ensures.path)))
+pub from_text-requires : goal.from_text-requires
+from_text-requires c =
+    let is : subject_of c.args.self.now ≡ Some c.in-Some.text.now = search rules in
+    subject_path c.args.self.now c.in-Some.text.now c.as_str.ensures.path is
 
-pub of-requires-in-Some-before_end : goal.of-requires-in-Some-before_end
-of-requires-in-Some-before_end c =
-    let whole = sym c.as_str-2.ensures.text ∙ c.in-Some-before_end.ensures.some in
-    is_path c.in-Some-before_end.front.now (without_suffix c.in-Some-before_end.front.now (codes ".meta") meta (subst Parts whole (parts_of c.args.self.now c.as_str-2.ensures.path)))
+pub returns-in_ok-subject-in-Some-clause-acl_back : goal.returns-in_ok-subject-in-Some-clause-acl_back
+returns-in_ok-subject-in-Some-clause-acl_back c = λ e.
+    let is : subject_of c.args.self.now ≡ Some c.in-Some.text.now = search rules in
+    ap acl_of c.in_ok-subject-in-Some.ensures ∙ acl_undone c.args.self.now c.in-Some.text.now c.as_str.ensures.path e is
 
-pub returns-in-Some-before_end : goal.returns-in-Some-before_end
-returns-in-Some-before_end c =
-    let whole : c.args.self.now ≡ c.in-Some-before_end.front.now ++ codes ".meta" = sym c.as_str-2.ensures.text ∙ c.in-Some-before_end.ensures.some in
-    ap (λ (t : List ℕ). Some t) c.in_ok-subject-2.ensures ∙ sym (subject_meta c.args.self.now c.in-Some-before_end.front.now whole)
-
-pub returns : goal.returns
-returns c = subject_none c.args.self.now
-    (λ front e. c.in_default.ensures.none front (c.as_str.ensures.text ∙ e))
-    (λ front e. c.in_default-before_end.ensures.none front (c.as_str-2.ensures.text ∙ e))
+pub returns-in_ok-subject-in-Some-clause-meta_back : goal.returns-in_ok-subject-in-Some-clause-meta_back
+returns-in_ok-subject-in-Some-clause-meta_back c = λ e.
+    let is : subject_of c.args.self.now ≡ Some c.in-Some.text.now = search rules in
+    ap meta_of c.in_ok-subject-in-Some.ensures ∙ meta_undone c.args.self.now c.in-Some.text.now c.as_str.ensures.path e is

@@ -1,19 +1,15 @@
-use Rattle.std.proofs.Common.{◌≡◌, ◌++◌, List, ℕ, drop, Err, ap, sym, subst, ◌∙◌}
-use Rattle.iri_ref.specs.Components.{IsAbsolute}
-use Rattle.pod_path.specs.Norm.{is_spelled}
-use Rattle.pod_path.proofs.ReadAgain.{parts_of}
-use Rattle.pod_path.proofs.Above.{uri_absolute}
+use Rattle.std.proofs.Common.{◌≡◌, List, ℕ, drop, Err, ap, sym, subst, ◌∙◌}
+use Rattle.iri_ref.specs.Characters.{AllAllowed}
+use Rattle.pod_path.specs.Norm.{has_path_characters}
+use Rattle.pod_path.proofs.NormalPaths.{parts_of}
+use Rattle.pod_path.proofs.Ancestors.{rest_allowed}
 use Rattle.pod_path.proofs.path.Path.uri.Goals as goal
 
-pub behind_slash-requires : goal.behind_slash-requires
-behind_slash-requires c = ap is_spelled c.as_str-2.ensures.text ∙ (parts_of c.args.self.now c.as_str-2.ensures.path).spelled
+pub strip_first_slash-requires : goal.strip_first_slash-requires
+strip_first_slash-requires c = ap has_path_characters c.as_str.ensures.text ∙ (parts_of c.args.self.now c.as_str.ensures.path).characters
 
 pub unreachable-requires : goal.unreachable-requires
 unreachable-requires c =
-    let base = c.args.base.now in
-    let path = c.args.self.now in
-    let text : c.as_str-3.result.now ≡ base ++ drop 1 path =
-    c.as_str-3.ensures.value ∙ c.in_ok-text.ensures ∙ ap (λ (t : List ℕ). t ++ c.behind_slash.result.now) c.as_str.ensures.text
-    ∙ ap (λ (t : List ℕ). base ++ t) (c.behind_slash.ensures ∙ ap (drop 1) c.as_str-2.ensures.text) in
     let err = c.in-Err-BadReference.is ∙ ap (λ f. Err f) c.in-Err-BadReference.field-0-is in
-    c.read.ensures.bad_reference.0 err (subst IsAbsolute (sym text) (uri_absolute base path c.as_str.ensures.absolute c.as_str-2.ensures.path))
+    let rest : c.strip_first_slash.result.now ≡ drop 1 c.args.self.now = c.strip_first_slash.ensures ∙ ap (drop 1) c.as_str.ensures.text in
+    c.appended.ensures.bad_reference.0 err (subst AllAllowed (sym rest) (rest_allowed c.args.self.now (parts_of c.args.self.now c.as_str.ensures.path).characters))

@@ -1,8 +1,0 @@
-use Rattle.pod_path.proofs.Above.{one_path, uri_back}
-use Rattle.pod_path.proofs.laws.one_path_of_a_uri.Goals as goal
-
-pub returns-clause-unique : goal.returns-clause-unique
-returns-clause-unique c = one_path
-
-pub returns-clause-back : goal.returns-clause-back
-returns-clause-back c = uri_back

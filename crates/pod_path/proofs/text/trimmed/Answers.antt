@@ -1,5 +1,0 @@
-use Rattle.pod_path.proofs.Ends.{trimmed_none}
-use Rattle.pod_path.proofs.text.trimmed.Goals as goal
-
-pub returns-in-None : goal.returns-in-None
-returns-in-None c = trimmed_none c.args.path.now c.in-None.ensures.none

@@ -1,0 +1,118 @@
+//! The texts of the paths about a path: its parent, its subject, its members.
+
+ghost use Rattle.std.specs.Prelude.{◌≡◌, ◌↔◌, ◌++◌, List, ℕ, ◌∷◌, [], IsTrue, if◌then◌else◌};
+ghost use Rattle.std.specs.Prelude.{IfSome, IfNone, IfOk, nat_eq, option_copied, string_bytes};
+ghost use Rattle.std.specs.Prelude.{bytes_eq, codes, count_by};
+ghost use Rattle.iri_ref.specs.Characters.{slash, is_slash};
+ghost use Rattle.iri_ref.specs.Resolution.{up_to_last_slash};
+ghost use Rattle.pod_path.specs.Hierarchy.{trimmed, is_root, is_container, is_acl, is_meta};
+ghost use Rattle.pod_path.specs.Hierarchy.{is_auxiliary, subject_of, member_text, IsInside};
+
+use crate::segments::ends_with;
+use std::alloc::{AllocError, Global};
+
+/// The text before `end`, where the text ends in it.
+pub(crate) fn strip_end<'a>(text: &'a str, end: &str) -> Option<&'a str>
+    ensures some { IfSome (option_copied result) (λ prefix. text.entry.now ≡ prefix ++ end.now) }
+    ensures none { IfNone (option_copied result) ((prefix : List ℕ)
+        → text.entry.now ≡ prefix ++ end.now → ⊥) }
+{
+    text.strip_suffix(end)
+}
+
+/// The text after `prefix`, where the text begins with it.
+pub(crate) fn strip_start<'a>(text: &'a str, prefix: &str) -> Option<&'a str>
+    ensures some { IfSome (option_copied result) (λ rest. text.entry.now ≡ prefix.now ++ rest) }
+    ensures none { IfNone (option_copied result) ((rest : List ℕ)
+        → text.entry.now ≡ prefix.now ++ rest → ⊥) }
+{
+    text.strip_prefix(prefix)
+}
+
+/// The text without one slash at its end.
+fn trim_slash(path: &str) -> &str
+    ensures { result.now ≡ trimmed path.now }
+{
+    match strip_end(path, "/") {
+        Some(prefix) => prefix,
+        None => path,
+    }
+}
+
+/// A text up to its last slash and with it.
+fn cut_after_last_slash(text: &str) -> &str
+    ensures { result.now ≡ up_to_last_slash text.now }
+{
+    match text.rfind('/') {
+        Some(at) => &text[..at + 1],
+        None => "",
+    }
+}
+
+/// The text of the container above a path.
+pub(crate) fn parent_text(path: &str) -> &str
+    ensures { result.now ≡ up_to_last_slash (trimmed path.now) }
+{
+    cut_after_last_slash(trim_slash(path))
+}
+
+/// Whether the path is the container's text and more, where the other text is a container's.
+pub(crate) fn is_inside(path: &str, other: &str) -> bool
+    ensures { IsTrue result ↔ IsInside path.now other.now }
+{
+    match strip_start(path, other) {
+        Some(rest) => ends_with(other, "/") && !rest.is_empty(),
+        None => false,
+    }
+}
+
+/// The text of what an ACL or a description is of.
+pub(crate) fn subject_text(path: &str) -> Option<&str>
+    ensures { option_copied result ≡ subject_of path.now }
+{
+    match strip_end(path, ".acl") {
+        Some(subject) => Some(subject),
+        None => strip_end(path, ".meta"),
+    }
+}
+
+/// How many slashes the text has.
+pub(crate) fn count_slashes(text: &str) -> usize
+    ensures { result ≡ count_by is_slash text.now }
+{
+    text.as_bytes().iter().filter(|b| **b == b'/').count()
+}
+
+/// Two texts as one.
+pub(crate) fn concatenate(alloc: Global, prefix: &str, end: &str) -> Result<String, AllocError>
+    ensures { IfOk result (λ text. string_bytes text ≡ prefix.now ++ end.now) }
+{
+    let mut text = String::with_capacity(alloc, prefix.len().saturating_add(end.len()))?;
+    text.push_str(prefix)?;
+    text.push_str(end)?;
+    Ok(text)
+}
+
+/// What follows the name of a member.
+fn member_end(container: bool) -> &'static str
+    ensures { result.now ≡ (if container then slash ∷ [] else []) }
+{
+    if container { "/" } else { "" }
+}
+
+/// The text of a member of a container, in one piece of memory.
+pub(crate) fn member_text(
+    alloc: Global,
+    path: &str,
+    name: &str,
+    container: bool,
+) -> Result<String, AllocError>
+    ensures { IfOk result (λ text. string_bytes text ≡ member_text path.now name.now container) }
+{
+    let len = path.len().saturating_add(name.len()).saturating_add(1);
+    let mut text = String::with_capacity(alloc, len)?;
+    text.push_str(path)?;
+    text.push_str(name)?;
+    text.push_str(member_end(container))?;
+    Ok(text)
+}
