@@ -1,5 +1,5 @@
 -- Patterns that match in one way alone: escapes, IRIREF and short Strings.
-use Rattle.std.proofs.Common.{◌≡◌, ℕ, Bool, false, inl, inr, ⊎_elim, List, ◌∷◌, ◌++◌, drop, sym, ap, ◌∙◌, subst}
+use Rattle.std.proofs.Common.{◌≡◌, ℕ, Bool, false, inl, inr, ⊎_elim, List, ◌∷◌, drop, sym, ap, ◌∙◌, subst}
 use Rattle.std.proofs.Common.{refl}
 use Rattle.std.proofs.lemmas.List.{append_cancel_left, drop_at}
 use lib.Chars.{codes}

@@ -1,6 +1,6 @@
 -- Runs of plain characters in an IRIREF or a String.
-use Rattle.std.proofs.Common.{◌≡◌, ℕ, zero, suc, ◌<◌, ◌≤◌, Bool, true, false, ◌&&◌, ⊎_elim, inl, inr, List, [], ◌∷◌, ◌++◌}
-use Rattle.std.proofs.Common.{length, take, drop, Some, None, refl, sym, ap, ◌∙◌, subst, arith, append_assoc}
+use Rattle.std.proofs.Common.{◌≡◌, ℕ, zero, suc, ◌<◌, ◌≤◌, Bool, true, false, ◌&&◌, ⊎_elim, List, [], ◌∷◌, ◌++◌}
+use Rattle.std.proofs.Common.{take, drop, Some, None, refl, sym, ap, ◌∙◌, subst, arith, append_assoc}
 use Rattle.std.specs.List.{list_all}
 use Rattle.std.specs.Str.{IsUtf8, all_scalars, encode_utf8_all}
 use Rattle.std.specs.Char.{encode_utf8}
@@ -15,13 +15,13 @@ use Rattle.turtle_lex.specs.declared.delimited.Content.{Content}
 use Rattle.turtle_lex.specs.declared.delimited.Content.TheVariants.{Iri, Line, Long}
 use Rattle.turtle_lex.specs.Classes.{is_iri_char, is_line_char, is_long_char, quote_char}
 use Rattle.turtle_lex.specs.ClassOf.{in_class}
-use Rattle.turtle_lex.specs.Pattern.{Pattern, word, one, ◌∘◌, ◌∣◌, many, Matches, Times, MatchesOnly}
-use Rattle.turtle_lex.specs.Terminals.{uchar, echar, quotes}
+use Rattle.turtle_lex.specs.Pattern.{word, one, ◌∘◌, ◌∣◌, many, Matches, Times, MatchesOnly}
+use Rattle.turtle_lex.specs.Terminals.{uchar, echar}
 use Rattle.turtle_lex.specs.Delimited.{part, close, plain_class}
-use Rattle.turtle_lex.proofs.Matching.{refused, not_matched, one_found, or_left, heads, ascii_one, SameEnds, same_step}
+use Rattle.turtle_lex.proofs.Matching.{refused, not_matched, one_found, or_left, ascii_one, SameEnds, same_step}
 use Rattle.turtle_lex.proofs.FirstBytes.{and_left, and_right}
 use Rattle.turtle_lex.proofs.EscapeLemmas.{uchar_head, escape_head, char_no_escape}
-use Rattle.turtle_lex.proofs.DelimitedLemmas.{long_char, iri_no_backslash, line_no_backslash, long_no_backslash, long_no_quote, quote_low, no_quote, close_apart}
+use Rattle.turtle_lex.proofs.DelimitedLemmas.{iri_no_backslash, line_no_backslash, long_no_backslash, long_no_quote, quote_low, no_quote, close_apart}
 
 abbrev pub plain : Content → ℕ → Bool
 plain content = in_class (plain_class content)

@@ -1,7 +1,6 @@
 -- The texts of tokens, and what of a text is UTF-8.
-use mathlib.Core.List.{IsPrefix}
-use Rattle.std.proofs.Common.{◌≡◌, ◌≢◌, ℕ, zero, suc, ◌+◌, ◌-◌, ◌<◌, ◌≤◌, Bool, true, false, not, ◌==◌, inl, inr, List, [], ◌∷◌, ◌++◌}
-use Rattle.std.proofs.Common.{length, get_or, take, drop, Option, Some, None, Result, Ok, Err, IfOk, IfSome, refl, sym, ap, ◌∙◌, subst, arith, append_assoc, length-append}
+use Rattle.std.proofs.Common.{◌≡◌, ◌≢◌, ℕ, zero, suc, ◌+◌, ◌-◌, ◌≤◌, Bool, true, false, not, ◌==◌, inl, inr, List, [], ◌∷◌, ◌++◌}
+use Rattle.std.proofs.Common.{get_or, take, drop, Option, Some, None, Result, Ok, Err, IfOk, IfSome, refl, sym, ap, ◌∙◌, subst, arith}
 use Rattle.std.proofs.lemmas.Bool.{false≢true}
 use Rattle.std.proofs.lemmas.Bool.Decides.{nat_tests}
 use Rattle.std.proofs.lemmas.List.{append-nil, append_cancel_right, take-append-drop, drop-drop}
@@ -10,24 +9,22 @@ use Rattle.std.specs.Str.{IsUtf8}
 use Rattle.std.specs.List.{All, list_all}
 use Rattle.std.proofs.lemmas.List.Elements.{All-nil, All-cons}
 use Rattle.std.specs.Char.{to_ascii_lowercase}
-use lib.Chars.{codes}
 use Rattle.turtle_lex.specs.declared.classes.Quote.{Quote}
 use Rattle.turtle_lex.specs.declared.token.TokenKind.{TokenKind}
 use Rattle.turtle_lex.specs.declared.token.TokenKind.TheVariants.{Quoted, AtPrefix, AtBase}
 use Rattle.turtle_lex.specs.declared.token.LexFault.{LexFault}
 use Rattle.turtle_lex.specs.declared.token.Token.{Token}
-use Rattle.turtle_lex.specs.Classes.{quote_char, is_pn_chars, is_pn_chars_u, is_pn_chars_base}
-use Rattle.turtle_lex.specs.Pattern.{Pattern, word, maybe, Matches}
+use Rattle.turtle_lex.specs.Classes.{is_pn_chars, is_pn_chars_u, is_pn_chars_base}
+use Rattle.turtle_lex.specs.Pattern.{Pattern, maybe, Matches}
 use Rattle.turtle_lex.specs.Terminals.{quotes, short_string, long_string, dotted, pn_prefix, pname_ns, pn_local, pname_ln}
-use Rattle.turtle_lex.specs.Tokens.{terminal, IsString, MatchesKind, IsToken, IsTokenOf, IsNext, IsAnswer, kind_after, listed_token, is_string, AreTokensTo}
+use Rattle.turtle_lex.specs.Tokens.{terminal, IsString, MatchesKind, IsTokenOf, IsNext, IsAnswer, kind_after, listed_token, is_string, AreTokensTo}
 use Rattle.turtle_lex.specs.Laws.{IsTextOf, TokensAreText, TokensEndText, BadTokenEndsText, text_of, TokenTextIsOfKind, TokenTextIsUtf8}
 use Rattle.turtle_lex.specs.Laws.{StartsWithThree, StringStartsWithQuote, ThreeQuotesAreLong, FewerQuotesAreShort}
 use Rattle.turtle_lex.specs.Laws.{HasNoColon, FirstColonSplitsName, FirstColonEndsPrefix, NameHasColon}
-use Rattle.turtle_lex.proofs.Matching.{heads}
 use Rattle.turtle_lex.proofs.ByteLemmas.{keeps, ByteTest, kept, first_same, all_from}
 use Rattle.turtle_lex.proofs.FirstBytes.{and_left, and_right}
 use Rattle.turtle_lex.proofs.GroupLemmas.{kind_matches}
-use Rattle.turtle_lex.proofs.LawLemmas.{matches_its_texts, matches_all_its_texts}
+use Rattle.turtle_lex.proofs.LawLemmas.{matches_its_texts}
 use Rattle.turtle_lex.proofs.TokenLemmas.{string_head}
 use Rattle.turtle_lex.proofs.WordLemmas.{at_prefix_tag, at_base_tag}
 use Rattle.turtle_lex.proofs.Utf8Lemmas.{Utf8Prefix, utf8_trans, matches_utf8, tokens_utf8, terminal_ascii, gap_ascii, last_gap_ascii}

@@ -2,10 +2,10 @@
 use mathlib.Core.List.{IsPrefix}
 use Rattle.std.proofs.Common.{◌≡◌, ◌≢◌, ℕ, ◌+◌, ◌<◌, ◌≤◌, Bool, true, false, not, ◌⊎◌, inl, inr, List, [], ◌∷◌, ◌++◌, length, drop, eq-eqb, ◌==◌, zero, suc}
 use Rattle.std.proofs.lemmas.Bool.{eqb-true}
-use Rattle.std.proofs.Common.{Some, None, refl, sym, ap, ◌∙◌, subst, arith, append_assoc, length-append}
+use Rattle.std.proofs.Common.{Some, refl, sym, ap, ◌∙◌, subst, arith, append_assoc, length-append}
 use Rattle.std.proofs.lemmas.Bool.{false≢true}
 use Rattle.std.proofs.lemmas.Bool.Decides.{nat_tests}
-use Rattle.std.proofs.lemmas.List.{append-nil, append_cancel_right, drop_at}
+use Rattle.std.proofs.lemmas.List.{append_cancel_right, drop_at}
 use Rattle.std.proofs.lemmas.Str.{encode_ascii}
 use Rattle.std.specs.Char.{to_ascii_lowercase}
 use lib.Chars.{codes}
@@ -13,20 +13,19 @@ use Rattle.turtle_lex.specs.declared.classes.Quote.{Quote}
 use Rattle.turtle_lex.specs.declared.classes.Quote.TheVariants.{Double as DoubleQuote, Single as SingleQuote}
 use Rattle.turtle_lex.specs.declared.delimited.Content.TheVariants.{Line}
 use Rattle.turtle_lex.specs.declared.numbers.Number.{Number}
-use Rattle.turtle_lex.specs.declared.numbers.Number.TheVariants as Number
 use Rattle.turtle_lex.specs.declared.token.TokenKind.{TokenKind}
 use Rattle.turtle_lex.specs.declared.token.TokenKind.TheVariants.{IriRef, BlankLabel, LangTag, AtPrefix, AtBase, Quoted, Carets, Dot}
 use Rattle.turtle_lex.specs.declared.groups.Group.TheVariants as Group
 use Rattle.turtle_lex.specs.declared.groups.Mark.TheVariants as Mark
 use Rattle.turtle_lex.specs.Classes.{is_blank, is_pn_chars, is_pn_chars_u, is_pn_chars_base, is_sign, is_exponent_mark, quote_char, is_line_char}
-use Rattle.turtle_lex.specs.Pattern.{Pattern, word, one, ◌∘◌, many, Matches, MatchesOnly, MatchesLongest, Times}
+use Rattle.turtle_lex.specs.Pattern.{Pattern, Matches, MatchesLongest, Times}
 use Rattle.turtle_lex.specs.Terminals.{iri_ref, quotes, short_string, long_string, dotted, label, blank_label, lang_tag, sign, exponent, gap}
 use Rattle.turtle_lex.specs.Numbers.{signed}
-use Rattle.turtle_lex.specs.Tokens.{IsString, MatchesKind, IsToken, IsNext, kind_after}
+use Rattle.turtle_lex.specs.Tokens.{IsString, MatchesKind, IsToken}
 use Rattle.turtle_lex.specs.Groups.{in_group, group_of, IsTokenOfGroup}
-use Rattle.turtle_lex.specs.Delimited.{part, close}
+use Rattle.turtle_lex.specs.Delimited.{part}
 use Rattle.turtle_lex.specs.Laws.{IsTextOf, EndsTerm, WrittenIri, WrittenString, WrittenLabel, WrittenTag, WrittenWords, WrittenTagAfterString, WrittenCarets, WrittenDot, NextIsToken}
-use Rattle.turtle_lex.proofs.Matching.{heads, word_found, matched_rest}
+use Rattle.turtle_lex.proofs.Matching.{heads, word_found}
 use Rattle.turtle_lex.proofs.ByteLemmas.{keeps, ByteTest, kept, kept_ends}
 use Rattle.turtle_lex.proofs.GroupLemmas.{whole_token, token_shorter, blank_small}
 use Rattle.turtle_lex.proofs.LawLemmas.{free, matches_all_its_texts}

@@ -1,8 +1,7 @@
 -- The classes of characters that the terminals of Turtle are made of (RDF 1.1 Turtle, section 6.5).
 use Rattle.std.specs.Prelude.{ℕ, Bool, false, not, ◌||◌, ◌==◌, List, [], ◌∷◌}
 use Rattle.std.specs.Int.{is_in_range}
-use Rattle.std.specs.Char.{is_ascii_digit, is_ascii_hexdigit, is_ascii_alphabetic}
-use Rattle.std.specs.Char.{is_ascii_alphanumeric}
+use Rattle.std.specs.Char.{is_ascii_digit, is_ascii_alphabetic}
 use lib.Chars.{codes}
 use Rattle.turtle_lex.specs.declared.classes.Quote.{Quote}
 use Rattle.turtle_lex.specs.declared.classes.Quote.TheVariants.{Double, Single}

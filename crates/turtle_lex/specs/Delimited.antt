@@ -1,5 +1,5 @@
 -- What lies between delimiters: the content of an IRIREF and of a String.
-use Rattle.std.specs.Prelude.{◌≡◌, ℕ, ◌⊎◌, List, Option, Some, IfSome}
+use Rattle.std.specs.Prelude.{◌≡◌, ℕ, List, Option, Some, IfSome}
 use lib.Chars.{codes}
 use Rattle.turtle_lex.specs.declared.classes.Quote.{Quote}
 use Rattle.turtle_lex.specs.declared.classes.Class.{Class}
@@ -7,9 +7,9 @@ use Rattle.turtle_lex.specs.declared.classes.Class.TheVariants.{InIri, InLineStr
 use Rattle.turtle_lex.specs.declared.delimited.Content.{Content}
 use Rattle.turtle_lex.specs.declared.delimited.Content.TheVariants.{Iri, Line, Long}
 use Rattle.turtle_lex.specs.Classes.{is_iri_char, is_line_char, is_long_char}
-use Rattle.turtle_lex.specs.Pattern.{Pattern, word, one, ◌∘◌, ◌∣◌, maybe, Matches}
+use Rattle.turtle_lex.specs.Pattern.{Pattern, word, one, ◌∘◌, ◌∣◌, maybe}
 use Rattle.turtle_lex.specs.Tokens.{IsString}
-use Rattle.turtle_lex.specs.Terminals.{uchar, echar, quotes, short_string, long_string}
+use Rattle.turtle_lex.specs.Terminals.{uchar, echar, quotes}
 
 -- what the content has any number of
 abbrev pub part : Content → Pattern

@@ -1,13 +1,12 @@
 -- What holds of all patterns, texts and tokens. Each law is the contract of a function of `laws`.
 use mathlib.Core.List.{IsPrefix}
 use lib.Chars.{codes}
-use Rattle.std.specs.Prelude.{◌≡◌, ◌≢◌, ◌↔◌, ◌⊎◌, ℕ, ◌+◌, ◌<◌, Bool, true, false, List, [], ◌∷◌}
+use Rattle.std.specs.Prelude.{◌≡◌, ◌≢◌, ◌⊎◌, ℕ, ◌+◌, ◌<◌, Bool, true, false, List, [], ◌∷◌}
 use Rattle.std.specs.Prelude.{◌++◌}
-use Rattle.std.specs.Prelude.{length, get_or, replicate, take, Option, Some, Result, Ok, Err}
+use Rattle.std.specs.Prelude.{length, get_or, replicate, take, Option, Result}
 use Rattle.std.specs.Prelude.{slice_range}
 use Rattle.std.specs.Str.{IsUtf8, IsValidUpTo}
 use Rattle.turtle_lex.specs.declared.classes.Quote.{Quote}
-use Rattle.turtle_lex.specs.declared.classes.Quote.TheVariants.{Double as DoubleQuote}
 use Rattle.turtle_lex.specs.declared.token.TokenKind.{TokenKind}
 use Rattle.turtle_lex.specs.declared.token.TokenKind.TheVariants as Kind
 use Rattle.turtle_lex.specs.declared.token.Token.{Token}

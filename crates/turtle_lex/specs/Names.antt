@@ -1,6 +1,6 @@
 -- Names of parts and dots, which don't end in a dot.
 use mathlib.Core.List.{IsSuffix}
-use Rattle.std.specs.Prelude.{◌≡◌, ℕ, ◌<◌, ◌≤◌, List, [], ◌∷◌, ◌++◌, length, None}
+use Rattle.std.specs.Prelude.{◌≡◌, ℕ, ◌<◌, ◌≤◌, List, [], ◌∷◌, length, None}
 use Rattle.std.specs.Char.{is_ascii_digit, is_ascii_hexdigit}
 use lib.Chars.{codes}
 use Rattle.turtle_lex.specs.declared.names.Parts.{Parts}
