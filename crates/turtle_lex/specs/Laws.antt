@@ -47,8 +47,7 @@ HasOneAnswer = (bytes : List ℕ) (from : ℕ) (a b : Result (Option Token) LexF
 -- A text has at most one list of tokens.
 abbrev pub HasOneList : Type 0
 HasOneList = (bytes : List ℕ) (tokens others : List Token) → AreTokens bytes tokens
-    → AreTokens bytes others
-    → tokens ≡ others
+    → AreTokens bytes others → tokens ≡ others
 
 -- Tokens that were read are the first of those before the end of the text or its fault.
 abbrev pub AreFirstTokens : Type 0
@@ -107,8 +106,7 @@ ThreeQuotesAreLong = (quote : Quote) (s r : List ℕ) → IsString quote s r →
 
 abbrev pub FewerQuotesAreShort : Type 0
 FewerQuotesAreShort = (quote : Quote) (s r : List ℕ) → IsString quote s r
-    → (StartsWithThree quote s → ⊥)
-    → Matches (short_string quote) s r
+    → (StartsWithThree quote s → ⊥) → Matches (short_string quote) s r
 
 -- no byte of the text is a colon
 abbrev pub HasNoColon : List ℕ → Type 0
@@ -126,7 +124,7 @@ FirstColonEndsPrefix = (prefix rest : List ℕ) → HasNoColon prefix
     → IsTextOf pname_ns (prefix ++ 58 ∷ rest)
     → IsTextOf (maybe pn_prefix) prefix × (rest ≡ [])
 
--- Every PNAME_LN and every PNAME_NS has a `:`.
+-- A PNAME_NS, with which a PNAME_LN begins, is a prefix, which may be missing, and its first `:`.
 abbrev pub NameHasColon : Type 0
 NameHasColon = (s r : List ℕ) → Matches pname_ns s r
     → (prefix : List ℕ) × HasNoColon prefix × IsTextOf (maybe pn_prefix) prefix
@@ -155,8 +153,7 @@ WrittenLabel = (text r : List ℕ) → IsTextOf blank_label text → EndsTerm r
 -- A text of LANGTAG but `@prefix` and `@base` is the token before a blank.
 abbrev pub WrittenTag : Type 0
 WrittenTag = (text r : List ℕ) → IsTextOf lang_tag text → text ≢ codes "@prefix"
-    → text ≢ codes "@base"
-    → EndsTerm r → IsToken Kind.LangTag (text ++ r) r
+    → text ≢ codes "@base" → EndsTerm r → IsToken Kind.LangTag (text ++ r) r
 
 -- `@prefix` and `@base` are the fixed words before a blank.
 abbrev pub WrittenWords : Type 0

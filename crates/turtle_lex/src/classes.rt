@@ -11,9 +11,9 @@ ghost use Rattle.turtle_lex.specs.Pattern.{one, MatchesOnly};
 
 use crate::chars::first_char;
 
-/// The quote of a String.
+/// The quote of a String, which laws name.
 #[derive(Clone, Copy, Debug, PartialEq, Eq)]
-pub(crate) enum Quote {
+pub enum Quote {
     Double,
     Single,
 }

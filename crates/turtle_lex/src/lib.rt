@@ -38,6 +38,7 @@ mod scan;
 mod token;
 mod token_list;
 
+pub use classes::Quote;
 pub use first::next_token;
 pub use lexer::Lexer;
 pub use token::{LexFault, Token, TokenKind};
