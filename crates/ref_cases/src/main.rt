@@ -4,6 +4,7 @@
 
 mod paths;
 mod references;
+mod tokens;
 
 use std::alloc::{AllocError, Global};
 use std::io;
@@ -21,6 +22,7 @@ fn answer_topic(alloc: Global, topic: &str, case: &[&str]) -> Result<String, All
     match topic {
         "reference" => references::answer(alloc, case),
         "path" => paths::answer(alloc, case),
+        "token" => tokens::answer(alloc, case),
         _ => String::from_str(alloc, "no topic"),
     }
 }

@@ -1,15 +1,22 @@
+-- kept for the crates above
+pub mod LawLemmas
+pub mod ListingLemmas
+pub mod Matching
+pub mod NextLemmas
+pub mod TextLemmas
+pub mod WrittenLemmas
+-- for the proofs of this crate
+pub mod BlankLemmas
+pub mod ByteLemmas
 pub mod CharLemmas
 pub mod DelimitedLemmas
 pub mod EscapeLemmas
-pub mod First
-pub mod GapLemmas
+pub mod FirstBytes
 pub mod GroupLemmas
-pub mod LawLemmas
-pub mod ListingLemmas
 pub mod NameLemmas
-pub mod NextLemmas
 pub mod NumberLemmas
-pub mod Reading
+pub mod OneWayLemmas
+pub mod PlainLemmas
 pub mod RunLemmas
 pub mod TokenLemmas
 pub mod Utf8Lemmas

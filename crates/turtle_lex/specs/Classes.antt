@@ -1,12 +1,10 @@
 -- The classes of characters that the terminals of Turtle are made of (RDF 1.1 Turtle, section 6.5).
 use Rattle.std.specs.Prelude.{ℕ, Bool, false, not, ◌||◌, ◌==◌, List, [], ◌∷◌}
 use Rattle.std.specs.Int.{is_in_range}
-use Rattle.std.specs.Char.{is_ascii_digit, is_ascii_hexdigit, is_ascii_alphabetic, is_ascii_alphanumeric}
+use Rattle.std.specs.Char.{is_ascii_digit, is_ascii_alphabetic}
 use lib.Chars.{codes}
 use Rattle.turtle_lex.specs.declared.classes.Quote.{Quote}
 use Rattle.turtle_lex.specs.declared.classes.Quote.TheVariants.{Double, Single}
-use Rattle.turtle_lex.specs.declared.classes.Class.{Class}
-use Rattle.turtle_lex.specs.declared.classes.Class.TheVariants.{Blank, LineEnd, InLine, InIri, InLineString, InLongString, Escaped, LocalEscaped, Digit, HexDigit, Letter, LetterOrDigit, Sign, ExponentMark, NameBase, NameFirst, NamePart}
 
 -- c is one of these
 abbrev pub is_one_of : List ℕ → ℕ → Bool
@@ -42,11 +40,11 @@ is_line_char quote c = not (is_one_of (quote_char quote ∷ 0x5C ∷ 0xA ∷ 0xD
 unfoldable pub is_long_char : Quote → ℕ → Bool
 is_long_char quote c = not (is_one_of (quote_char quote ∷ 0x5C ∷ []) c)
 
--- what may stand behind the backslash of an ECHAR
+-- what follows the backslash of an ECHAR
 unfoldable pub is_escaped : ℕ → Bool
 is_escaped c = is_one_of (codes "tbnrf\"'\\") c
 
--- what may stand behind the backslash of a PN_LOCAL_ESC
+-- what follows the backslash of a PN_LOCAL_ESC
 unfoldable pub is_local_escaped : ℕ → Bool
 is_local_escaped c = is_one_of (codes "_~.-!$&'()*+,;=/?#@%") c
 
@@ -59,8 +57,10 @@ is_exponent_mark c = is_one_of (codes "eE") c
 
 -- PN_CHARS_BASE
 unfoldable pub is_pn_chars_base : ℕ → Bool
-is_pn_chars_base c = is_ascii_alphabetic c || is_in_range 0xC0 0xD6 c || is_in_range 0xD8 0xF6 c || is_in_range 0xF8 0x2FF c || is_in_range 0x370 0x37D c
-    || is_in_range 0x37F 0x1FFF c || is_in_range 0x200C 0x200D c || is_in_range 0x2070 0x218F c || is_in_range 0x2C00 0x2FEF c || is_in_range 0x3001 0xD7FF c
+is_pn_chars_base c = is_ascii_alphabetic c || is_in_range 0xC0 0xD6 c || is_in_range 0xD8 0xF6 c
+    || is_in_range 0xF8 0x2FF c || is_in_range 0x370 0x37D c
+    || is_in_range 0x37F 0x1FFF c || is_in_range 0x200C 0x200D c || is_in_range 0x2070 0x218F c
+    || is_in_range 0x2C00 0x2FEF c || is_in_range 0x3001 0xD7FF c
     || is_in_range 0xF900 0xFDCF c || is_in_range 0xFDF0 0xFFFD c || is_in_range 0x10000 0xEFFFF c
 
 -- PN_CHARS_U
@@ -69,24 +69,5 @@ is_pn_chars_u c = is_pn_chars_base c || c == 0x5F
 
 -- PN_CHARS
 unfoldable pub is_pn_chars : ℕ → Bool
-is_pn_chars c = is_pn_chars_u c || c == 0x2D || is_ascii_digit c || c == 0xB7 || is_in_range 0x300 0x36F c || is_in_range 0x203F 0x2040 c
-
--- the characters of a class
-abbrev pub in_class : Class → ℕ → Bool
-in_class Blank = is_blank
-in_class LineEnd = is_line_end
-in_class InLine = is_in_line
-in_class InIri = is_iri_char
-in_class (InLineString quote) = is_line_char quote
-in_class (InLongString quote) = is_long_char quote
-in_class Escaped = is_escaped
-in_class LocalEscaped = is_local_escaped
-in_class Digit = is_ascii_digit
-in_class HexDigit = is_ascii_hexdigit
-in_class Letter = is_ascii_alphabetic
-in_class LetterOrDigit = is_ascii_alphanumeric
-in_class Sign = is_sign
-in_class ExponentMark = is_exponent_mark
-in_class NameBase = is_pn_chars_base
-in_class NameFirst = is_pn_chars_u
-in_class NamePart = is_pn_chars
+is_pn_chars c = is_pn_chars_u c || c == 0x2D || is_ascii_digit c || c == 0xB7
+    || is_in_range 0x300 0x36F c || is_in_range 0x203F 0x2040 c

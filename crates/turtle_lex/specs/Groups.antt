@@ -1,13 +1,24 @@
 -- The kinds of tokens that a byte may begin.
-use Rattle.std.specs.Prelude.{◌≡◌, ℕ, ◌≤◌, Bool, true, false, cond, ◌||◌, ◌==◌, ◌⊎◌, List, length, nat_lt}
+use Rattle.std.specs.Prelude.{◌≡◌, ℕ, ◌≤◌, Bool, true, false, cond, ◌||◌, ◌==◌, ◌⊎◌, List, length}
+use Rattle.std.specs.Prelude.{nat_lt}
 use Rattle.std.specs.Char.{is_ascii_digit, is_ascii_alphabetic}
 use Rattle.turtle_lex.specs.declared.numbers.Number.{Number}
 use Rattle.turtle_lex.specs.declared.token.TokenKind.{TokenKind}
-use Rattle.turtle_lex.specs.declared.token.TokenKind.TheVariants.{IriRef, PnameNs, PnameLn, BlankLabel, LangTag, Integer, Decimal, Double, Quoted, Anon, AtPrefix, AtBase, Prefix, Base, A, True, False, Dot, Semicolon, Comma, Carets, OpenSquare, CloseSquare, OpenRound, CloseRound, OpenBrace, CloseBrace, Variable}
+use Rattle.turtle_lex.specs.declared.token.TokenKind.TheVariants.{IriRef, PnameNs, PnameLn}
+use Rattle.turtle_lex.specs.declared.token.TokenKind.TheVariants.{BlankLabel, LangTag, Integer}
+use Rattle.turtle_lex.specs.declared.token.TokenKind.TheVariants.{Decimal, Double, Quoted, Anon}
+use Rattle.turtle_lex.specs.declared.token.TokenKind.TheVariants.{AtPrefix, AtBase, Prefix, Base, A}
+use Rattle.turtle_lex.specs.declared.token.TokenKind.TheVariants.{True, False, Dot, Semicolon}
+use Rattle.turtle_lex.specs.declared.token.TokenKind.TheVariants.{Comma, Carets, OpenSquare}
+use Rattle.turtle_lex.specs.declared.token.TokenKind.TheVariants.{CloseSquare, OpenRound}
+use Rattle.turtle_lex.specs.declared.token.TokenKind.TheVariants.{CloseRound, OpenBrace, CloseBrace}
+use Rattle.turtle_lex.specs.declared.token.TokenKind.TheVariants.{Variable}
 use Rattle.turtle_lex.specs.declared.groups.Group.{Group}
-use Rattle.turtle_lex.specs.declared.groups.Group.TheVariants.{Iris, Strings, Tags, Labels, Variables, Numbers, Dots, Squares, Names, Marks, Nothing}
+use Rattle.turtle_lex.specs.declared.groups.Group.TheVariants.{Iris, Strings, Tags, Labels}
+use Rattle.turtle_lex.specs.declared.groups.Group.TheVariants.{Variables, Numbers, Dots, Squares}
+use Rattle.turtle_lex.specs.declared.groups.Group.TheVariants.{Names, Marks, Nothing}
 use Rattle.turtle_lex.specs.declared.groups.Mark.{Mark}
-use Rattle.turtle_lex.specs.Tokens.{Stands}
+use Rattle.turtle_lex.specs.Tokens.{MatchesKind}
 
 abbrev pub in_group : Group → TokenKind → Bool
 in_group Iris IriRef = true
@@ -78,14 +89,18 @@ ascii_group b =
 abbrev pub group_of : ℕ → Group
 group_of b = cond (nat_lt b 128) (ascii_group b) Names
 
--- the token at the front, as far as the kinds of a group go
-pub record IsTokenOf (group : TokenKind → Bool) (kind : TokenKind) (s r : List ℕ) : Type 0 where
-  pub stands : Stands kind s r
-  pub longest : (other : TokenKind) (q : List ℕ) → group other ≡ true → Stands other s q → length r ≤ length q
-  pub fixed : (other : TokenKind) → group other ≡ true → Stands other s r → (other ≡ kind) ⊎ (other ≡ LangTag)
+-- the token at the start among the kinds of a group
+pub record IsTokenOfGroup (group : TokenKind
+    → Bool) (kind : TokenKind) (s r : List ℕ) : Type 0 where
+  pub matches : MatchesKind kind s r
+  pub longest : (other : TokenKind) (q : List ℕ) → group other ≡ true → MatchesKind other s q
+      → length r ≤ length q
+  pub fixed : (other : TokenKind) → group other ≡ true → MatchesKind other s r → (other ≡ kind)
+      ⊎ (other ≡ LangTag)
 
-abbrev pub HasNoneOf : (TokenKind → Bool) → List ℕ → Type 0
-HasNoneOf group s = (kind : TokenKind) (r : List ℕ) → group kind ≡ true → Stands kind s r → ⊥
+abbrev pub HasNoTokenOf : (TokenKind → Bool) → List ℕ → Type 0
+HasNoTokenOf group s = (kind : TokenKind) (r : List ℕ) → group kind ≡ true → MatchesKind kind s r
+    → ⊥
 
 -- the kind of a number's token
 abbrev pub kind_of : Number → TokenKind

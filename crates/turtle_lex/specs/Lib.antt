@@ -1,12 +1,15 @@
 pub mod Classes
-pub mod Numbers
 pub mod Pattern
-pub mod Runs
 pub mod Terminals
-pub mod Delimited
-pub mod Names
-pub mod Groups
 pub mod Tokens
-pub mod Ends
-pub mod Lexing
+pub mod LexerState
 pub mod Laws
+-- internal: cited by private clauses alone
+pub mod ClassOf
+pub mod Delimited
+pub mod Groups
+pub mod LexerInvariant
+pub mod Names
+pub mod Numbers
+pub mod Runs
+pub mod WithoutToken

@@ -1,8 +1,12 @@
--- The terminals of Turtle, as RDF 1.1 Turtle, section 6.5, writes them, with the variables and braces of patches.
+-- The terminals of Turtle (RDF 1.1 Turtle, section 6.5), with the variables and braces of patches.
 use Rattle.std.specs.Prelude.{ℕ, replicate}
-use Rattle.std.specs.Char.{is_ascii_digit, is_ascii_hexdigit, is_ascii_alphabetic, is_ascii_alphanumeric}
+use Rattle.std.specs.Char.{is_ascii_digit, is_ascii_hexdigit, is_ascii_alphabetic}
+use Rattle.std.specs.Char.{is_ascii_alphanumeric}
 use lib.Chars.{codes}
-use Rattle.turtle_lex.specs.Classes.{is_blank, is_in_line, is_line_end, is_iri_char, quote_char, is_line_char, is_long_char, is_escaped, is_local_escaped, is_sign, is_exponent_mark, is_pn_chars_base, is_pn_chars_u, is_pn_chars}
+use Rattle.turtle_lex.specs.Classes.{is_blank, is_in_line, is_line_end, is_iri_char, quote_char}
+use Rattle.turtle_lex.specs.Classes.{is_line_char, is_long_char, is_escaped, is_local_escaped}
+use Rattle.turtle_lex.specs.Classes.{is_sign, is_exponent_mark, is_pn_chars_base, is_pn_chars_u}
+use Rattle.turtle_lex.specs.Classes.{is_pn_chars}
 use Rattle.turtle_lex.specs.declared.classes.Quote.{Quote}
 use Rattle.turtle_lex.specs.Pattern.{Pattern, word, one, number, ◌∘◌, ◌∣◌, many, maybe, some}
 
@@ -24,7 +28,8 @@ quotes quote n = word (replicate n (quote_char quote))
 
 -- STRING_LITERAL_QUOTE and STRING_LITERAL_SINGLE_QUOTE
 unfoldable pub short_string : Quote → Pattern
-short_string quote = quotes quote 1 ∘ many (one (is_line_char quote) ∣ echar ∣ uchar) ∘ quotes quote 1
+short_string quote = quotes quote 1 ∘ many (one (is_line_char quote) ∣ echar ∣ uchar)
+    ∘ quotes quote 1
 
 -- STRING_LITERAL_LONG_QUOTE and STRING_LITERAL_LONG_SINGLE_QUOTE
 unfoldable pub long_string : Quote → Pattern
@@ -36,7 +41,7 @@ long_string quote = quotes quote 3
 unfoldable pub dotted : Pattern → Pattern → Pattern
 dotted first part = first ∘ maybe (many (part ∣ word (codes ".")) ∘ part)
 
--- what stands behind `_:` in a BLANK_NODE_LABEL
+-- what follows `_:` in a BLANK_NODE_LABEL
 unfoldable pub label : Pattern
 label = dotted (one is_pn_chars_u ∣ one is_ascii_digit) (one is_pn_chars)
 
@@ -63,7 +68,8 @@ plx = word (codes "%") ∘ one is_ascii_hexdigit ∘ one is_ascii_hexdigit
 
 -- PN_LOCAL
 unfoldable pub pn_local : Pattern
-pn_local = dotted (one is_pn_chars_u ∣ word (codes ":") ∣ one is_ascii_digit ∣ plx) (one is_pn_chars ∣ word (codes ":") ∣ plx)
+pn_local = dotted (one is_pn_chars_u ∣ word (codes ":") ∣ one is_ascii_digit
+    ∣ plx) (one is_pn_chars ∣ word (codes ":") ∣ plx)
 
 -- PNAME_LN
 unfoldable pub pname_ln : Pattern
@@ -71,7 +77,8 @@ pname_ln = pname_ns ∘ pn_local
 
 -- LANGTAG
 unfoldable pub lang_tag : Pattern
-lang_tag = word (codes "@") ∘ some (one is_ascii_alphabetic) ∘ many (word (codes "-") ∘ some (one is_ascii_alphanumeric))
+lang_tag = word (codes "@") ∘ some (one is_ascii_alphabetic)
+    ∘ many (word (codes "-") ∘ some (one is_ascii_alphanumeric))
 
 abbrev pub digit : Pattern
 digit = one is_ascii_digit
@@ -105,10 +112,10 @@ anon = word (codes "[") ∘ many (one is_blank) ∘ word (codes "]")
 unfoldable pub comment : Pattern
 comment = word (codes "#") ∘ many (one is_in_line)
 
--- what may stand between two tokens: blanks, and comments with the ends of their lines
+-- what lies between two tokens: blanks, and comments with the ends of their lines
 unfoldable pub gap : Pattern
 gap = many (one is_blank ∣ comment ∘ one is_line_end)
 
--- what may stand behind the last token: a comment there needs no end of its line
+-- what follows the last token: a comment there needs no end of its line
 unfoldable pub last_gap : Pattern
 last_gap = gap ∘ maybe comment

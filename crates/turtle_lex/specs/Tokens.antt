@@ -1,17 +1,31 @@
--- The tokens of a text.
-use Rattle.std.specs.Prelude.{◌≡◌, ℕ, ◌<◌, ◌≤◌, Bool, true, false, ◌⊎◌, List, [], ◌∷◌, length, drop, Option, Some, None, Result, Ok, Err}
+-- The tokens of a text (RDF 1.1 Turtle, sections 6.2 and 6.5).
+use Rattle.std.specs.Prelude.{◌≡◌, ℕ, ◌<◌, ◌≤◌, Bool, true, false, ◌⊎◌, List, [], ◌∷◌, length, drop}
+use Rattle.std.specs.Prelude.{Option, Some, None, Result, Ok, Err}
 use lib.Chars.{codes}
 use Rattle.turtle_lex.specs.declared.classes.Quote.{Quote}
-use Rattle.turtle_lex.specs.declared.classes.Quote.TheVariants.{Double as DoubleQuote, Single as SingleQuote}
+use Rattle.turtle_lex.specs.declared.classes.Quote.TheVariants.{Double as DoubleQuote}
+use Rattle.turtle_lex.specs.declared.classes.Quote.TheVariants.{Single as SingleQuote}
 use Rattle.turtle_lex.specs.declared.token.TokenKind.{TokenKind}
-use Rattle.turtle_lex.specs.declared.token.TokenKind.TheVariants.{IriRef, PnameNs, PnameLn, BlankLabel, LangTag, Integer, Decimal, Double, Quoted, Anon, AtPrefix, AtBase, Prefix, Base, A, True, False, Dot, Semicolon, Comma, Carets, OpenSquare, CloseSquare, OpenRound, CloseRound, OpenBrace, CloseBrace, Variable}
+use Rattle.turtle_lex.specs.declared.token.TokenKind.TheVariants.{IriRef, PnameNs, PnameLn}
+use Rattle.turtle_lex.specs.declared.token.TokenKind.TheVariants.{BlankLabel, LangTag}
+use Rattle.turtle_lex.specs.declared.token.TokenKind.TheVariants.{Integer, Decimal, Double, Quoted}
+use Rattle.turtle_lex.specs.declared.token.TokenKind.TheVariants.{Anon}
+use Rattle.turtle_lex.specs.declared.token.TokenKind.TheVariants.{AtPrefix, AtBase, Prefix, Base, A}
+use Rattle.turtle_lex.specs.declared.token.TokenKind.TheVariants.{True, False}
+use Rattle.turtle_lex.specs.declared.token.TokenKind.TheVariants.{Dot, Semicolon, Comma, Carets}
+use Rattle.turtle_lex.specs.declared.token.TokenKind.TheVariants.{OpenSquare}
+use Rattle.turtle_lex.specs.declared.token.TokenKind.TheVariants.{CloseSquare, OpenRound}
+use Rattle.turtle_lex.specs.declared.token.TokenKind.TheVariants.{CloseRound, OpenBrace}
+use Rattle.turtle_lex.specs.declared.token.TokenKind.TheVariants.{CloseBrace, Variable}
 use Rattle.turtle_lex.specs.declared.token.Token.{Token}
 use Rattle.turtle_lex.specs.declared.token.LexFault.{LexFault}
 use Rattle.turtle_lex.specs.declared.token.LexFault.TheVariants.{NotText, BadToken, NoMemory}
 use Rattle.turtle_lex.specs.Classes.{is_blank}
-use Rattle.turtle_lex.specs.Pattern.{Pattern, word, any_case, one, ◌∣◌, Reads, BeginsNoChar}
-use Rattle.turtle_lex.specs.Terminals.{iri_ref, short_string, long_string, blank_label, variable, pname_ns, pname_ln, lang_tag, integer, decimal, double, anon, gap, last_gap}
-use Rattle.turtle_lex.specs.Delimited.{IsString}
+use Rattle.turtle_lex.specs.Pattern.{Pattern, word, any_case, one, ◌∣◌, Matches, HasNoFirstChar}
+use Rattle.turtle_lex.specs.Terminals.{quotes, iri_ref, short_string, long_string, blank_label}
+use Rattle.turtle_lex.specs.Terminals.{variable}
+use Rattle.turtle_lex.specs.Terminals.{pname_ns, pname_ln, lang_tag, integer, decimal, double, anon}
+use Rattle.turtle_lex.specs.Terminals.{gap, last_gap}
 
 -- the terminal or the fixed word of each kind
 abbrev pub terminal : TokenKind → Pattern
@@ -23,7 +37,8 @@ terminal LangTag = lang_tag
 terminal Integer = integer
 terminal Decimal = decimal
 terminal Double = double
-terminal Quoted = short_string DoubleQuote ∣ short_string SingleQuote ∣ long_string DoubleQuote ∣ long_string SingleQuote
+terminal Quoted = short_string DoubleQuote ∣ short_string SingleQuote
+    ∣ long_string DoubleQuote ∣ long_string SingleQuote
 terminal Anon = anon
 terminal AtPrefix = word (codes "@prefix")
 terminal AtBase = word (codes "@base")
@@ -44,87 +59,117 @@ terminal OpenBrace = word (codes "{")
 terminal CloseBrace = word (codes "}")
 terminal Variable = variable
 
--- A text of this kind stands at the front of s, and r is left. Where three equal quotes stand, only the long string is tried.
-abbrev pub Stands : TokenKind → List ℕ → List ℕ → Type 0
-Stands Quoted s r = (quote : Quote) × IsString quote s r
-Stands kind s r = Reads (terminal kind) s r
+-- A String with this quote is a prefix of s, and r is left. Where three quotes begin the text, only
+-- the long string is tried.
+abbrev pub IsString : Quote → List ℕ → List ℕ → Type 0
+IsString quote s r = Matches (long_string quote) s r
+    ⊎ (Matches (short_string quote) s r × ((m : List ℕ) → Matches (quotes quote 3) s m → ⊥))
 
--- The token at the front of s, which leaves r: no other text that stands there is longer, and if another kind has the
--- same text, then it is LANGTAG, which gives way to `@prefix` and `@base`.
+-- A text of this kind is a prefix of s, and r is left.
+abbrev pub MatchesKind : TokenKind → List ℕ → List ℕ → Type 0
+MatchesKind Quoted s r = (quote : Quote) × IsString quote s r
+MatchesKind kind s r = Matches (terminal kind) s r
+
+-- The token at the start of s, which leaves r: no kind has a longer text there, and another kind of
+-- the same text is LANGTAG, which gives way to `@prefix` and `@base`.
 pub record IsToken (kind : TokenKind) (s r : List ℕ) : Type 0 where
-  pub stands : Stands kind s r
-  pub longest : (other : TokenKind) (q : List ℕ) → Stands other s q → length r ≤ length q
-  pub fixed : (other : TokenKind) → Stands other s r → (other ≡ kind) ⊎ (other ≡ LangTag)
+  pub matches : MatchesKind kind s r
+  pub longest : (other : TokenKind) (q : List ℕ) → MatchesKind other s q → length r ≤ length q
+  pub fixed : (other : TokenKind) → MatchesKind other s r → (other ≡ kind) ⊎ (other ≡ LangTag)
 
--- no text of any kind stands at the front
+-- no kind has a text at the start of s
 abbrev pub HasNoToken : List ℕ → Type 0
-HasNoToken s = (kind : TokenKind) (r : List ℕ) → Stands kind s r → ⊥
+HasNoToken s = (kind : TokenKind) (r : List ℕ) → MatchesKind kind s r → ⊥
 
--- what begins a blank or a comment
+-- A token of these bytes: its text is of its kind, and no kind has a longer one at its position.
+pub record IsTokenOf (bytes : List ℕ) (token : Token) : Type 0 where
+  pub in_order : token.from < token.to
+  pub within : token.to ≤ length bytes
+  pub matches : MatchesKind token.kind (drop token.from bytes) (drop token.to bytes)
+  pub longest : (other : TokenKind) (q : List ℕ) → MatchesKind other (drop token.from bytes) q
+      → length (drop token.to bytes) ≤ length q
+
+-- what a blank or a comment begins with
 abbrev pub gap_start : Pattern
 gap_start = one is_blank ∣ word (codes "#")
 
--- The first token of the text from `from` on: between it and `from` there are blanks and comments.
+-- The first token of the text from `from` on: before it are blanks and comments alone.
 pub record IsNext (bytes : List ℕ) (from : ℕ) (token : Token) : Type 0 where
   pub after : from ≤ token.from
   pub in_order : token.from < token.to
   pub within : token.to ≤ length bytes
-  pub gap_before : Reads gap (drop from bytes) (drop token.from bytes)
-  pub stands : IsToken token.kind (drop token.from bytes) (drop token.to bytes)
+  pub gap_before : Matches gap (drop from bytes) (drop token.from bytes)
+  pub matches : IsToken token.kind (drop token.from bytes) (drop token.to bytes)
 
--- From `from` on there are blanks and comments up to `at`, where the bytes begin with no character.
+-- From `from` on there are blanks and comments up to `at`, where the bytes are no character.
 pub record IsNotText (bytes : List ℕ) (from at : ℕ) : Type 0 where
   pub after : from ≤ at
   pub within : at < length bytes
-  pub gap_before : Reads last_gap (drop from bytes) (drop at bytes)
-  pub no_character : BeginsNoChar (drop at bytes)
+  pub gap_before : Matches last_gap (drop from bytes) (drop at bytes)
+  pub no_character : HasNoFirstChar (drop at bytes)
 
--- From `from` on there are blanks and comments up to `at`, where a character stands that begins no token, and neither a
--- blank nor a comment.
+-- From `from` on there are blanks and comments up to `at`, where a character begins neither a token
+-- nor a blank or comment.
 pub record IsBadToken (bytes : List ℕ) (from at : ℕ) : Type 0 where
   pub after : from ≤ at
   pub within : at < length bytes
-  pub gap_before : Reads gap (drop from bytes) (drop at bytes)
-  pub gap_ends : (m : List ℕ) → Reads gap_start (drop at bytes) m → ⊥
+  pub gap_before : Matches gap (drop from bytes) (drop at bytes)
+  pub gap_ends : (m : List ℕ) → Matches gap_start (drop at bytes) m → ⊥
   pub no_token : HasNoToken (drop at bytes)
-  pub character : BeginsNoChar (drop at bytes) → ⊥
+  pub character : HasNoFirstChar (drop at bytes) → ⊥
 
--- What the text has from `from` on: its first token, nothing but blanks and comments, or the place where it has none.
+-- What the text has from `from` on: its first token, only blanks and comments, or a fault.
 abbrev pub IsAnswer : List ℕ → ℕ → Result (Option Token) LexFault → Type 0
 IsAnswer bytes from (Ok (Some token)) = IsNext bytes from token
-IsAnswer bytes from (Ok None) = Reads last_gap (drop from bytes) []
+IsAnswer bytes from (Ok None) = Matches last_gap (drop from bytes) []
 IsAnswer bytes from (Err (NotText at)) = IsNotText bytes from at
 IsAnswer bytes from (Err (BadToken at)) = IsBadToken bytes from at
 IsAnswer bytes from (Err NoMemory) = ⊥
+
+-- the end of the tokens: nothing but blanks and comments is left, or a fault
+abbrev pub IsEnd : Result (Option Token) LexFault → Type 0
+IsEnd (Ok (Some token)) = ⊥
+IsEnd (Ok None) = Unit {0}
+IsEnd (Err fault) = Unit {0}
 
 abbrev pub is_string : TokenKind → Bool
 is_string Quoted = true
 is_string kind = false
 
--- the kind of a token next to another: behind a String `@prefix` and `@base` are LANGTAG
-abbrev pub kind_behind : Bool → TokenKind → TokenKind
-kind_behind true AtPrefix = LangTag
-kind_behind true AtBase = LangTag
-kind_behind behind_string kind = kind
+-- the kind of a token in a list: after a String `@prefix` and `@base` are LANGTAG
+abbrev pub kind_after : Bool → TokenKind → TokenKind
+kind_after true AtPrefix = LangTag
+kind_after true AtBase = LangTag
+kind_after after_string kind = kind
 
--- the token as it is listed behind another
-abbrev pub listed_behind : Bool → Token → Token
-listed_behind behind_string token = record { kind = kind_behind behind_string token.kind; from = token.from; to = token.to }
+-- the token as it is listed, after a String or after another token
+abbrev pub listed_token : Bool → Token → Token
+listed_token after_string token = record {
+  kind = kind_after after_string token.kind;
+  from = token.from;
+  to = token.to;
+}
 
--- From `from` on these are the tokens up to `to`, each the first of the text behind the one before. The first may stand
--- behind a String, and so may what follows the last.
+-- From `from` on these are the tokens up to `to`, each the first of the text after the one before.
+-- `after_string` says whether a String precedes them, and `string` whether the last is one.
 abbrev pub AreTokensTo : List ℕ → ℕ → Bool → List Token → ℕ → Bool → Type 0
-AreTokensTo bytes from behind_string [] to string = (from ≡ to) × (behind_string ≡ string)
-AreTokensTo bytes from behind_string (token ∷ tokens) to string =
-    (next : Token) × IsNext bytes from next × (token ≡ listed_behind behind_string next) × AreTokensTo bytes next.to (is_string next.kind) tokens to string
+AreTokensTo bytes from after_string [] to string = (from ≡ to) × (after_string ≡ string)
+AreTokensTo bytes from after_string (token ∷ tokens) to string =
+    (next : Token) × IsNext bytes from next × (token ≡ listed_token after_string next)
+    × AreTokensTo bytes next.to (is_string next.kind) tokens to string
 
--- The tokens of the bytes: behind the last there are blanks and comments alone.
+-- The tokens of the bytes: after the last there are only blanks and comments.
 abbrev pub AreTokens : List ℕ → List Token → Type 0
-AreTokens bytes tokens = (end : ℕ) × (string : Bool) × AreTokensTo bytes 0 false tokens end string × IsAnswer bytes end (Ok None)
+AreTokens bytes tokens =
+    (end : ℕ) × (string : Bool) × AreTokensTo bytes 0 false tokens end string
+    × IsAnswer bytes end (Ok None)
 
--- The bytes have no tokens: behind the tokens in front the fault stands.
+-- The bytes have no tokens: after some tokens comes the fault.
 abbrev pub HasFault : List ℕ → LexFault → Type 0
-HasFault bytes fault = (tokens : List Token) × (end : ℕ) × (string : Bool) × AreTokensTo bytes 0 false tokens end string × IsAnswer bytes end (Err fault)
+HasFault bytes fault =
+    (tokens : List Token) × (end : ℕ) × (string : Bool)
+    × AreTokensTo bytes 0 false tokens end string
+    × IsAnswer bytes end (Err fault)
 
 abbrev pub HasNoTokens : List ℕ → Type 0
 HasNoTokens bytes = (tokens : List Token) → AreTokens bytes tokens → ⊥

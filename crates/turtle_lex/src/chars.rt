@@ -1,16 +1,16 @@
-//! One character at the front of a text.
+//! The first character of a text.
 
 ghost use Rattle.std.specs.Prelude.{◌≡◌, ◌<◌, ◌++◌, List, ℕ, length, IfSome, IfNone};
 ghost use Rattle.std.specs.Char.{IsScalar, encode_utf8};
-ghost use Rattle.turtle_lex.specs.Pattern.{BeginsNoChar};
+ghost use Rattle.turtle_lex.specs.Pattern.{HasNoFirstChar};
 
 use bstr::decode_utf8;
 
-/// The character that the text begins with, and what follows it. None comes exactly where the text is empty or begins
-/// with bytes that are no UTF-8.
+/// The first character of the text, and what follows it. Returns `None` exactly where the text is
+/// empty or begins with bytes that are no UTF-8.
 pub(crate) fn first_char(text: &[u8]) -> Option<(char, &[u8])>
     ensures found { IfSome result (λ p. IsScalar p.0 × (text.now ≡ encode_utf8 p.0 ++ p.1.now)) }
-    ensures none { IfNone result (BeginsNoChar text.now) }
+    ensures none { IfNone result (HasNoFirstChar text.now) }
 {
     if let [b @ 0..=0x7F, rest @ ..] = text {
         return Some((*b as char, rest));
@@ -21,7 +21,7 @@ pub(crate) fn first_char(text: &[u8]) -> Option<(char, &[u8])>
 /// The same, without the short way for ASCII.
 fn wide_char(text: &[u8]) -> Option<(char, &[u8])>
     ensures found { IfSome result (λ p. IsScalar p.0 × (text.now ≡ encode_utf8 p.0 ++ p.1.now)) }
-    ensures none { IfNone result (BeginsNoChar text.now) }
+    ensures none { IfNone result (HasNoFirstChar text.now) }
 {
     let (found, size) = decode_utf8(text);
     match found {

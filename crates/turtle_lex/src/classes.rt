@@ -2,14 +2,18 @@
 
 ghost use Rattle.std.specs.Prelude.{◌≡◌, ◌<◌, length, IfSome};
 ghost use Rattle.std.specs.Option.{option_copied};
-ghost use Rattle.turtle_lex.specs.Classes.{is_blank, is_line_end, is_in_line, is_iri_char, quote_char, is_line_char, is_long_char, is_escaped, is_local_escaped, is_sign, is_exponent_mark, is_pn_chars_base, is_pn_chars_u, is_pn_chars, in_class};
-ghost use Rattle.turtle_lex.specs.Pattern.{one, ReadsOnly};
+ghost use Rattle.turtle_lex.specs.Classes.{is_blank, is_line_end, is_in_line, is_iri_char};
+ghost use Rattle.turtle_lex.specs.Classes.{quote_char, is_line_char, is_long_char, is_escaped};
+ghost use Rattle.turtle_lex.specs.Classes.{is_local_escaped, is_sign, is_exponent_mark};
+ghost use Rattle.turtle_lex.specs.Classes.{is_pn_chars_base, is_pn_chars_u, is_pn_chars};
+ghost use Rattle.turtle_lex.specs.ClassOf.{in_class};
+ghost use Rattle.turtle_lex.specs.Pattern.{one, MatchesOnly};
 
 use crate::chars::first_char;
 
-/// The quote of a String.
+/// The quote of a String, which laws name.
 #[derive(Clone, Copy, Debug, PartialEq, Eq)]
-pub(crate) enum Quote {
+pub enum Quote {
     Double,
     Single,
 }
@@ -40,9 +44,9 @@ pub(crate) enum Class {
     InLineString(Quote),
     /// What a String between three quotes may hold, beside quotes and escapes.
     InLongString(Quote),
-    /// What may stand behind the backslash of an ECHAR.
+    /// What follows the backslash of an ECHAR.
     Escaped,
-    /// What may stand behind the backslash of a PN_LOCAL_ESC.
+    /// What follows the backslash of a PN_LOCAL_ESC.
     LocalEscaped,
     Digit,
     HexDigit,
@@ -60,7 +64,7 @@ pub(crate) enum Class {
 }
 
 impl Class {
-    fn contains(self, c: char) -> bool
+    pub(crate) fn contains(self, c: char) -> bool
         ensures { result ≡ in_class self c }
     {
         match self {
@@ -86,8 +90,8 @@ impl Class {
 }
 
 /// What follows a character of the class.
-pub(crate) fn after_one(text: &[u8], class: Class) -> Option<&[u8]>
-    ensures reads { ReadsOnly (one (in_class class)) text.now (option_copied result) }
+pub(crate) fn strip_one(text: &[u8], class: Class) -> Option<&[u8]>
+    ensures matches { MatchesOnly (one (in_class class)) text.now (option_copied result) }
     ensures shorter { IfSome result (λ rest. length rest.now < length text.now) }
 {
     match first_char(text) {
@@ -202,9 +206,10 @@ fn is_exponent_mark(c: char) -> bool
 fn is_pn_chars_base(c: char) -> bool
     ensures { result ≡ is_pn_chars_base c }
 {
-    matches!(c, 'A'..='Z' | 'a'..='z' | '\u{C0}'..='\u{D6}' | '\u{D8}'..='\u{F6}' | '\u{F8}'..='\u{2FF}'
-        | '\u{370}'..='\u{37D}' | '\u{37F}'..='\u{1FFF}' | '\u{200C}'..='\u{200D}' | '\u{2070}'..='\u{218F}'
-        | '\u{2C00}'..='\u{2FEF}' | '\u{3001}'..='\u{D7FF}' | '\u{F900}'..='\u{FDCF}' | '\u{FDF0}'..='\u{FFFD}'
+    matches!(c, 'A'..='Z' | 'a'..='z' | '\u{C0}'..='\u{D6}' | '\u{D8}'..='\u{F6}'
+        | '\u{F8}'..='\u{2FF}' | '\u{370}'..='\u{37D}' | '\u{37F}'..='\u{1FFF}'
+        | '\u{200C}'..='\u{200D}' | '\u{2070}'..='\u{218F}' | '\u{2C00}'..='\u{2FEF}'
+        | '\u{3001}'..='\u{D7FF}' | '\u{F900}'..='\u{FDCF}' | '\u{FDF0}'..='\u{FFFD}'
         | '\u{10000}'..='\u{EFFFF}')
 }
 

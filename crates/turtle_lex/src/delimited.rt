@@ -1,91 +1,95 @@
-//! IRIREF and String: what stands between delimiters.
+//! IRIREF and String: what lies between delimiters.
 
 ghost use Rattle.std.specs.Prelude.{◌≡◌, ◌<◌, false, length, IfSome};
 ghost use Rattle.std.specs.Option.{option_copied};
-ghost use Rattle.turtle_lex.specs.Classes.{in_class};
-ghost use Rattle.turtle_lex.specs.Pattern.{one, ◌∘◌, ◌∣◌, many, ReadsOnly};
+ghost use Rattle.turtle_lex.specs.ClassOf.{in_class};
+ghost use Rattle.turtle_lex.specs.Pattern.{one, ◌∘◌, ◌∣◌, many, MatchesOnly};
 ghost use Rattle.turtle_lex.specs.Terminals.{uchar, echar, iri_ref};
 ghost use Rattle.turtle_lex.specs.Delimited.{part, close, StringOnly};
 
-use crate::classes::{Class, Quote, after_one};
-use crate::escapes::{after, after_escape, after_uchar};
+use crate::classes::{Class, Quote, strip_one};
+use crate::escapes::{strip_escape, strip_uchar, strip_word};
+use crate::plain_run::strip_plain;
 
-/// The inside of an IRIREF, of a String between single quotes, or of one between three quotes.
+/// The content of an IRIREF, of a String between single quotes, or of one between three quotes.
 #[derive(Clone, Copy, Debug, PartialEq, Eq)]
-pub(crate) enum Inside {
+pub(crate) enum Content {
     Iri,
     Line(Quote),
     Long(Quote),
 }
 
 /// What follows a character of the class, which has no backslash, or an escape.
-fn after_char(text: &[u8], class: Class) -> Option<&[u8]>
+fn strip_char(text: &[u8], class: Class) -> Option<&[u8]>
     requires { in_class class 92 ≡ false }
-    ensures reads { ReadsOnly (one (in_class class) ∣ echar ∣ uchar) text.now (option_copied result) }
+    ensures matches { MatchesOnly (one (in_class class) ∣ echar
+        ∣ uchar) text.now (option_copied result) }
     ensures shorter { IfSome result (λ rest. length rest.now < length text.now) }
 {
-    match after_one(text, class) {
+    match strip_one(text, class) {
         Some(rest) => Some(rest),
-        None => after_escape(text),
+        None => strip_escape(text),
     }
 }
 
-/// What follows one part of the inside of a String between three quotes: quotes, up to two, and what is no quote.
-fn after_long_part(text: &[u8], quote: Quote) -> Option<&[u8]>
-    ensures reads { ReadsOnly (part (Inside.Long quote)) text.now (option_copied result) }
+/// What follows one part of the content of a String between three quotes: up to two quotes, and
+/// what is no quote.
+fn strip_long_part(text: &[u8], quote: Quote) -> Option<&[u8]>
+    ensures matches { MatchesOnly (part (Content.Long quote)) text.now (option_copied result) }
     ensures shorter { IfSome result (λ rest. length rest.now < length text.now) }
 {
     let byte = quote.byte();
-    match after(text, &[byte, byte]) {
-        Some(rest) => after_char(rest, Class::InLongString(quote)),
-        None => match after(text, &[byte]) {
-            Some(rest) => after_char(rest, Class::InLongString(quote)),
-            None => after_char(text, Class::InLongString(quote)),
+    match strip_word(text, &[byte, byte]) {
+        Some(rest) => strip_char(rest, Class::InLongString(quote)),
+        None => match strip_word(text, &[byte]) {
+            Some(rest) => strip_char(rest, Class::InLongString(quote)),
+            None => strip_char(text, Class::InLongString(quote)),
         },
     }
 }
 
-/// What follows one part of the inside.
-fn after_part(text: &[u8], inside: Inside) -> Option<&[u8]>
-    ensures reads { ReadsOnly (part inside) text.now (option_copied result) }
+/// What follows one part of the content.
+fn strip_part(text: &[u8], inside: Content) -> Option<&[u8]>
+    ensures matches { MatchesOnly (part inside) text.now (option_copied result) }
     ensures shorter { IfSome result (λ rest. length rest.now < length text.now) }
 {
     match inside {
-        Inside::Iri => match after_one(text, Class::InIri) {
+        Content::Iri => match strip_one(text, Class::InIri) {
             Some(rest) => Some(rest),
-            None => after_uchar(text),
+            None => strip_uchar(text),
         },
-        Inside::Line(quote) => after_char(text, Class::InLineString(quote)),
-        Inside::Long(quote) => after_long_part(text, quote),
+        Content::Line(quote) => strip_char(text, Class::InLineString(quote)),
+        Content::Long(quote) => strip_long_part(text, quote),
     }
 }
 
-/// What follows the end of the inside.
-fn after_close(text: &[u8], inside: Inside) -> Option<&[u8]>
-    ensures reads { ReadsOnly (close inside) text.now (option_copied result) }
+/// What follows the closing delimiter.
+fn strip_close(text: &[u8], inside: Content) -> Option<&[u8]>
+    ensures matches { MatchesOnly (close inside) text.now (option_copied result) }
     ensures shorter { IfSome result (λ rest. length rest.now < length text.now) }
 {
     match inside {
-        Inside::Iri => after(text, b">"),
-        Inside::Line(quote) => after(text, &[quote.byte()]),
-        Inside::Long(quote) => {
+        Content::Iri => strip_word(text, b">"),
+        Content::Line(quote) => strip_word(text, &[quote.byte()]),
+        Content::Long(quote) => {
             let byte = quote.byte();
-            after(text, &[byte, byte, byte])
+            strip_word(text, &[byte, byte, byte])
         }
     }
 }
 
-/// What follows the inside and its end.
-fn after_inside(text: &[u8], inside: Inside) -> Option<&[u8]>
-    ensures reads { ReadsOnly (many (part inside) ∘ close inside) text.now (option_copied result) }
+/// What follows the content and its closing delimiter.
+fn strip_inside(text: &[u8], inside: Content) -> Option<&[u8]>
+    ensures matches { MatchesOnly (many (part inside)
+        ∘ close inside) text.now (option_copied result) }
     ensures shorter { IfSome result (λ rest. length rest.now < length text.now) }
 {
-    let mut rest = text;
+    let mut rest = strip_plain(text, inside);
     loop {
-        match after_close(rest, inside) {
-            Some(behind) => return Some(behind),
-            None => match after_part(rest, inside) {
-                Some(behind) => rest = behind,
+        match strip_close(rest, inside) {
+            Some(after) => return Some(after),
+            None => match strip_part(rest, inside) {
+                Some(after) => rest = strip_plain(after, inside),
                 None => return None,
             },
         }
@@ -93,26 +97,26 @@ fn after_inside(text: &[u8], inside: Inside) -> Option<&[u8]>
 }
 
 /// What follows an IRIREF.
-pub(crate) fn after_iri_ref(text: &[u8]) -> Option<&[u8]>
-    ensures reads { ReadsOnly iri_ref text.now (option_copied result) }
+pub(crate) fn strip_iri_ref(text: &[u8]) -> Option<&[u8]>
+    ensures matches { MatchesOnly iri_ref text.now (option_copied result) }
     ensures shorter { IfSome result (λ rest. length rest.now < length text.now) }
 {
-    match after(text, b"<") {
-        Some(rest) => after_inside(rest, Inside::Iri),
+    match strip_word(text, b"<") {
+        Some(rest) => strip_inside(rest, Content::Iri),
         None => None,
     }
 }
 
 /// What follows a String with this quote.
-pub(crate) fn after_string(text: &[u8], quote: Quote) -> Option<&[u8]>
-    ensures reads { StringOnly quote text.now (option_copied result) }
+pub(crate) fn strip_string(text: &[u8], quote: Quote) -> Option<&[u8]>
+    ensures matches { StringOnly quote text.now (option_copied result) }
     ensures shorter { IfSome result (λ rest. length rest.now < length text.now) }
 {
     let byte = quote.byte();
-    match after(text, &[byte, byte, byte]) {
-        Some(rest) => after_inside(rest, Inside::Long(quote)),
-        None => match after(text, &[byte]) {
-            Some(rest) => after_inside(rest, Inside::Line(quote)),
+    match strip_word(text, &[byte, byte, byte]) {
+        Some(rest) => strip_inside(rest, Content::Long(quote)),
+        None => match strip_word(text, &[byte]) {
+            Some(rest) => strip_inside(rest, Content::Line(quote)),
             None => None,
         },
     }

@@ -1,20 +1,22 @@
-//! Words and escapes at the front of a text.
+//! Words and escapes at the start of a text.
 
-ghost use Rattle.std.specs.Prelude.{◌≡◌, ◌<◌, ◌≤◌, ◌+◌, ◌*◌, true, false, length, IfSome, IfNone, codes};
+ghost use Rattle.std.specs.Prelude.{◌≡◌, ◌<◌, ◌≤◌, ◌+◌, ◌*◌, true, false, length, IfSome, IfNone};
+ghost use Rattle.std.specs.Prelude.{codes};
 ghost use Rattle.std.specs.Option.{option_copied};
 ghost use Rattle.std.specs.List.{list_all};
 ghost use Rattle.std.specs.Char.{is_ascii_hexdigit, digit_value};
-ghost use Rattle.turtle_lex.specs.Pattern.{◌∣◌, word, number, ReadsOnly, hex_value};
+ghost use Rattle.turtle_lex.specs.Pattern.{◌∣◌, word, number, MatchesOnly, hex_value};
 ghost use Rattle.turtle_lex.specs.Terminals.{uchar, echar};
 
-use crate::classes::{Class, after_one};
+use crate::classes::{Class, strip_one};
 
-/// What follows a word at the front.
-pub(crate) fn after<'a>(text: &'a [u8], front: &[u8]) -> Option<&'a [u8]>
-    ensures reads { ReadsOnly (word front.now) text.now (option_copied result) }
-    ensures shorter { IfSome result (λ rest. length rest.now + length front.now ≡ length text.now) }
+/// What follows a word at the start.
+pub(crate) fn strip_word<'a>(text: &'a [u8], spelling: &[u8]) -> Option<&'a [u8]>
+    ensures matches { MatchesOnly (word spelling.now) text.now (option_copied result) }
+    ensures shorter { IfSome result (λ rest.
+        length rest.now + length spelling.now ≡ length text.now) }
 {
-    text.strip_prefix(front)
+    text.strip_prefix(spelling)
 }
 
 /// The value of a hexadecimal digit.
@@ -31,10 +33,11 @@ fn hex_digit(b: u8) -> Option<u32>
     }
 }
 
-/// The number that hexadecimal digits stand for.
+/// The number that hexadecimal digits represent.
 fn hex_number(digits: &[u8]) -> Option<u32>
     requires { length digits.now ≤ 8 }
-    ensures value { IfSome result (λ n. (list_all is_ascii_hexdigit digits.now ≡ true) × (n ≡ hex_value 0 digits.now)) }
+    ensures value { IfSome result (λ n. (list_all is_ascii_hexdigit digits.now ≡ true)
+        × (n ≡ hex_value 0 digits.now)) }
     ensures none { IfNone result (list_all is_ascii_hexdigit digits.now ≡ false) }
 {
     let mut number = 0;
@@ -44,10 +47,10 @@ fn hex_number(digits: &[u8]) -> Option<u32>
     Some(number)
 }
 
-/// What follows so many hexadecimal digits, which stand for a character.
-fn after_number(text: &[u8], count: usize) -> Option<&[u8]>
+/// What follows `count` hexadecimal digits that represent a character.
+fn strip_number(text: &[u8], count: usize) -> Option<&[u8]>
     requires { count ≤ 8 }
-    ensures reads { ReadsOnly (number count) text.now (option_copied result) }
+    ensures matches { MatchesOnly (number count) text.now (option_copied result) }
     ensures shorter { IfSome result (λ rest. length rest.now + count ≡ length text.now) }
 {
     if text.len() < count {
@@ -62,37 +65,37 @@ fn after_number(text: &[u8], count: usize) -> Option<&[u8]>
 }
 
 /// What follows a UCHAR.
-pub(crate) fn after_uchar(text: &[u8]) -> Option<&[u8]>
-    ensures reads { ReadsOnly uchar text.now (option_copied result) }
+pub(crate) fn strip_uchar(text: &[u8]) -> Option<&[u8]>
+    ensures matches { MatchesOnly uchar text.now (option_copied result) }
     ensures shorter { IfSome result (λ rest. length rest.now < length text.now) }
 {
-    match after(text, b"\\u") {
-        Some(digits) => after_number(digits, 4),
-        None => match after(text, b"\\U") {
-            Some(digits) => after_number(digits, 8),
+    match strip_word(text, b"\\u") {
+        Some(digits) => strip_number(digits, 4),
+        None => match strip_word(text, b"\\U") {
+            Some(digits) => strip_number(digits, 8),
             None => None,
         },
     }
 }
 
 /// What follows an ECHAR.
-fn after_echar(text: &[u8]) -> Option<&[u8]>
-    ensures reads { ReadsOnly echar text.now (option_copied result) }
+fn strip_echar(text: &[u8]) -> Option<&[u8]>
+    ensures matches { MatchesOnly echar text.now (option_copied result) }
     ensures shorter { IfSome result (λ rest. length rest.now < length text.now) }
 {
-    match after(text, b"\\") {
-        Some(rest) => after_one(rest, Class::Escaped),
+    match strip_word(text, b"\\") {
+        Some(rest) => strip_one(rest, Class::Escaped),
         None => None,
     }
 }
 
 /// What follows an escape of a String.
-pub(crate) fn after_escape(text: &[u8]) -> Option<&[u8]>
-    ensures reads { ReadsOnly (echar ∣ uchar) text.now (option_copied result) }
+pub(crate) fn strip_escape(text: &[u8]) -> Option<&[u8]>
+    ensures matches { MatchesOnly (echar ∣ uchar) text.now (option_copied result) }
     ensures shorter { IfSome result (λ rest. length rest.now < length text.now) }
 {
-    match after_echar(text) {
+    match strip_echar(text) {
         Some(rest) => Some(rest),
-        None => after_uchar(text),
+        None => strip_uchar(text),
     }
 }

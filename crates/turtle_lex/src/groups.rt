@@ -7,7 +7,7 @@ ghost use Rattle.turtle_lex.specs.Groups.{mark_kind, ascii_group, group_of};
 
 use crate::token::TokenKind;
 
-/// A token of punctuation that no other begins alike.
+/// A token of punctuation whose first byte begins no other token.
 #[derive(Clone, Copy, Debug, PartialEq, Eq)]
 pub(crate) enum Mark {
     Carets,
@@ -52,7 +52,7 @@ impl Mark {
     }
 }
 
-/// Kinds of tokens that begin alike.
+/// Kinds of tokens with the same first bytes.
 #[derive(Clone, Copy, Debug, PartialEq, Eq)]
 pub(crate) enum Group {
     Iris,
@@ -62,7 +62,7 @@ pub(crate) enum Group {
     Labels,
     Variables,
     Numbers,
-    /// Numbers with a point in front, and the dot.
+    /// Numbers that begin with a point, and the dot.
     Dots,
     /// `[` and ANON.
     Squares,

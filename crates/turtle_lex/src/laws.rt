@@ -1,11 +1,26 @@
-//! Laws of patterns and of lists of tokens. Each is the contract of a function that does nothing.
+//! Laws of patterns, tokens and lists of tokens, for the proofs of readers and writers.
+//!
+//! Each is the contract of a function that does nothing.
 
-ghost use Rattle.turtle_lex.specs.Laws.{ReadsItsTexts, ReadsAllItsTexts, HasOneList, HasRepeatedSpans, CoversText, NotTextIsFirst};
+ghost use Rattle.turtle_lex.specs.Laws.{MatchesItsTexts, MatchesAllItsTexts, HasOneAnswer};
+ghost use Rattle.turtle_lex.specs.Laws.{HasOneList, AreFirstTokens, TokensAreText, TokensEndText};
+ghost use Rattle.turtle_lex.specs.Laws.{BadTokenEndsText, NotTextIsFirst, TokenTextIsOfKind};
+ghost use Rattle.turtle_lex.specs.Laws.{TokenTextIsUtf8, StringStartsWithQuote, ThreeQuotesAreLong};
+ghost use Rattle.turtle_lex.specs.Laws.{FewerQuotesAreShort, NameHasColon, FirstColonSplitsName};
+ghost use Rattle.turtle_lex.specs.Laws.{FirstColonEndsPrefix, WrittenIri, WrittenString};
+ghost use Rattle.turtle_lex.specs.Laws.{WrittenLabel, WrittenTag, WrittenWords};
+ghost use Rattle.turtle_lex.specs.Laws.{WrittenTagAfterString, WrittenCarets, WrittenDot};
+ghost use Rattle.turtle_lex.specs.Laws.{NextIsToken};
 
-/// What a pattern reads is one of its texts and what is left, and each of its texts it reads, whatever is left.
-pub fn reads_texts()
-    ensures only { ReadsItsTexts }
-    ensures all { ReadsAllItsTexts }
+/// A pattern matches exactly its texts, whatever follows them.
+pub fn matches_texts()
+    ensures only { MatchesItsTexts }
+    ensures all { MatchesAllItsTexts }
+{}
+
+/// A text has at most one answer from a position on.
+pub fn one_answer()
+    ensures { HasOneAnswer }
 {}
 
 /// A text has at most one list of tokens.
@@ -13,18 +28,56 @@ pub fn one_list()
     ensures { HasOneList }
 {}
 
-/// The tokens of a text have the spans that [`next_token`](crate::next_token) gives again and again. The kinds are the
-/// same, but for `@prefix` and `@base` behind a String.
-pub fn repeated_spans()
-    ensures { HasRepeatedSpans }
+/// Tokens that were read are the first of those before the end of the text or its fault.
+pub fn first_tokens()
+    ensures { AreFirstTokens }
 {}
 
-/// The tokens of a text and what lies between them are the whole text.
-pub fn covers_text()
-    ensures { CoversText }
+/// What of a text is UTF-8: all of it where it has tokens, the bytes up to the last token that was
+/// read, and the bytes before a fault, which for [`NotText`](crate::LexFault::NotText) can't be
+/// more.
+pub fn utf8()
+    ensures tokens { TokensAreText }
+    ensures so_far { TokensEndText }
+    ensures bad_token { BadTokenEndsText }
+    ensures not_text { NotTextIsFirst }
 {}
 
-/// The place of [`LexFault::NotText`](crate::LexFault::NotText) is that of the first byte that isn't UTF-8.
-pub fn not_text_is_first()
-    ensures { NotTextIsFirst }
+/// The text of a token, its bytes without what follows them, is UTF-8 and of the token's kind.
+pub fn token_texts()
+    ensures of_kind { TokenTextIsOfKind }
+    ensures utf8 { TokenTextIsUtf8 }
+{}
+
+/// A String begins with its quote, and it is long exactly where three quotes begin it.
+pub fn strings()
+    ensures quote { StringStartsWithQuote }
+    ensures long { ThreeQuotesAreLong }
+    ensures short { FewerQuotesAreShort }
+{}
+
+/// The first `:` of a name ends its prefix.
+pub fn names()
+    ensures colon { NameHasColon }
+    ensures local { FirstColonSplitsName }
+    ensures prefix { FirstColonEndsPrefix }
+{}
+
+/// A term that is written is read as the token of its kind: an IRIREF whatever follows it, a short
+/// String before anything but its quote, a label, a language tag and the dot before a blank or the
+/// end. The tags `@prefix` and `@base` are the fixed words, and after a String they are tags again.
+pub fn written_terms()
+    ensures iri { WrittenIri }
+    ensures string { WrittenString }
+    ensures label { WrittenLabel }
+    ensures tag { WrittenTag }
+    ensures words { WrittenWords }
+    ensures tag_after_string { WrittenTagAfterString }
+    ensures carets { WrittenCarets }
+    ensures dot { WrittenDot }
+{}
+
+/// A token after blanks and comments is the next one from their start on.
+pub fn next_is_token()
+    ensures { NextIsToken }
 {}

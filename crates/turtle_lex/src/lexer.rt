@@ -1,42 +1,48 @@
-//! A lexer that takes one token after another.
+//! A lexer that returns one token after another.
 
-ghost use Rattle.turtle_lex.specs.Names.{HasNoPrefix};
+ghost use Rattle.turtle_lex.specs.Names.{HasNoPrefixBefore};
 
-use crate::names::dry_up_to;
-use crate::next::first_token;
+use crate::first::first_token;
+use crate::names::no_prefix_up_to;
 use crate::token::{LexFault, Token, TokenKind};
 use std::marker::Model;
 
-/// A place before which no prefix begins, once the text begins with a token of this kind, and `dry` is such a place.
-fn dry_behind<'a>(text: &'a [u8], kind: TokenKind, dry: &'a [u8]) -> &'a [u8]
-    requires { HasNoPrefix text.now dry.now }
-    ensures { HasNoPrefix text.now result.now }
+/// A suffix of the text before which no prefix begins, where the text begins with a token of this
+/// kind and `no_prefix_before` is such a suffix.
+fn no_prefix_after_token<'a>(
+    text: &'a [u8],
+    kind: TokenKind,
+    no_prefix_before: &'a [u8],
+) -> &'a [u8]
+    requires { HasNoPrefixBefore text.now no_prefix_before.now }
+    ensures { HasNoPrefixBefore text.now result.now }
 {
     match kind {
         TokenKind::A | TokenKind::True | TokenKind::False | TokenKind::Prefix | TokenKind::Base
-            if text.len() <= dry.len() => dry_up_to(text),
-        _ => dry,
+            if text.len() <= no_prefix_before.len() => no_prefix_up_to(text),
+        _ => no_prefix_before,
     }
 }
 
-/// Takes the tokens of some bytes one after another.
+/// Returns the tokens of some bytes one after another.
 ///
-/// It gives what [`next_token`](crate::next_token) gives at the place that it has come to. It also keeps what it has
-/// learnt of names, so that all its calls together look at each byte a bounded number of times: in `aaaa` each `a` is a
-/// token, but only since no colon follows.
+/// It returns what [`next_token`](crate::next_token) returns at its position. It also keeps where
+/// the next prefix may begin, so that all its calls together look at each byte a bounded number of
+/// times: in `aaaa` each `a` is a token only because no colon follows.
 #[derive(Drop)]
 pub struct Lexer<'a> {
     bytes: &'a [u8],
     text: &'a [u8],
-    dry: &'a [u8],
+    no_prefix_before: &'a [u8],
 }
 
 impl<'a> Model for Lexer<'a> {
-    ghost use Rattle.turtle_lex.specs.Lexing.{Lexing, lexing_code, lexer_view, IsLexer};
+    ghost use Rattle.turtle_lex.specs.LexerState.{LexerState, lexer_code};
+    ghost use Rattle.turtle_lex.specs.LexerInvariant.{lexer_view, IsLexer};
 
-    ghost Value = { Lexing };
+    ghost Value = { LexerState };
 
-    ghost coded = { lexing_code };
+    ghost coded = { lexer_code };
 
     ghost view = { lexer_view };
 
@@ -44,9 +50,9 @@ impl<'a> Model for Lexer<'a> {
 }
 
 impl<'a> Lexer<'a> {
-    ghost use Rattle.std.specs.Prelude.{◌≡◌, ◌≤◌, length, Result, Option};
-    ghost use Rattle.turtle_lex.specs.Tokens.{IsAnswer};
-    ghost use Rattle.turtle_lex.specs.Lexing.{place_behind};
+    ghost use Rattle.std.specs.Prelude.{◌≡◌, ◌≤◌, length, Result, Option, IfOk, IfSome};
+    ghost use Rattle.turtle_lex.specs.Tokens.{IsTokenOf, IsAnswer};
+    ghost use Rattle.turtle_lex.specs.LexerState.{position_after};
     ghost use Rattle.turtle_lex.specs.declared.token.Token.{Token};
     ghost use Rattle.turtle_lex.specs.declared.token.LexFault.{LexFault};
 
@@ -60,7 +66,7 @@ impl<'a> Lexer<'a> {
         Lexer {
             bytes,
             text,
-            dry: text,
+            no_prefix_before: text,
         }
     }
 
@@ -72,16 +78,23 @@ impl<'a> Lexer<'a> {
         Lexer::at(bytes, 0)
     }
 
-    /// The next token. `None` and each fault leave the lexer where it is, so they come again.
+    /// The next token. `None` and each fault leave the position, so they come again. `@prefix` and
+    /// `@base` are the fixed words, also after a String: see [`listed_token`](crate::listed_token).
     pub fn next_token(&mut self) -> Result<Option<Token>, LexFault>
         ensures answer { IsAnswer self.old.bytes self.old.from result }
-        ensures only { (other : Result (Option Token) LexFault) → IsAnswer self.old.bytes self.old.from other → other ≡ result }
+        ensures of_bytes { IfOk result (λ o. IfSome o (IsTokenOf self.old.bytes)) }
+        ensures only { (other : Result (Option Token) LexFault)
+            → IsAnswer self.old.bytes self.old.from other → other ≡ result }
         ensures bytes { self.new.bytes ≡ self.old.bytes }
-        ensures from { self.new.from ≡ place_behind result self.old.from }
+        ensures from { self.new.from ≡ position_after result self.old.from }
     {
-        let answer = first_token(self.bytes, self.text, self.dry)?;
+        let answer = first_token(self.bytes, self.text, self.no_prefix_before)?;
         if let Some(token) = answer {
-            self.dry = dry_behind(self.bytes.split_at(token.from).1, token.kind, self.dry);
+            self.no_prefix_before = no_prefix_after_token(
+                self.bytes.split_at(token.from).1,
+                token.kind,
+                self.no_prefix_before,
+            );
             self.text = self.bytes.split_at(token.to).1;
         }
         Ok(answer)

@@ -1,30 +1,45 @@
 //! The terminals of Turtle (RDF 1.1 Turtle, section 6.5), with the braces and variables of patches.
 //!
-//! [`Lexer`] takes one token of some bytes after another, [`next_token`] gives the first token from a place on, and
-//! [`tokens`] lists all of them. A contract says of each answer that it is the one that the text has: the terminals are
-//! defined as patterns over characters, and a token is the longest text of any of them. Only `tokens` takes memory.
+//! [`tokens`] lists the tokens of a text, [`Lexer`] returns one after another, and [`next_token`]
+//! returns the first from a position on. Only `tokens` takes memory.
+//!
+//! ```text
+//! let bytes = b"ex:a <b> 'c'@en .";
+//! let mut lexer = Lexer::new(bytes);
+//! while let Some(token) = lexer.next_token()? {
+//!     let text = &bytes[token.from..token.to];
+//! }
+//! ```
+//!
+//! Proved: a terminal is a pattern over characters (`specs/Terminals.antt`), and a token is the
+//! longest text of any kind at its position (`IsToken` of `specs/Tokens.antt`). Each call returns
+//! the one answer that the text has (clauses `answer`, `only`, `tokens`, `only_tokens`, `fault`,
+//! `only_fault`), and each token is one of the bytes (`of_bytes`). [`laws`] has what proofs of
+//! readers and writers cite: what of a text is UTF-8, where a name or a String is split, and that a
+//! written term is read as its token.
+//!
+//! It depends on `pod_base` for its list and on `bstr` for decoding a character.
 #![tactic(auto)]
 
+mod blanks_and_comments;
 mod chars;
 mod classes;
 mod delimited;
 mod escapes;
-mod gap;
+mod first;
 mod groups;
 pub mod laws;
 mod lexer;
-mod listing;
 mod names;
-mod next;
 mod numbers;
+mod plain_run;
 mod runs;
 mod scan;
 mod token;
+mod token_list;
 
+pub use classes::Quote;
+pub use first::next_token;
 pub use lexer::Lexer;
-pub use listing::tokens;
-pub use next::next_token;
 pub use token::{LexFault, Token, TokenKind};
-
-#[cfg(test)]
-mod tests;
+pub use token_list::{listed_token, tokens};

@@ -1,30 +1,31 @@
-//! The token at the front of a text, by the kinds that its first byte may begin.
+//! The token at the start of a text, by the kinds that its first byte may begin.
 
+ghost use mathlib.Core.List.{IsSuffix};
 ghost use Rattle.std.specs.Prelude.{◌≡◌, Some, None, IfSome, IfNone, MatchBool};
 ghost use Rattle.std.specs.Option.{option_copied};
 ghost use Rattle.turtle_lex.specs.declared.groups.Group.TheVariants as Group;
 ghost use Rattle.turtle_lex.specs.declared.token.TokenKind.TheVariants as TokenKind;
-ghost use Rattle.turtle_lex.specs.Pattern.{word, any_case, Reads, ReadsOnly, ReadsLongest, Front};
+ghost use Rattle.turtle_lex.specs.Pattern.{word, any_case, Matches, MatchesOnly, MatchesLongest};
 ghost use Rattle.turtle_lex.specs.Terminals.{lang_tag};
-ghost use Rattle.turtle_lex.specs.Names.{HasNoPrefix};
-ghost use Rattle.turtle_lex.specs.Groups.{in_group, is_word, IsTokenOf, HasNoneOf, kind_of};
+ghost use Rattle.turtle_lex.specs.Names.{HasNoPrefixBefore};
+ghost use Rattle.turtle_lex.specs.Groups.{in_group, is_word, IsTokenOfGroup, HasNoTokenOf, kind_of};
 ghost use Rattle.turtle_lex.specs.Tokens.{terminal, IsToken, HasNoToken};
 
 use crate::classes::{Class, Quote};
-use crate::delimited::{after_iri_ref, after_string};
-use crate::escapes::after;
+use crate::delimited::{strip_iri_ref, strip_string};
+use crate::escapes::strip_word;
 use crate::groups::{Group, Mark, group_of};
-use crate::names::{after_label, after_local, after_pname_ns};
+use crate::names::{strip_label, strip_local, strip_pname_ns};
 use crate::numbers::{Number, longest_number};
-use crate::runs::{after_lang_tag, after_run};
+use crate::runs::{strip_lang_tag, strip_run};
 use crate::token::TokenKind;
 
 /// IRIREF.
 fn iri_token(text: &[u8]) -> Option<(TokenKind, &[u8])>
-    ensures found { IfSome result (λ t. IsTokenOf (in_group Group.Iris) t.0 text.now t.1.now) }
-    ensures none { IfNone result (HasNoneOf (in_group Group.Iris) text.now) }
+    ensures found { IfSome result (λ t. IsTokenOfGroup (in_group Group.Iris) t.0 text.now t.1.now) }
+    ensures none { IfNone result (HasNoTokenOf (in_group Group.Iris) text.now) }
 {
-    match after_iri_ref(text) {
+    match strip_iri_ref(text) {
         Some(rest) => Some((TokenKind::IriRef, rest)),
         None => None,
     }
@@ -32,12 +33,13 @@ fn iri_token(text: &[u8]) -> Option<(TokenKind, &[u8])>
 
 /// String.
 fn string_token(text: &[u8]) -> Option<(TokenKind, &[u8])>
-    ensures found { IfSome result (λ t. IsTokenOf (in_group Group.Strings) t.0 text.now t.1.now) }
-    ensures none { IfNone result (HasNoneOf (in_group Group.Strings) text.now) }
+    ensures found { IfSome result (λ t.
+        IsTokenOfGroup (in_group Group.Strings) t.0 text.now t.1.now) }
+    ensures none { IfNone result (HasNoTokenOf (in_group Group.Strings) text.now) }
 {
-    match after_string(text, Quote::Double) {
+    match strip_string(text, Quote::Double) {
         Some(rest) => Some((TokenKind::Quoted, rest)),
-        None => match after_string(text, Quote::Single) {
+        None => match strip_string(text, Quote::Single) {
             Some(rest) => Some((TokenKind::Quoted, rest)),
             None => None,
         },
@@ -46,11 +48,12 @@ fn string_token(text: &[u8]) -> Option<(TokenKind, &[u8])>
 
 /// BLANK_NODE_LABEL.
 fn blank_label_token(text: &[u8]) -> Option<(TokenKind, &[u8])>
-    ensures found { IfSome result (λ t. IsTokenOf (in_group Group.Labels) t.0 text.now t.1.now) }
-    ensures none { IfNone result (HasNoneOf (in_group Group.Labels) text.now) }
+    ensures found { IfSome result (λ t.
+        IsTokenOfGroup (in_group Group.Labels) t.0 text.now t.1.now) }
+    ensures none { IfNone result (HasNoTokenOf (in_group Group.Labels) text.now) }
 {
-    match after(text, b"_:") {
-        Some(label) => match after_label(label) {
+    match strip_word(text, b"_:") {
+        Some(label) => match strip_label(label) {
             Some(rest) => Some((TokenKind::BlankLabel, rest)),
             None => None,
         },
@@ -60,11 +63,12 @@ fn blank_label_token(text: &[u8]) -> Option<(TokenKind, &[u8])>
 
 /// A variable.
 fn variable_token(text: &[u8]) -> Option<(TokenKind, &[u8])>
-    ensures found { IfSome result (λ t. IsTokenOf (in_group Group.Variables) t.0 text.now t.1.now) }
-    ensures none { IfNone result (HasNoneOf (in_group Group.Variables) text.now) }
+    ensures found { IfSome result (λ t.
+        IsTokenOfGroup (in_group Group.Variables) t.0 text.now t.1.now) }
+    ensures none { IfNone result (HasNoTokenOf (in_group Group.Variables) text.now) }
 {
-    match after(text, b"?") {
-        Some(label) => match after_label(label) {
+    match strip_word(text, b"?") {
+        Some(label) => match strip_label(label) {
             Some(rest) => Some((TokenKind::Variable, rest)),
             None => None,
         },
@@ -74,11 +78,12 @@ fn variable_token(text: &[u8]) -> Option<(TokenKind, &[u8])>
 
 /// `[` or ANON.
 fn square_token(text: &[u8]) -> Option<(TokenKind, &[u8])>
-    ensures found { IfSome result (λ t. IsTokenOf (in_group Group.Squares) t.0 text.now t.1.now) }
-    ensures none { IfNone result (HasNoneOf (in_group Group.Squares) text.now) }
+    ensures found { IfSome result (λ t.
+        IsTokenOfGroup (in_group Group.Squares) t.0 text.now t.1.now) }
+    ensures none { IfNone result (HasNoTokenOf (in_group Group.Squares) text.now) }
 {
-    match after(text, b"[") {
-        Some(inside) => match after(after_run(inside, Class::Blank), b"]") {
+    match strip_word(text, b"[") {
+        Some(inside) => match strip_word(strip_run(inside, Class::Blank), b"]") {
             Some(rest) => Some((TokenKind::Anon, rest)),
             None => Some((TokenKind::OpenSquare, inside)),
         },
@@ -99,8 +104,9 @@ fn kind_of(number: Number) -> TokenKind
 
 /// INTEGER, DECIMAL or DOUBLE.
 fn number_token(text: &[u8]) -> Option<(TokenKind, &[u8])>
-    ensures found { IfSome result (λ t. IsTokenOf (in_group Group.Numbers) t.0 text.now t.1.now) }
-    ensures none { IfNone result (HasNoneOf (in_group Group.Numbers) text.now) }
+    ensures found { IfSome result (λ t.
+        IsTokenOfGroup (in_group Group.Numbers) t.0 text.now t.1.now) }
+    ensures none { IfNone result (HasNoTokenOf (in_group Group.Numbers) text.now) }
 {
     match longest_number(text) {
         Some((number, rest)) => Some((kind_of(number), rest)),
@@ -110,12 +116,12 @@ fn number_token(text: &[u8]) -> Option<(TokenKind, &[u8])>
 
 /// A number or the dot.
 fn dot_token(text: &[u8]) -> Option<(TokenKind, &[u8])>
-    ensures found { IfSome result (λ t. IsTokenOf (in_group Group.Dots) t.0 text.now t.1.now) }
-    ensures none { IfNone result (HasNoneOf (in_group Group.Dots) text.now) }
+    ensures found { IfSome result (λ t. IsTokenOfGroup (in_group Group.Dots) t.0 text.now t.1.now) }
+    ensures none { IfNone result (HasNoTokenOf (in_group Group.Dots) text.now) }
 {
     match longest_number(text) {
         Some((number, rest)) => Some((kind_of(number), rest)),
-        None => match after(text, b".") {
+        None => match strip_word(text, b".") {
             Some(rest) => Some((TokenKind::Dot, rest)),
             None => None,
         },
@@ -124,30 +130,32 @@ fn dot_token(text: &[u8]) -> Option<(TokenKind, &[u8])>
 
 /// A mark.
 fn mark_token(text: &[u8], mark: Mark) -> Option<(TokenKind, &[u8])>
-    ensures found { IfSome result (λ t. IsTokenOf (in_group (Group.Marks mark)) t.0 text.now t.1.now) }
-    ensures none { IfNone result (HasNoneOf (in_group (Group.Marks mark)) text.now) }
+    ensures found { IfSome result (λ t.
+        IsTokenOfGroup (in_group (Group.Marks mark)) t.0 text.now t.1.now) }
+    ensures none { IfNone result (HasNoTokenOf (in_group (Group.Marks mark)) text.now) }
 {
-    match after(text, mark.spelling()) {
+    match strip_word(text, mark.spelling()) {
         Some(rest) => Some((mark.kind(), rest)),
         None => None,
     }
 }
 
 /// Whether the text is the word and then the rest.
-fn is_word_before(text: &[u8], front: &[u8], rest: &[u8]) -> bool
-    requires { Front text.now rest.now }
-    ensures { MatchBool result (Reads (word front.now) text.now rest.now) (Reads (word front.now) text.now rest.now → ⊥) }
+fn is_word_before(text: &[u8], spelling: &[u8], rest: &[u8]) -> bool
+    requires { IsSuffix rest.now text.now }
+    ensures { MatchBool result (Matches (word spelling.now) text.now rest.now)
+        (Matches (word spelling.now) text.now rest.now → ⊥) }
 {
-    match after(text, front) {
-        Some(behind) => behind.len() == rest.len(),
+    match strip_word(text, spelling) {
+        Some(after) => after.len() == rest.len(),
         None => false,
     }
 }
 
-/// The kind of the text that a LANGTAG is, in front of the rest.
+/// The kind of the LANGTAG that ends before the rest.
 fn tag_kind(text: &[u8], rest: &[u8]) -> TokenKind
-    requires { ReadsLongest lang_tag text.now (Some rest.now) }
-    ensures { IsTokenOf (in_group Group.Tags) result text.now rest.now }
+    requires { MatchesLongest lang_tag text.now (Some rest.now) }
+    ensures { IsTokenOfGroup (in_group Group.Tags) result text.now rest.now }
 {
     if is_word_before(text, b"@prefix", rest) {
         return TokenKind::AtPrefix;
@@ -161,41 +169,41 @@ fn tag_kind(text: &[u8], rest: &[u8]) -> TokenKind
 
 /// LANGTAG, `@prefix` or `@base`.
 fn tag_token(text: &[u8]) -> Option<(TokenKind, &[u8])>
-    ensures found { IfSome result (λ t. IsTokenOf (in_group Group.Tags) t.0 text.now t.1.now) }
-    ensures none { IfNone result (HasNoneOf (in_group Group.Tags) text.now) }
+    ensures found { IfSome result (λ t. IsTokenOfGroup (in_group Group.Tags) t.0 text.now t.1.now) }
+    ensures none { IfNone result (HasNoTokenOf (in_group Group.Tags) text.now) }
 {
-    match after_lang_tag(text) {
+    match strip_lang_tag(text) {
         Some(rest) => Some((tag_kind(text, rest), rest)),
         None => None,
     }
 }
 
 /// What follows the letters of a word in any case.
-fn after_any_case<'a>(text: &'a [u8], front: &[u8]) -> Option<&'a [u8]>
-    ensures { ReadsOnly (any_case front.now) text.now (option_copied result) }
+fn strip_any_case<'a>(text: &'a [u8], spelling: &[u8]) -> Option<&'a [u8]>
+    ensures { MatchesOnly (any_case spelling.now) text.now (option_copied result) }
 {
-    if text.len() < front.len() {
+    if text.len() < spelling.len() {
         return None;
     }
-    let (letters, rest) = text.split_at(front.len());
-    if letters.eq_ignore_ascii_case(front) {
+    let (letters, rest) = text.split_at(spelling.len());
+    if letters.eq_ignore_ascii_case(spelling) {
         Some(rest)
     } else {
         None
     }
 }
 
-/// `PREFIX` or `BASE`, where no other fixed word of letters is.
+/// `PREFIX` or `BASE`, where the text begins with no other fixed word of letters.
 fn any_case_token(text: &[u8]) -> Option<(TokenKind, &[u8])>
-    requires no_a { ReadsOnly (terminal TokenKind.A) text.now None }
-    requires no_true { ReadsOnly (terminal TokenKind.True) text.now None }
-    requires no_false { ReadsOnly (terminal TokenKind.False) text.now None }
-    ensures found { IfSome result (λ t. IsTokenOf is_word t.0 text.now t.1.now) }
-    ensures none { IfNone result (HasNoneOf is_word text.now) }
+    requires no_a { MatchesOnly (terminal TokenKind.A) text.now None }
+    requires no_true { MatchesOnly (terminal TokenKind.True) text.now None }
+    requires no_false { MatchesOnly (terminal TokenKind.False) text.now None }
+    ensures found { IfSome result (λ t. IsTokenOfGroup is_word t.0 text.now t.1.now) }
+    ensures none { IfNone result (HasNoTokenOf is_word text.now) }
 {
-    match after_any_case(text, b"PREFIX") {
+    match strip_any_case(text, b"PREFIX") {
         Some(rest) => Some((TokenKind::Prefix, rest)),
-        None => match after_any_case(text, b"BASE") {
+        None => match strip_any_case(text, b"BASE") {
             Some(rest) => Some((TokenKind::Base, rest)),
             None => None,
         },
@@ -204,14 +212,14 @@ fn any_case_token(text: &[u8]) -> Option<(TokenKind, &[u8])>
 
 /// A fixed word of letters.
 fn word_token(text: &[u8]) -> Option<(TokenKind, &[u8])>
-    ensures found { IfSome result (λ t. IsTokenOf is_word t.0 text.now t.1.now) }
-    ensures none { IfNone result (HasNoneOf is_word text.now) }
+    ensures found { IfSome result (λ t. IsTokenOfGroup is_word t.0 text.now t.1.now) }
+    ensures none { IfNone result (HasNoTokenOf is_word text.now) }
 {
-    match after(text, b"a") {
+    match strip_word(text, b"a") {
         Some(rest) => Some((TokenKind::A, rest)),
-        None => match after(text, b"true") {
+        None => match strip_word(text, b"true") {
             Some(rest) => Some((TokenKind::True, rest)),
-            None => match after(text, b"false") {
+            None => match strip_word(text, b"false") {
                 Some(rest) => Some((TokenKind::False, rest)),
                 None => any_case_token(text),
             },
@@ -219,14 +227,15 @@ fn word_token(text: &[u8]) -> Option<(TokenKind, &[u8])>
     }
 }
 
-/// PNAME_NS, PNAME_LN or a fixed word of letters, where it is known that no prefix begins before `dry`.
-fn name_token<'a>(text: &'a [u8], dry: &[u8]) -> Option<(TokenKind, &'a [u8])>
-    requires { HasNoPrefix text.now dry.now }
-    ensures found { IfSome result (λ t. IsTokenOf (in_group Group.Names) t.0 text.now t.1.now) }
-    ensures none { IfNone result (HasNoneOf (in_group Group.Names) text.now) }
+/// PNAME_NS, PNAME_LN or a fixed word of letters, where no prefix begins before `no_prefix_before`.
+fn name_token<'a>(text: &'a [u8], no_prefix_before: &[u8]) -> Option<(TokenKind, &'a [u8])>
+    requires { HasNoPrefixBefore text.now no_prefix_before.now }
+    ensures found { IfSome result (λ t.
+        IsTokenOfGroup (in_group Group.Names) t.0 text.now t.1.now) }
+    ensures none { IfNone result (HasNoTokenOf (in_group Group.Names) text.now) }
 {
-    match after_pname_ns(text, dry) {
-        Some(local) => match after_local(local) {
+    match strip_pname_ns(text, no_prefix_before) {
+        Some(local) => match strip_local(local) {
             Some(rest) => Some((TokenKind::PnameLn, rest)),
             None => Some((TokenKind::PnameNs, local)),
         },
@@ -234,11 +243,15 @@ fn name_token<'a>(text: &'a [u8], dry: &[u8]) -> Option<(TokenKind, &'a [u8])>
     }
 }
 
-/// The token at the front, as far as the kinds of the group go.
-fn token_of<'a>(text: &'a [u8], dry: &[u8], group: Group) -> Option<(TokenKind, &'a [u8])>
-    requires { HasNoPrefix text.now dry.now }
-    ensures found { IfSome result (λ t. IsTokenOf (in_group group) t.0 text.now t.1.now) }
-    ensures none { IfNone result (HasNoneOf (in_group group) text.now) }
+/// The token at the start among the kinds of the group.
+fn token_of<'a>(
+    text: &'a [u8],
+    no_prefix_before: &[u8],
+    group: Group,
+) -> Option<(TokenKind, &'a [u8])>
+    requires { HasNoPrefixBefore text.now no_prefix_before.now }
+    ensures found { IfSome result (λ t. IsTokenOfGroup (in_group group) t.0 text.now t.1.now) }
+    ensures none { IfNone result (HasNoTokenOf (in_group group) text.now) }
 {
     match group {
         Group::Iris => iri_token(text),
@@ -249,20 +262,21 @@ fn token_of<'a>(text: &'a [u8], dry: &[u8], group: Group) -> Option<(TokenKind, 
         Group::Numbers => number_token(text),
         Group::Dots => dot_token(text),
         Group::Squares => square_token(text),
-        Group::Names => name_token(text, dry),
+        Group::Names => name_token(text, no_prefix_before),
         Group::Marks(mark) => mark_token(text, mark),
         Group::Nothing => None,
     }
 }
 
-/// The token at the front of a text, and what follows it. It is known that no prefix begins before `dry`.
-pub(crate) fn token_at<'a>(text: &'a [u8], dry: &[u8]) -> Option<(TokenKind, &'a [u8])>
-    requires { HasNoPrefix text.now dry.now }
+/// The token at the start of a text, and what follows it, where no prefix begins before
+/// `no_prefix_before`.
+pub(crate) fn token_at<'a>(text: &'a [u8], no_prefix_before: &[u8]) -> Option<(TokenKind, &'a [u8])>
+    requires { HasNoPrefixBefore text.now no_prefix_before.now }
     ensures found { IfSome result (λ t. IsToken t.0 text.now t.1.now) }
     ensures none { IfNone result (HasNoToken text.now) }
 {
     if text.is_empty() {
         return None;
     }
-    token_of(text, dry, group_of(text[0]))
+    token_of(text, no_prefix_before, group_of(text[0]))
 }

@@ -1,5 +1,8 @@
 //! Tokens, and why a text has none.
 
+ghost use Rattle.std.specs.Prelude.{◌≡◌};
+ghost use Rattle.turtle_lex.specs.Tokens.{is_string};
+
 use thiserror::Error;
 
 /// A terminal or a fixed word of Turtle, with the braces and variables of patches.
@@ -43,6 +46,15 @@ pub enum TokenKind {
     Variable,
 }
 
+impl TokenKind {
+    /// Whether the token is a String: after one `@prefix` and `@base` are language tags.
+    pub fn is_string(self) -> bool
+        ensures { result ≡ is_string self }
+    {
+        matches!(self, TokenKind::Quoted)
+    }
+}
+
 /// A token: its kind, and its bytes in the text, from `from` up to and without `to`.
 #[derive(Clone, Copy, Debug, PartialEq, Eq)]
 pub struct Token {
@@ -51,11 +63,11 @@ pub struct Token {
     pub to: usize,
 }
 
-/// Why a text has no tokens, with the first place. Where a byte that is no UTF-8 and a text without a token both stand,
-/// the lesser place decides.
+/// Why a text has no tokens, with the byte position of the fault. A text may have bytes that are no
+/// UTF-8 and bytes that begin no token: the lesser position is that of the fault.
 #[derive(Clone, Copy, Debug, PartialEq, Eq, Error)]
 pub enum LexFault {
-    /// The bytes from `at` on begin with no character.
+    /// The bytes from `at` on are not UTF-8.
     #[error("no UTF-8 at byte {at}")]
     NotText { at: usize },
     /// No token begins at `at`.

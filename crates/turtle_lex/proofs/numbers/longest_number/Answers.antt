@@ -14,7 +14,7 @@ none s t None signs h = no_signed s t signs h
 none s t (Some n) signs h = tt
 
 pub returns-clause-found : goal.returns-clause-found
-returns-clause-found c = found _ _ c.unsigned_number.result (λ n. n.0) (λ n. n.1.now) c.after_sign.ensures.signed c.unsigned_number.ensures.found
+returns-clause-found c = found _ _ c.unsigned_number.result (λ n. n.0) (λ n. n.1.now) c.strip_sign.ensures.signed c.unsigned_number.ensures.found
 
 pub returns-clause-none : goal.returns-clause-none
-returns-clause-none c = none _ _ c.unsigned_number.result c.after_sign.ensures.signed c.unsigned_number.ensures.none
+returns-clause-none c = none _ _ c.unsigned_number.result c.strip_sign.ensures.signed c.unsigned_number.ensures.none

@@ -4,10 +4,10 @@ use Rattle.std.proofs.Common.{refl}
 use Rattle.turtle_lex.proofs.scan.word_token.Goals as goal
 
 pub returns-in-Some-clause-found : goal.returns-in-Some-clause-found
-returns-in-Some-clause-found c = word_found A _ _ refl c.in-Some.ensures.reads
+returns-in-Some-clause-found c = word_found A _ _ refl c.in-Some.ensures.matches
 
-pub returns-in-Some-after-clause-found : goal.returns-in-Some-after-clause-found
-returns-in-Some-after-clause-found c = word_found True _ _ refl c.in-Some-after.ensures.reads
+pub returns-in-Some-strip_word-clause-found : goal.returns-in-Some-strip_word-clause-found
+returns-in-Some-strip_word-clause-found c = word_found True _ _ refl c.in-Some-strip_word.ensures.matches
 
-pub returns-in-Some-after-2-clause-found : goal.returns-in-Some-after-2-clause-found
-returns-in-Some-after-2-clause-found c = word_found False _ _ refl c.in-Some-after-2.ensures.reads
+pub returns-in-Some-strip_word-2-clause-found : goal.returns-in-Some-strip_word-2-clause-found
+returns-in-Some-strip_word-2-clause-found c = word_found False _ _ refl c.in-Some-strip_word-2.ensures.matches

@@ -1,11 +1,12 @@
+use mathlib.Core.List.{IsSuffix}
 use Rattle.std.proofs.Common.{◌≡◌, ℕ, List, Option, Some, Ok, drop, sym, subst, rules}
 use Rattle.turtle_lex.specs.declared.token.Token.{Token}
-use Rattle.turtle_lex.specs.Pattern.{Front}
-use Rattle.turtle_lex.specs.Names.{HasNoPrefix}
+use Rattle.turtle_lex.specs.Names.{HasNoPrefixBefore}
 use Rattle.turtle_lex.specs.Tokens.{IsNext, IsAnswer}
-use Rattle.turtle_lex.proofs.NameLemmas.{known_behind}
-use Rattle.turtle_lex.proofs.NextLemmas.{one_answer, front_drop}
-use Rattle.turtle_lex.proofs.ListingLemmas.{text_at_next, behind_next}
+use Rattle.turtle_lex.proofs.NameLemmas.{known_after}
+use Rattle.turtle_lex.proofs.NextLemmas.{one_answer, drop_is_suffix}
+use Rattle.turtle_lex.proofs.ListingLemmas.{text_at_next, after_next}
+use Rattle.turtle_lex.proofs.TextLemmas.{answer_of}
 use Rattle.turtle_lex.proofs.lexer.Lexer.next_token.Goals as goal
 
 -- the next token, by what the call said
@@ -27,21 +28,31 @@ returns-in-Some-clause-only c =
     let here : IsAnswer c.args.self.now.bytes c.args.self.now.from (Ok (Some c.in-Some.token)) = search rules in
     λ other h. one_answer c.args.self.now.bytes c.args.self.now.from other (Ok (Some c.in-Some.token)) h here
 
-pub dry_behind-self-inside-requires : goal.dry_behind-self-inside-requires
-dry_behind-self-inside-requires c =
+pub returns-in_default-clause-of_bytes : goal.returns-in_default-clause-of_bytes
+returns-in_default-clause-of_bytes c =
+    let here : IsAnswer c.args.self.now.bytes c.args.self.now.from (Ok c.in_ok-answer.answer) = search rules in
+    answer_of c.args.self.now.bytes c.args.self.now.from (Ok c.in_ok-answer.answer) here
+
+pub returns-in-Some-clause-of_bytes : goal.returns-in-Some-clause-of_bytes
+returns-in-Some-clause-of_bytes c =
+    let here : IsAnswer c.args.self.now.bytes c.args.self.now.from (Ok (Some c.in-Some.token)) = search rules in
+    answer_of c.args.self.now.bytes c.args.self.now.from (Ok (Some c.in-Some.token)) here
+
+pub no_prefix_after_token-self-inside-requires : goal.no_prefix_after_token-self-inside-requires
+no_prefix_after_token-self-inside-requires c =
     let next = next_is c.self.inside.bytes.now _ c.in_ok-answer.answer c.in-Some.token c.in-Some.is c.in_ok-answer.ensures in
-    subst (λ (u : List ℕ). HasNoPrefix u c.self.inside.dry.now) (sym c.split_at.ensures.back)
-    (known_behind c.self.inside.text.now (drop c.in-Some.token.from c.self.inside.bytes.now) c.self.inside.dry.now
-    (text_at_next c.self.inside.bytes.now c.self.inside.text.now c.in-Some.token c.self.invariant.behind next) c.self.invariant.known)
+    subst (λ (u : List ℕ). HasNoPrefixBefore u c.self.inside.no_prefix_before.now) (sym c.split_at.ensures.back)
+    (known_after c.self.inside.text.now (drop c.in-Some.token.from c.self.inside.bytes.now) c.self.inside.no_prefix_before.now
+    (text_at_next c.self.inside.bytes.now c.self.inside.text.now c.in-Some.token c.self.invariant.suffix next) c.self.invariant.known)
 
 pub invariant_of-self : goal.invariant_of-self
 invariant_of-self c =
     let next = next_is c.self.inside.bytes.now _ c.in_ok-answer.answer c.in-Some.token c.in-Some.is c.in_ok-answer.ensures in
     let here = sym c.split_at-in-Some.ensures.back in
-    let dry = subst (λ (u : List ℕ). HasNoPrefix u c.dry_behind-self-inside.result.now) c.split_at.ensures.back c.dry_behind-self-inside.ensures in
+    let no_prefix_before = subst (λ (u : List ℕ). HasNoPrefixBefore u c.no_prefix_after_token-self-inside.result.now) c.split_at.ensures.back c.no_prefix_after_token-self-inside.ensures in
     record {
-      behind = subst (λ (u : List ℕ). Front c.self.inside.bytes.now u) here (front_drop c.in-Some.token.to c.self.inside.bytes.now);
-      known = subst (λ (u : List ℕ). HasNoPrefix u c.dry_behind-self-inside.result.now) here
-          (known_behind (drop c.in-Some.token.from c.self.inside.bytes.now) (drop c.in-Some.token.to c.self.inside.bytes.now) c.dry_behind-self-inside.result.now
-          (behind_next c.self.inside.bytes.now _ c.in-Some.token next) dry);
+      suffix = subst (λ (u : List ℕ). IsSuffix u c.self.inside.bytes.now) here (drop_is_suffix c.in-Some.token.to c.self.inside.bytes.now);
+      known = subst (λ (u : List ℕ). HasNoPrefixBefore u c.no_prefix_after_token-self-inside.result.now) here
+          (known_after (drop c.in-Some.token.from c.self.inside.bytes.now) (drop c.in-Some.token.to c.self.inside.bytes.now) c.no_prefix_after_token-self-inside.result.now
+          (after_next c.self.inside.bytes.now _ c.in-Some.token next) no_prefix_before);
     }

@@ -1,8 +1,0 @@
-use Rattle.turtle_lex.proofs.NameLemmas.{ns_of_colon, ns_of_prefix}
-use Rattle.turtle_lex.proofs.names.after_any_pname_ns.Goals as goal
-
-pub returns-in-Some : goal.returns-in-Some
-returns-in-Some c = ns_of_colon _ _ c.in-Some.ensures.reads
-
-pub returns-in-None : goal.returns-in-None
-returns-in-None c = ns_of_prefix _ _ c.in-None.ensures.reads c.after_prefix.ensures

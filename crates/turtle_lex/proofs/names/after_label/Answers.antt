@@ -1,8 +1,0 @@
-use Rattle.turtle_lex.proofs.NameLemmas.{label_longest, no_label}
-use Rattle.turtle_lex.proofs.names.after_label.Goals as goal
-
-pub returns-in-Some : goal.returns-in-Some
-returns-in-Some c = label_longest _ c.in-Some.rest.now c.after_tail.result.0.now c.after_tail.result.1.now c.in-Some.ensures.reads c.after_tail.ensures.name
-
-pub returns-in-None : goal.returns-in-None
-returns-in-None c = no_label _ c.in-None.ensures.reads
