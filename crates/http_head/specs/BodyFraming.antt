@@ -4,6 +4,7 @@ use Rattle.std.specs.Str.{str_eq_ignore_ascii_case}
 use Rattle.pod_base.specs.declared.field.Field.{Field}
 use Rattle.http_head.specs.Decimals.{is_number, number_of}
 use Rattle.http_head.specs.Fields.{fields_named, has_field}
+use Rattle.http_head.specs.declared.content_length.TheConstants.{BODY_LIMIT}
 use Rattle.http_head.specs.declared.body_form.BodyForm.{BodyForm}
 use Rattle.http_head.specs.declared.body_form.BodyForm.TheVariants.{Empty, Length, Chunked}
 use Rattle.http_head.specs.declared.body_framing.FramingFault.{FramingFault}
@@ -49,7 +50,7 @@ conflicts minor fields =
 -- the form of a body that no coding frames
 abbrev pub length_form : List Field → Result BodyForm FramingFault
 length_form fields =
-    if nat_lt 8_388_608 (first_length (lengths fields)) then Err TooLarge else (
+    if nat_lt BODY_LIMIT (first_length (lengths fields)) then Err TooLarge else (
     if has_length fields then Ok (Length (first_length (lengths fields))) else Ok Empty)
 
 -- a row of a table: where its condition holds, its answer
@@ -75,7 +76,7 @@ framing minor fields = first_row (
     -- another coding than chunked
     (has_coding fields && not (is_chunked (codings fields)), Err Coding) ∷
     -- more bytes than a body may have
-    (nat_lt 8_388_608 (first_length (lengths fields)), Err TooLarge) ∷
+    (nat_lt BODY_LIMIT (first_length (lengths fields)), Err TooLarge) ∷
     (has_coding fields, Ok Chunked) ∷
     (has_length fields, Ok (Length (first_length (lengths fields)))) ∷ [])
     (Ok Empty)

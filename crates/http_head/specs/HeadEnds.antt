@@ -1,5 +1,6 @@
 use Rattle.std.specs.Prelude.{ℕ, ◌+◌, ◌<◌, ◌≤◌, ◌&&◌, ◌==◌, if◌then◌else◌, nat_le, nat_lt, List, [], ◌∷◌, length, take, drop, Option, Some, None}
 use Rattle.std.specs.Option.{option_map}
+use Rattle.http_head.specs.declared.head_ends.TheConstants.{HEAD_LIMIT}
 use Rattle.http_head.specs.declared.head_ends.HeadEnd.{HeadEnd}
 use Rattle.http_head.specs.declared.head_ends.HeadEnd.TheVariants.{Whole, NotYet, TooLong}
 
@@ -35,12 +36,12 @@ length_in window = option_map (λ n. n + blank_length window) (head_length (drop
 
 abbrev pub end_of : ℕ → Option ℕ → HeadEnd
 end_of len (Some n) = Whole n
-end_of len None = if nat_le 16_384 len then TooLong else NotYet
+end_of len None = if nat_le HEAD_LIMIT len then TooLong else NotYet
 
 -- Where the head ends with which the text begins. It has at most 16,384 bytes, with the empty lines
 -- before it.
 abbrev pub head_end : List ℕ → HeadEnd
-head_end text = end_of (length text) (length_in (take 16_384 text))
+head_end text = end_of (length text) (length_in (take HEAD_LIMIT text))
 
 -- a whole head is not empty, and no longer than that
 abbrev pub WholeWithin : HeadEnd → ℕ → Type 0

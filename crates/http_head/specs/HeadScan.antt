@@ -1,5 +1,6 @@
 use Rattle.std.specs.Prelude.{◌≡◌, ℕ, ◌+◌, ◌≤◌, Bool, true, false, not, ◌==◌, List, [], ◌∷◌, ◌++◌, length, take, drop, Option}
 use Rattle.std.specs.Option.{option_map}
+use Rattle.http_head.specs.declared.head_ends.TheConstants.{HEAD_LIMIT}
 use Rattle.http_head.specs.HeadEnds.{head_length, length_in}
 
 -- The search for the end of a head in a text that grows.
@@ -31,7 +32,7 @@ pub record Passed (search : ScanState) (window : List ℕ) : Type 0 where
 
 -- what the search remembers is true of each text that begins so
 abbrev pub HasScanned : ScanState → List ℕ → Type 0
-HasScanned search text = Passed search (take 16_384 text)
+HasScanned search text = Passed search (take HEAD_LIMIT text)
 
 -- the text begins with what the search has seen
 pub record ScannedPrefixOf (search : ScanState) (text : List ℕ) : Type 0 where

@@ -6,6 +6,7 @@ use Rattle.httparse.specs.Spans.{name_and_value}
 use Rattle.pod_base.specs.declared.field.Field.{Field}
 use Rattle.pod_base.specs.declared.method.Method.{Method}
 use Rattle.pod_base.specs.declared.method.Method.TheVariants.{Get, Head, Options, Post, Put, Patch, Delete, Other}
+use Rattle.http_head.specs.declared.head_parser.TheConstants.{HEAD_LINE_LIMIT, FIELD_LIMIT}
 use Rattle.http_head.specs.HeadEnds.{blank_length}
 use Rattle.http_head.specs.declared.request_head.RequestHead.{RequestHead}
 
@@ -18,7 +19,7 @@ line_count head = count_by (λ b. b == 10) (drop (blank_length head) head)
 -- the head is these parts by the grammar of RFC 9112, with at most 64 fields
 pub record HasParts (head : List ℕ) (parts : grammar.RequestHead) : Type 0 where
   pub reads : ReadsRequest head parts []
-  pub room : length parts.fields ≤ 64
+  pub room : length parts.fields ≤ FIELD_LIMIT
 
 -- the method of a word (RFC 9110, section 9.1): methods are told by their case
 abbrev pub method_of : List ℕ → Method
@@ -54,16 +55,16 @@ host_count lines = count_by (λ line. str_eq_ignore_ascii_case line.0 (codes "ho
 
 -- too many lines
 abbrev pub HasTooManyLines : List ℕ → Type 0
-HasTooManyLines head = 66 < line_count head
+HasTooManyLines head = HEAD_LINE_LIMIT < line_count head
 
 -- no head of the grammar
 pub record IsMalformedHead (head : List ℕ) : Type 0 where
-  pub lines : line_count head ≤ 66
+  pub lines : line_count head ≤ HEAD_LINE_LIMIT
   pub never : (parts : grammar.RequestHead) → HasParts head parts → ⊥
 
 -- a head of HTTP/1.1 with no Host or several (RFC 9112, section 3.2)
 pub record LacksHost (head : List ℕ) : Type 0 where
-  pub lines : line_count head ≤ 66
+  pub lines : line_count head ≤ HEAD_LINE_LIMIT
   pub parts : grammar.RequestHead
   pub whole : HasParts head parts
   pub minor : parts.minor ≡ 1
@@ -71,7 +72,7 @@ pub record LacksHost (head : List ℕ) : Type 0 where
 
 -- a head that says this
 pub record ParsesTo (head : List ℕ) (parsed : RequestHead) : Type 0 where
-  pub lines : line_count head ≤ 66
+  pub lines : line_count head ≤ HEAD_LINE_LIMIT
   pub parts : grammar.RequestHead
   pub whole : HasParts head parts
   pub hosts : parts.minor ≡ 1 → host_count (lines_of parts) ≡ 1

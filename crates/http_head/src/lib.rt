@@ -33,7 +33,7 @@ pub use body_framing::{FramingFault, framing};
 pub use content_length::BODY_LIMIT;
 pub use expectation::expects_continue;
 pub use head_ends::{HEAD_LIMIT, HeadEnd, blank_length, head_end};
-pub use head_parser::read_head;
+pub use head_parser::{FIELD_LIMIT, HEAD_LINE_LIMIT, read_head};
 pub use head_scan::HeadSearch;
 pub use persistence::closes;
 pub use request_head::{HeadFault, RequestHead};
