@@ -76,7 +76,7 @@ same_digits (a ∷ xs) (b ∷ ys) ha hb len e =
     let heads : a ≡ b = omega (arith, da, db, here.0) in
     ap (λ d. d ∷ xs) heads ∙ ap (λ rest. b ∷ rest) (same_digits xs ys (others a xs ha) (others b ys hb) count here.1)
 
--- no 0 stands first
+-- no leading 0
 abbrev IsPlain : List ℕ → Type 0
 IsPlain [] = Unit {0}
 IsPlain (d ∷ ds) = 49 ≤ d

@@ -1,4 +1,4 @@
--- A head's end stays where it is as the text goes on, and the head alone ends there too.
+-- The end of a head stays as the text grows, and the head alone ends there too.
 use Rattle.std.proofs.Common.{◌≡◌, ℕ, zero, suc, ◌∙◌, ◌+◌, ◌<◌, ◌≤◌, ◌==◌, ◌&&◌, Bool, true, false, cond, if◌then◌else◌, nat_lt, nat_le, List, [], ◌∷◌, ◌++◌, length, take, drop, Option, Some, None, refl, sym, ap, subst, arith, inl, inr, append_assoc, add-one, length-append, length-drop, min}
 use Rattle.std.specs.Option.{option_map}
 use Rattle.std.proofs.lemmas.Bool.{cases_lt}
@@ -9,11 +9,7 @@ use Rattle.http_head.specs.declared.head_ends.HeadEnd.TheVariants.{Whole, NotYet
 use Rattle.http_head.specs.declared.head_ends.TheConstants.{HEAD_LIMIT}
 use Rattle.http_head.specs.HeadEnds.{line_end_length, blank_length, line_end_after_lf, head_length, length_in, end_of, head_end}
 use Rattle.http_head.specs.HeadScan.{begins_line}
-use Rattle.http_head.proofs.HeadScanLemmas.{blank-append, blank_none, in_split, in_line}
-
-append_none : (w : List ℕ) → w ++ [] ≡ w
-append_none [] = refl
-append_none (b ∷ w) = ap (λ rest. b ∷ rest) (append_none w)
+use Rattle.http_head.proofs.HeadScanLemmas.{blank-append, blank_none, blank_after, in_split, in_line, window_grows}
 
 -- ---- line ends
 
@@ -80,7 +76,7 @@ after_lf_stays false e f h some = refl
 end_stays : (b : ℕ) (bytes more : List ℕ) → 0 < line_end_after_lf (b ∷ bytes) → line_end_after_lf (b ∷ (bytes ++ more)) ≡ line_end_after_lf (b ∷ bytes)
 end_stays b bytes more h = after_lf_stays (b == 10) (line_end_length bytes) (line_end_length (bytes ++ more)) (line_stays bytes more) h
 
--- what a head's length says of its first byte: it ends there, or after it
+-- a head ends at its first byte, or after it
 data Ended (b : ℕ) (bytes : List ℕ) (n : ℕ) : Type 0 where
   here : 0 < line_end_after_lf (b ∷ bytes) → n ≡ line_end_after_lf (b ∷ bytes) + 1 → Ended b bytes n
   after : (m : ℕ) → line_end_after_lf (b ∷ bytes) ≡ 0 → head_length bytes ≡ Some m → n ≡ m + 1 → Ended b bytes n
@@ -188,12 +184,6 @@ blank_prefix (b ∷ c ∷ w) (suc (suc k)) h =
     blank_prefix_on (b == 10) (b == 13 && c == 10) (blank_length (c ∷ w)) (blank_length (c ∷ take k w)) (blank_length w) (blank_length (take k w)) k
     (λ few. blank_prefix (c ∷ w) (suc k) few) (λ few. blank_prefix w k few) h
 
-blank_after : (w : List ℕ) → blank_length (drop (blank_length w) w) ≡ 0
-blank_after w =
-    let e : blank_length w ≡ blank_length (drop (blank_length w) w) + blank_length w =
-    subst (λ v. blank_length v ≡ blank_length (drop (blank_length w) v) + blank_length w) (append_none w) (blank-append w []) in
-    omega arith
-
 -- a head in a window: where it ends after the empty lines
 record Found (w : List ℕ) (n : ℕ) : Type 0 where
   size : ℕ
@@ -264,13 +254,6 @@ end_long : (len : ℕ) (o : Option ℕ) → end_of len o ≡ TooLong → (o ≡ 
 end_long len None h = (refl, end_long_cond (nat_le HEAD_LIMIT len) h)
 end_long len (Some m) h = cc
 
-window_grows : (most : ℕ) (seen more : List ℕ) → (others : List ℕ) × (take most (seen ++ more) ≡ take most seen ++ others)
-window_grows zero seen more = ([], refl)
-window_grows (suc most) [] more = (take (suc most) more, refl)
-window_grows (suc most) (b ∷ seen) more =
-    let rest = window_grows most seen more in
-    (rest.0, ap (λ r. b ∷ r) rest.1)
-
 stays_in : (most : ℕ) (text more : List ℕ) (n : ℕ) → length_in (take most text) ≡ Some n → length_in (take most (text ++ more)) ≡ Some n
 stays_in most text more n h =
     let grown = window_grows most text more in
@@ -286,7 +269,7 @@ prefix_in most text n h =
     let all : take most (take n text) ≡ take n text = take_all most (take n text) (omega (arith, length-take-le n text there)) in
     (low, there, ap length_in (all ∙ sym same) ∙ in_prefix (take most text) n h)
 
--- A whole head stays.
+-- A complete head stays complete.
 pub whole_stays : (text more : List ℕ) (n : ℕ) → head_end text ≡ Whole n → head_end (text ++ more) ≡ Whole n
 whole_stays text more n h =
     ap (end_of (length (text ++ more))) (stays_in HEAD_LIMIT text more n (end_whole (length text) (length_in (take HEAD_LIMIT text)) n h))
@@ -359,7 +342,7 @@ blank_in most text more n h =
     subst (λ t. blank_length (t ++ more) ≡ blank_length w) (take-append-drop most text) (ap blank_length (append_assoc w rest more) ∙ blank_fixed w (rest ++ more) n h) in
     longer ∙ sym here
 
--- The empty lines before a whole head stay as many.
+-- The empty lines before a complete head stay as many.
 pub blank_stays : (text more : List ℕ) (n : ℕ) → head_end text ≡ Whole n → blank_length (text ++ more) ≡ blank_length text
 blank_stays text more n h = blank_in HEAD_LIMIT text more n (end_whole (length text) (length_in (take HEAD_LIMIT text)) n h)
 

@@ -6,7 +6,7 @@ use Rattle.std.proofs.Math.Seq.{drop-length, drop-cons}
 use Rattle.std.proofs.lemmas.List.{drop-drop}
 use Rattle.http_head.specs.HeadEnds.{line_end_length, blank_length, line_end_after_lf, head_length}
 
--- where no line end stands no empty lines begin, and a line end is the first of them
+-- without a line end there are no empty lines, and a line end is the first of them
 pub record Blank (text : List ℕ) : Type 0 where
   pub none : line_end_length text ≡ 0 → blank_length text ≡ 0
   pub more : 0 < line_end_length text → blank_length (drop (line_end_length text) text) + line_end_length text ≡ blank_length text

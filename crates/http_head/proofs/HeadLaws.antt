@@ -61,11 +61,11 @@ spans_ascii head spans found parts whole at =
 pub same_head : (head : List ℕ) (h k : grammar.RequestHead) → HasParts head h → HasParts head k → h ≡ k
 same_head head h k x y = (request_unique head h k [] [] x.reads y.reads).0
 
--- a head says one thing
+-- a text parses to one head
 pub one_parsed_head : (head : List ℕ) (a b : RequestHead) → ParsesTo head a → ParsesTo head b → a ≡ b
 one_parsed_head head a b x y = x.is ∙ ap head_of (same_head head x.parts y.parts x.whole y.whole) ∙ sym y.is
 
--- a head that lacks its host says nothing
+-- a text that lacks its host parses to no head
 pub lacks_no_head : (head : List ℕ) (parsed : RequestHead) → LacksHost head → ParsesTo head parsed → ⊥
 lacks_no_head head parsed h s =
     let same : h.parts ≡ s.parts = same_head head h.parts s.parts h.whole s.whole in

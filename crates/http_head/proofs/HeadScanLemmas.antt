@@ -70,7 +70,7 @@ none_yet true z w p q t h = absurd (omega arith)
 none_yet false true w p q t h = cc
 none_yet false false w p q t h = refl
 
--- a line that begins stays no empty line
+-- a line with bytes stays no empty line
 pub blank_none : (r more : List ℕ) → begins_line r ≡ true → blank_length r ≡ 0 → blank_length (r ++ more) ≡ 0
 blank_none [] more t h = cc
 blank_none (b ∷ []) [] t h = h
@@ -78,7 +78,7 @@ blank_none (b ∷ []) (c ∷ more) t h = none_yet (b == 10) (b == 13) (c == 10) 
 blank_none (b ∷ c ∷ bytes) more t h =
     still_none (b == 10) (b == 13 && c == 10) (blank_length (c ∷ bytes)) (blank_length bytes) (blank_length (c ∷ bytes ++ more) + 1) (blank_length (bytes ++ more) + 2) h
 
--- a head ends behind its empty lines
+-- a head ends after its empty lines
 pub in_split : (w more : List ℕ) → length_in (w ++ more) ≡ option_map (λ n. n + blank_length w) (length_in (drop (blank_length w) (w ++ more)))
 in_split w more =
     let all : List ℕ = w ++ more in
@@ -120,7 +120,7 @@ lines_passed (b ∷ c ∷ d ∷ w) more h =
     ∙ ap (λ r. option_map (λ n. n + (m + 1)) (head_length r)) (sym (drop_one_more m b all))
     ∙ ap (λ k. option_map (λ n. n + k) (head_length (drop k (b ∷ all)))) (sym count)
 
-append_none : (w : List ℕ) → w ++ [] ≡ w
+pub append_none : (w : List ℕ) → w ++ [] ≡ w
 append_none [] = refl
 append_none (b ∷ w) = ap (λ rest. b ∷ rest) (append_none w)
 
@@ -144,9 +144,9 @@ from_begun : (begun : Bool) (r more : List ℕ) → begins_line r ≡ begun → 
 from_begun true r more t h = in_line r more t h
 from_begun false r more t h = refl
 
--- behind the empty lines no other begins
-blank_behind : (w : List ℕ) → blank_length (drop (blank_length w) w) ≡ 0
-blank_behind w =
+-- no empty line follows the empty lines
+pub blank_after : (w : List ℕ) → blank_length (drop (blank_length w) w) ≡ 0
+blank_after w =
     let e : blank_length w ≡ blank_length (drop (blank_length w) w) + blank_length w =
     subst (λ v. blank_length v ≡ blank_length (drop (blank_length w) v) + blank_length w) (append_none w) (blank-append w []) in
     omega arith
@@ -157,7 +157,7 @@ pub blank_passed : (at n : ℕ) (window : List ℕ) (begun : Bool) → Passed (s
 blank_passed at n window begun passed is room begins =
     let rest : List ℕ = drop at window in
     let r : List ℕ = drop n rest in
-    let zero : blank_length r ≡ 0 = subst (λ k. blank_length (drop k rest) ≡ 0) (sym is) (blank_behind rest) in
+    let zero : blank_length r ≡ 0 = subst (λ k. blank_length (drop k rest) ≡ 0) (sym is) (blank_after rest) in
     record {
       there = omega (arith, passed.there, length-drop at window);
       rest = λ more.
@@ -212,7 +212,7 @@ no_end_passed at window passed none =
           ∙ ap (λ x. option_map (λ n. n + (at + m)) (head_length x)) (sym whole);
     }
 
-window_grows : (most : ℕ) (scanned more : List ℕ) → (others : List ℕ) × (take most (scanned ++ more) ≡ take most scanned ++ others)
+pub window_grows : (most : ℕ) (scanned more : List ℕ) → (others : List ℕ) × (take most (scanned ++ more) ≡ take most scanned ++ others)
 window_grows zero scanned more = ([], refl)
 window_grows (suc most) [] more = (take (suc most) more, refl)
 window_grows (suc most) (b ∷ scanned) more =

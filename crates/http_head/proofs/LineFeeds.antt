@@ -1,5 +1,5 @@
--- What a search for LF says of the end of a head.
-use Rattle.std.proofs.Common.{◌≡◌, ℕ, ◌+◌, ◌<◌, ◌≤◌, ◌==◌, true, List, length, drop, slice_index, Option, Some, None, IfSome, IfNone, ap, arith}
+-- The end of a head from a search for LF.
+use Rattle.std.proofs.Common.{◌≡◌, ℕ, ◌+◌, ◌<◌, ◌==◌, List, length, drop, slice_index, Option, Some, None, IfSome, IfNone, ap, arith}
 use Rattle.std.specs.Option.{option_map}
 use Rattle.memchr.specs.Find.{IsFirstByte, is_byte, Passes}
 use Rattle.http_head.specs.HeadEnds.{head_length}

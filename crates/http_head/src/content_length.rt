@@ -17,7 +17,7 @@ fn are_digits(value: &[u8]) -> bool
 }
 
 /// Whether these are one digit or more and nothing else.
-pub fn is_number(value: &[u8]) -> bool
+pub(crate) fn is_number(value: &[u8]) -> bool
     ensures { result ≡ is_number value.now }
 {
     !value.is_empty() && are_digits(value)
@@ -36,14 +36,14 @@ fn significant(mut digits: &[u8]) -> &[u8]
 }
 
 /// Whether the digits are the same from the first that isn't 0.
-pub fn is_same_number(digits: &[u8], others: &[u8]) -> bool
+pub(crate) fn is_same_number(digits: &[u8], others: &[u8]) -> bool
     ensures { result ≡ bytes_eq (significant digits.now) (significant others.now) }
 {
     significant(digits) == significant(others)
 }
 
 /// The number that these digits write, up to [`BODY_LIMIT`].
-pub fn body_length(digits: &[u8]) -> Option<u64>
+pub(crate) fn body_length(digits: &[u8]) -> Option<u64>
     ensures { result ≡ (if nat_le (number_of digits.now) BODY_LIMIT
         then Some (number_of digits.now) else None) }
 {

@@ -4,7 +4,7 @@ use Rattle.http_head.specs.HeadEnds.{line_end_length, blank_length}
 use Rattle.http_head.proofs.HeadEndSteps.{blank}
 use Rattle.http_head.proofs.head_ends.blank_length.Goals as goal
 
--- no line end stands there
+-- there is no line end
 pub returns-then-end-eq0-clause-exact : goal.returns-then-end-eq0-clause-exact
 returns-then-end-eq0-clause-exact c =
     let text : List ℕ = drop c.loop-at.at c.args.bytes.now in
