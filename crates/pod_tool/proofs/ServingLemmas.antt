@@ -68,9 +68,12 @@ begins may_give stage keeper input output new stands = record {
 
 -- what is heard in a front is heard first in the whole
 hears_first : (text : List ℕ) (hears : List Heard) → AreFirstEvents text hears → HearsFirst text hears
-hears_first text hears f = record { front = f; whole = λ all rest m.
-    let first = events_stay_first text hears all rest f m in
-    (first.0, sym first.1) }
+hears_first text hears f = record {
+  front = f;
+  whole = λ all rest m.
+      let first = events_stay_first text hears all rest f m in
+      (first.0, sym first.1);
+}
 
 -- what is heard first in a text and more
 first_heard : (text more : List ℕ) (hears those : List Heard) (rest : ℕ) → Messages text (hears ++ those) rest → HearsFirst (text ++ more) hears
