@@ -7,15 +7,15 @@ use Rattle.http.specs.StatusCode.{code_digits}
 use Rattle.pod_base.specs.declared.field.Field.{Field}
 use Rattle.pod_base.specs.declared.response.Response.{Response}
 use Rattle.http_out.specs.declared.segment.Segment.TheVariants.{Version, Name, LineEnd}
-use Rattle.http_out.specs.Text.{line, field_line, phrase_of, status_line, field_lines, closing_line, has_no_length, body_length, length_line, body_text, body_bytes, response_text, without_body, NoBodyWithoutLength}
-use Rattle.http_out.specs.Segments.{name_of, after_name, after_line, segment_text, text_after, left_at, from_fields, from_closing, Copies}
+use Rattle.http_out.specs.Text.{crlf_line, field_line, phrase_of, status_line, field_lines, closing_line, has_no_length, body_length, length_line, body_text, body_bytes, response_text, without_body, NoBodyWithoutLength}
+use Rattle.http_out.specs.Segments.{first_name, after_name, after_line, segment_text, text_after, left_at, from_fields, from_closing, CopiesPrefix}
 
 -- the segments of a field's line
 field_pieces : (name value rest_text : List ℕ)
     → field_line name value ++ rest_text ≡ name ++ (codes ": " ++ (value ++ (codes "\r\n" ++ rest_text)))
 field_pieces name value rest_text = simp append_assoc
 
-pub first_field : (fields : List Field) (rest_text : List ℕ) → name_of fields ++ after_name fields rest_text ≡ from_fields fields rest_text
+pub first_field : (fields : List Field) (rest_text : List ℕ) → first_name fields ++ after_name fields rest_text ≡ from_fields fields rest_text
 first_field [] rest_text = refl
 first_field (f ∷ fs) rest_text =
     sym (append_assoc (field_line f.name f.value) (field_lines fs) rest_text ∙ field_pieces f.name f.value (field_lines fs ++ rest_text))
@@ -41,7 +41,7 @@ length_pieces true digits rest_text = refl
 length_pieces false digits rest_text = simp append_assoc
 
 status_pieces : (version code space phrase rest_text : List ℕ)
-    → line (version ++ code ++ space ++ phrase) ++ rest_text ≡ version ++ (code ++ (space ++ (phrase ++ (codes "\r\n" ++ rest_text))))
+    → crlf_line (version ++ code ++ space ++ phrase) ++ rest_text ≡ version ++ (code ++ (space ++ (phrase ++ (codes "\r\n" ++ rest_text))))
 status_pieces version code space phrase rest_text = simp append_assoc
 
 seven : (a b c d e f g : List ℕ) → a ++ b ++ c ++ d ++ e ++ f ++ g ≡ a ++ (b ++ (c ++ (d ++ (e ++ (f ++ g)))))
@@ -79,7 +79,7 @@ no_body_text response date close none =
 -- as many bytes as there is room for, of one segment
 pub copies_full : (segment rest_text slice new_slice : List ℕ) (offset count : ℕ) → count ≡ min (length segment - offset) (length slice)
     → new_slice ≡ take count (drop offset segment) ++ drop count slice → count ≡ length slice
-    → Copies (drop offset segment ++ rest_text) (drop (offset + count) segment ++ rest_text) slice new_slice count
+    → CopiesPrefix (drop offset segment ++ rest_text) (drop (offset + count) segment ++ rest_text) slice new_slice count
 copies_full segment rest_text slice new_slice offset count is_count is_new full =
     let rest = length-drop offset segment in
     let fits : count ≤ length (drop offset segment) = omega arith in
@@ -93,7 +93,7 @@ copies_full segment rest_text slice new_slice offset count is_count is_new full 
 -- the rest of a segment
 pub copies_rest : (segment rest_text next slice new_slice : List ℕ) (offset count : ℕ) → count ≡ min (length segment - offset) (length slice)
     → new_slice ≡ take count (drop offset segment) ++ drop count slice → count ≢ length slice → next ≡ rest_text
-    → Copies (drop offset segment ++ rest_text) next slice new_slice count
+    → CopiesPrefix (drop offset segment ++ rest_text) next slice new_slice count
 copies_rest segment rest_text next slice new_slice offset count is_count is_new some same =
     let rest = length-drop offset segment in
     let whole : length (drop offset segment) ≡ count = omega arith in
@@ -106,9 +106,9 @@ copies_rest segment rest_text next slice new_slice offset count is_count is_new 
     }
 
 -- bytes, and then more
-pub copies_more : (old middle new slice first_slice rest_slice : List ℕ) (given more : ℕ) → Copies old middle slice first_slice given
-    → Copies middle new (drop given first_slice) rest_slice more
-    → Copies old new slice (take given first_slice ++ rest_slice) (given + more)
+pub copies_more : (old middle new slice first_slice rest_slice : List ℕ) (given more : ℕ) → CopiesPrefix old middle slice first_slice given
+    → CopiesPrefix middle new (drop given first_slice) rest_slice more
+    → CopiesPrefix old new slice (take given first_slice ++ rest_slice) (given + more)
 copies_more old middle new slice first_slice rest_slice given more x y =
     let size = length-take-le given old x.within in
     let front : take given first_slice ≡ take given old =
@@ -141,11 +141,11 @@ put_rest at xs ys =
 pub rest_of : (at : ℕ) (xs : List ℕ) → take (length xs - at) (drop at xs) ≡ drop at xs
 rest_of at xs = take_all (length xs - at) (drop at xs) (omega (arith, length-drop at xs))
 
-pub copies_nothing : (old slice : List ℕ) → Copies old old slice slice 0
+pub copies_nothing : (old slice : List ℕ) → CopiesPrefix old old slice slice 0
 copies_nothing old slice = record { within = omega arith; room = omega arith; given = refl; left = refl }
 
 -- the bytes of a piece, and those that are left after it
-pub gathers : (old new slice_old slice_new : List ℕ) (count : ℕ) → Copies old new slice_old slice_new count → take count slice_new ++ new ≡ old
+pub gathers : (old new slice_old slice_new : List ℕ) (count : ℕ) → CopiesPrefix old new slice_old slice_new count → take count slice_new ++ new ≡ old
 gathers old new slice_old slice_new count x =
     let size = length-take-le count old x.within in
     let front : take count slice_new ≡ take count old =
@@ -154,12 +154,12 @@ gathers old new slice_old slice_new count x =
     ap₂ (λ (a b : List ℕ). a ++ b) front x.left ∙ take-append-drop count old
 
 -- a slice with room that gets no bytes gets the last
-pub none_left : (old new slice_old slice_new : List ℕ) (count : ℕ) → Copies old new slice_old slice_new count → count ≡ min (length old) (length slice_old)
+pub none_left : (old new slice_old slice_new : List ℕ) (count : ℕ) → CopiesPrefix old new slice_old slice_new count → count ≡ min (length old) (length slice_old)
     → 0 < length slice_old → count ≡ 0 → new ≡ []
 none_left old new slice_old slice_new count x is some zero =
     x.left ∙ drop_all count old (omega (arith, is, some, zero))
 
 -- the slice keeps its length
-pub copies_length : (old new slice_old slice_new : List ℕ) (count : ℕ) → Copies old new slice_old slice_new count → length slice_new ≡ length slice_old
+pub copies_length : (old new slice_old slice_new : List ℕ) (count : ℕ) → CopiesPrefix old new slice_old slice_new count → length slice_new ≡ length slice_old
 copies_length old new slice_old slice_new count x =
     omega (arith, x.within, x.room, ap length x.given, length-append (take count old) (drop count slice_old), length-take-le count old x.within, length-drop count slice_old)

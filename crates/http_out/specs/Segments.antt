@@ -26,21 +26,21 @@ abbrev pub length_end : Response → List ℕ
 length_end response = if has_no_length response.status then [] else codes "\r\n"
 
 -- the segments of the first field's line
-abbrev pub name_of : List Field → List ℕ
-name_of [] = []
-name_of (f ∷ fs) = f.name
+abbrev pub first_name : List Field → List ℕ
+first_name [] = []
+first_name (f ∷ fs) = f.name
 
-abbrev pub colon_of : List Field → List ℕ
-colon_of [] = []
-colon_of (f ∷ fs) = codes ": "
+abbrev pub first_colon : List Field → List ℕ
+first_colon [] = []
+first_colon (f ∷ fs) = codes ": "
 
-abbrev pub value_of : List Field → List ℕ
-value_of [] = []
-value_of (f ∷ fs) = f.value
+abbrev pub first_value : List Field → List ℕ
+first_value [] = []
+first_value (f ∷ fs) = f.value
 
-abbrev pub line_end_of : List Field → List ℕ
-line_end_of [] = []
-line_end_of (f ∷ fs) = codes "\r\n"
+abbrev pub first_line_end : List Field → List ℕ
+first_line_end [] = []
+first_line_end (f ∷ fs) = codes "\r\n"
 
 -- the bytes of a segment
 abbrev pub segment_text : Response → List ℕ → Bool → Segment → List ℕ
@@ -51,10 +51,10 @@ segment_text response date close Phrase = phrase_of response.status
 segment_text response date close DateName = codes "\r\nDate: "
 segment_text response date close Date = date
 segment_text response date close DateEnd = codes "\r\n"
-segment_text response date close (Name i) = name_of (drop i response.fields)
-segment_text response date close (Colon i) = colon_of (drop i response.fields)
-segment_text response date close (Value i) = value_of (drop i response.fields)
-segment_text response date close (LineEnd i) = line_end_of (drop i response.fields)
+segment_text response date close (Name i) = first_name (drop i response.fields)
+segment_text response date close (Colon i) = first_colon (drop i response.fields)
+segment_text response date close (Value i) = first_value (drop i response.fields)
+segment_text response date close (LineEnd i) = first_line_end (drop i response.fields)
 segment_text response date close Closing = closing_line response.status close
 segment_text response date close LengthName = length_name response
 segment_text response date close Length = length_digits response
@@ -168,7 +168,7 @@ segments_left fields End = 0
 
 -- The first of the bytes that were left are copied to the beginning of a slice, and the others are
 -- left.
-pub record Copies (old new slice_old slice_new : List ℕ) (count : ℕ) : Type 0 where
+pub record CopiesPrefix (old new slice_old slice_new : List ℕ) (count : ℕ) : Type 0 where
   pub within : count ≤ length old
   pub room : count ≤ length slice_old
   pub given : slice_new ≡ take count old ++ drop count slice_old

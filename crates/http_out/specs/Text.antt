@@ -9,11 +9,11 @@ use Rattle.pod_base.specs.declared.response.Body.{Body}
 use Rattle.pod_base.specs.declared.response.Body.TheVariants.{Absent, Whole, LengthOnly}
 
 -- a line and its end
-abbrev pub line : List ℕ → List ℕ
-line text = text ++ codes "\r\n"
+abbrev pub crlf_line : List ℕ → List ℕ
+crlf_line text = text ++ codes "\r\n"
 
 abbrev pub field_line : List ℕ → List ℕ → List ℕ
-field_line name value = line (name ++ codes ": " ++ value)
+field_line name value = crlf_line (name ++ codes ": " ++ value)
 
 -- the standard phrase of a status, where it has one
 unfoldable pub phrase_of : ℕ → List ℕ
@@ -21,7 +21,8 @@ phrase_of status = unwrap_or (reason_phrase status) []
 
 -- the version, the three digits of the status and its phrase
 abbrev pub status_line : ℕ → List ℕ
-status_line status = line (codes "HTTP/1.1 " ++ code_digits status ++ codes " " ++ phrase_of status)
+status_line status =
+    crlf_line (codes "HTTP/1.1 " ++ code_digits status ++ codes " " ++ phrase_of status)
 
 -- the lines of a response's own fields, in their order
 abbrev pub field_lines : List Field → List ℕ

@@ -1,7 +1,7 @@
 //! A position in a response's text, and the copying of bytes from there on.
 
 ghost use Rattle.std.specs.Prelude.{◌≡◌, ◌≢◌, ◌<◌, ◌+◌, ◌-◌, min, length};
-ghost use Rattle.http_out.specs.Segments.{Copies, left_of, segments_left};
+ghost use Rattle.http_out.specs.Segments.{CopiesPrefix, left_of, segments_left};
 
 use crate::head_parts::HeadParts;
 use crate::segment::Segment;
@@ -28,7 +28,7 @@ fn copy_next(response: &Response, head: &HeadParts, cursor: &mut Cursor, into: &
     requires code { head.now.code ≡ response.now.status }
     requires not_end { cursor.old.segment ≢ Segment.End }
     requires some { 0 < length into.old }
-    ensures copies { Copies (left_of response.now head.now cursor.old)
+    ensures copies { CopiesPrefix (left_of response.now head.now cursor.old)
         (left_of response.now head.now cursor.new) into.old into.new result }
     ensures nearer { segments_left (length response.now.fields) cursor.new.segment
         + (length into.old - result)
@@ -52,7 +52,7 @@ pub(crate) fn fill(
     into: &mut [u8],
 ) -> usize
     requires { head.now.code ≡ response.now.status }
-    ensures copies { Copies (left_of response.now head.now cursor.old)
+    ensures copies { CopiesPrefix (left_of response.now head.now cursor.old)
         (left_of response.now head.now cursor.new) into.old into.new result }
     ensures count { result
         ≡ min (length (left_of response.now head.now cursor.old)) (length into.old) }

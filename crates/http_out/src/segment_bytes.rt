@@ -4,8 +4,8 @@ ghost use Rattle.std.specs.Prelude.{◌≡◌, ◌≢◌, ◌<◌, ◌+◌, ◌-
 ghost use Rattle.std.specs.Prelude.{length, IfSome, IfNone};
 ghost use Rattle.std.specs.Option.{option_copied};
 ghost use Rattle.http_out.specs.Text as text;
-ghost use Rattle.http_out.specs.Segments.{length_digits, name_of, colon_of, value_of, line_end_of};
-ghost use Rattle.http_out.specs.Segments.{segment_text};
+ghost use Rattle.http_out.specs.Segments.{first_name, first_colon, first_value, first_line_end};
+ghost use Rattle.http_out.specs.Segments.{length_digits, segment_text};
 
 use crate::head_parts::{HeadParts, phrase_of};
 use crate::segment::Segment;
@@ -35,10 +35,11 @@ fn field_at(fields: &Fields, i: usize) -> Option<&Field>
 
 /// The bytes of a segment of a field's line, none where there is no such field.
 fn field_bytes(fields: &Fields, i: usize, segment: Segment) -> &[u8]
-    ensures name { segment ≡ Segment.Name i → result.now ≡ name_of (drop i fields.now) }
-    ensures colon { segment ≡ Segment.Colon i → result.now ≡ colon_of (drop i fields.now) }
-    ensures value { segment ≡ Segment.Value i → result.now ≡ value_of (drop i fields.now) }
-    ensures line_end { segment ≡ Segment.LineEnd i → result.now ≡ line_end_of (drop i fields.now) }
+    ensures name { segment ≡ Segment.Name i → result.now ≡ first_name (drop i fields.now) }
+    ensures colon { segment ≡ Segment.Colon i → result.now ≡ first_colon (drop i fields.now) }
+    ensures value { segment ≡ Segment.Value i → result.now ≡ first_value (drop i fields.now) }
+    ensures line_end { segment ≡ Segment.LineEnd i
+        → result.now ≡ first_line_end (drop i fields.now) }
 {
     match field_at(fields, i) {
         None => b"",

@@ -1,5 +1,5 @@
 use Rattle.std.proofs.Common.{◌+◌, subst, sym}
-use Rattle.http_out.specs.Segments.{left_at, Copies}
+use Rattle.http_out.specs.Segments.{left_at, CopiesPrefix}
 use Rattle.http_out.proofs.SegmentLemmas.{copies_more, put_rest, rest_of}
 use Rattle.http_out.proofs.cursor.fill.Goals as goal
 
@@ -13,6 +13,6 @@ loop-count-preserved c =
     let count = c.loop-count.count in
     let into = c.loop-count.into in
     let new = c.copy_next-count.new.into in
-    subst (λ t. Copies start after c.args.into.now t (count + c.copy_next-count.result)) (sym (put_rest count into new))
+    subst (λ t. CopiesPrefix start after c.args.into.now t (count + c.copy_next-count.result)) (sym (put_rest count into new))
     (copies_more start before after c.args.into.now into new count c.copy_next-count.result c.loop-count.invariant
-    (subst (λ t. Copies before after t new c.copy_next-count.result) (rest_of count into) c.copy_next-count.ensures.copies))
+    (subst (λ t. CopiesPrefix before after t new c.copy_next-count.result) (rest_of count into) c.copy_next-count.ensures.copies))
