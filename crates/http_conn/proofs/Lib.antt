@@ -1,5 +1,10 @@
-pub mod Endings
-pub mod Growing
+-- kept for the crates above
+pub mod EndLemmas
+pub mod LongerTexts
+pub mod StepLemmas
+-- internal
 pub mod HeadEnds
-pub mod Reading
-pub mod Readings
+pub mod Parses
+pub mod RefusalLemmas
+pub mod SingleRequestLemmas
+pub mod SomeParse

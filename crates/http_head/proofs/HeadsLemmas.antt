@@ -1,8 +1,9 @@
 -- Names of fields are ASCII, and the heads of one text are one.
-use Rattle.std.proofs.Common.{◌≡◌, ℕ, ◌<◌, ◌==◌, ◌&&◌, ◌||◌, Bool, true, false, nat_lt, List, [], ◌∷◌, take, map, All, refl, sym, ap, subst, ◌∙◌, arith, codes}
+use Rattle.std.proofs.Common.{◌⊎◌, inl, inr, ◌≤◌, ◌≡◌, ℕ, ◌<◌, ◌==◌, ◌&&◌, ◌||◌, Bool, true, false, nat_lt, List, [], ◌∷◌, take, map, All, refl, sym, ap, subst, ◌∙◌, arith, codes}
 use Rattle.std.specs.List.{list_any, list_all, AllByRecursion}
 use Rattle.std.specs.Str.{IsAscii}
 use Rattle.std.specs.Char.{is_ascii_alphanumeric}
+use Rattle.std.proofs.lemmas.Bool.{cases_lt, cases_eq}
 use Rattle.std.proofs.lemmas.Bool.Decides.{nat_tests}
 use Rattle.std.proofs.lemmas.List.Elements.{All-from_recursion, recursion_from_All}
 use Rattle.std.proofs.lemmas.Str.Ascii.{IsAscii-from_all}
@@ -13,7 +14,7 @@ use Rattle.httparse.specs.declared.spans.HeaderSpan.{HeaderSpan}
 use Rattle.httparse.specs.declared.spans.RequestSpans.{RequestSpans}
 use Rattle.httparse.proofs.GrammarLemmas.{request_unique}
 use Rattle.http_head.specs.declared.head.RequestHead.{RequestHead}
-use Rattle.http_head.specs.Heads.{IsWhole, LacksHost, Says, host_count, lines_of, head_of}
+use Rattle.http_head.specs.Heads.{IsWhole, IsTooMany, IsMalformed, LacksHost, Says, line_count, host_count, lines_of, head_of}
 
 either_below : (x y : Bool) (b : ℕ) → (x ≡ true → b < 128) → (y ≡ true → b < 128) → (x || y) ≡ true → b < 128
 either_below true y b f g h = f refl
@@ -68,3 +69,20 @@ pub lacks_says : (head : List ℕ) (said : RequestHead) → LacksHost head → S
 lacks_says head said h s =
     let same : h.parts ≡ s.parts = same_head head h.parts s.parts h.whole s.whole in
     h.hosts (ap (λ (p : grammar.RequestHead). host_count (lines_of p)) same ∙ s.hosts (sym (ap (λ (p : grammar.RequestHead). p.minor) same) ∙ h.minor))
+
+-- One of the four findings holds: no head is without any.
+module _ (head : List ℕ) (not_many : IsTooMany head → ⊥) (not_malformed : IsMalformed head → ⊥) (not_lacking : LacksHost head → ⊥) (not_said : (said : RequestHead) → Says head said → ⊥) where
+  few : line_count head ≤ 66
+  few = elim (cases_lt 66 (line_count head)) [ inl many ↦ absurd (not_many many) | inr fits ↦ fits ]
+
+  says : (parts : grammar.RequestHead) → IsWhole head parts → (parts.minor ≡ 1 → host_count (lines_of parts) ≡ 1) → ⊥
+  says parts whole hosts = not_said (head_of parts) (record { lines = few; parts = parts; whole = whole; hosts = hosts; is = refl })
+
+  by_hosts : (parts : grammar.RequestHead) → IsWhole head parts → (parts.minor ≡ 1) ⊎ (parts.minor ≡ 1 → ⊥)
+      → (host_count (lines_of parts) ≡ 1) ⊎ (host_count (lines_of parts) ≡ 1 → ⊥) → ⊥
+  by_hosts parts whole (inr other) hosts = says parts whole (λ one. absurd (other one))
+  by_hosts parts whole (inl one) (inl hosts) = says parts whole (λ same. hosts)
+  by_hosts parts whole (inl one) (inr hosts) = not_lacking (record { lines = few; parts = parts; whole = whole; minor = one; hosts = hosts })
+
+  pub some_finding : ⊥
+  some_finding = not_malformed (record { lines = few; never = λ parts whole. by_hosts parts whole (cases_eq parts.minor 1) (cases_eq (host_count (lines_of parts)) 1) })

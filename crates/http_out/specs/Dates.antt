@@ -1,3 +1,4 @@
+-- The dates of moments.
 use Rattle.std.specs.Prelude.{◌≡◌, ℕ, List, min}
 use Rattle.httpdate.specs.declared.date.HttpDate.{HttpDate}
 use Rattle.httpdate.specs.Date.{unix_secs, date_text}

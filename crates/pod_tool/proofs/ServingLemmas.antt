@@ -3,12 +3,12 @@ use Rattle.std.proofs.Common.{◌≡◌, inl, inr, ℕ, ◌+◌, ◌<◌, ◌≤
 use Rattle.std.specs.List.{AllByRecursion, list_all}
 use Rattle.std.proofs.lemmas.Bool.Decides.{nat_tests}
 use Rattle.std.proofs.lemmas.List.{append-nil}
-use Rattle.http_conn.specs.Messages.{Messages, unfinished, in_head, FirstHeard, EndsThere, StaysOpen}
-use Rattle.http_conn.specs.Held.{Stands, rest_of}
-use Rattle.http_conn.specs.declared.stage.Stage.{Stage}
-use Rattle.http_conn.proofs.Endings.{ends_there, ended_rest}
-use Rattle.http_conn.proofs.Growing.{first_stays_first}
-use Rattle.http_conn.proofs.Reading.{stands_messages}
+use Rattle.http_conn.specs.Messages.{Messages, unfinished, in_head, AreFirstEvents, NothingAfterEnd, StaysOpen}
+use Rattle.http_conn.specs.ParserStates.{Stands, rest_of}
+use Rattle.http_conn.specs.declared.parser_state.ParserState.{Stage}
+use Rattle.http_conn.proofs.EndLemmas.{ends_there, ended_rest}
+use Rattle.http_conn.proofs.LongerTexts.{events_stay_first}
+use Rattle.http_conn.proofs.StepLemmas.{represents_messages}
 use Rattle.http_out.specs.Text.{stays_in_line}
 use Rattle.pod_base.specs.declared.heard.Heard.{Heard}
 use Rattle.pod_core.specs.State.{State}
@@ -67,8 +67,8 @@ begins may_give stage keeper input output new stands = record {
 }
 
 -- what is heard in a front is heard first in the whole
-hears_first : (text : List ℕ) (hears : List Heard) → FirstHeard text hears → HearsFirst text hears
-hears_first text hears f = record { front = f; whole = λ all rest m. first_stays_first text hears all rest f m }
+hears_first : (text : List ℕ) (hears : List Heard) → AreFirstEvents text hears → HearsFirst text hears
+hears_first text hears f = record { front = f; whole = λ all rest m. events_stay_first text hears all rest f m }
 
 -- what is heard first in a text and more
 first_heard : (text more : List ℕ) (hears those : List Heard) (rest : ℕ) → Messages text (hears ++ those) rest → HearsFirst (text ++ more) hears
@@ -79,7 +79,7 @@ all_first text hears rest m = hears_first text hears (record { front = text; beh
 
 module _ (may_give : ℕ → Type 0) (owner : List ℕ) (stage : Stage) (talk : Talk) (old_input new_input old_output new_output : Option (List ℕ)) (pieces : ℕ) (s : Serving may_give owner stage talk old_input new_input old_output new_output pieces) where
   messages : Messages s.text s.heard (rest_of stage)
-  messages = stands_messages stage s.text s.heard s.stands
+  messages = represents_messages stage s.text s.heard s.stands
 
   -- a read failed
   pub read_fault : (last : Option (List ℕ)) → last ≡ new_input → Pipes may_give owner ReadFault old_input last old_output new_output
@@ -158,8 +158,8 @@ module _ (may_give : ℕ → Type 0) (owner : List ℕ) (stage : Stage) (talk : 
       count_is = omega (arith, s.talks.number, all_have_items may_give owner (requests_of s.heard) s.talks.items s.talks.history s.talks.progress)
 
       -- what the piece says ends where the connection does
-      pub ends : EndsThere talk.number those
-      ends = subst (λ n. EndsThere n those) count_is (ends_behind 0 s.heard those s.talks.stays (ends_there (s.text ++ piece) (s.heard ++ those) rest m))
+      pub ends : NothingAfterEnd talk.number those
+      ends = subst (λ n. NothingAfterEnd n those) count_is (ends_behind 0 s.heard those s.talks.stays (ends_there (s.text ++ piece) (s.heard ++ those) rest m))
 
       pub statuses : AllByRecursion IsRefused those
       statuses = refused_behind s.heard those (are_refused (s.text ++ piece) (s.heard ++ those) rest m)
@@ -208,7 +208,7 @@ module _ (may_give : ℕ → Type 0) (owner : List ℕ) (stage : Stage) (talk : 
           longer : (front behind : List Heard) → front ++ behind ≡ those → s.heard ++ those ≡ (s.heard ++ front) ++ behind
           longer front behind cut = ap (λ h. s.heard ++ h) (sym cut) ∙ sym (append_assoc s.heard front behind)
 
-          first_of : (front behind : List Heard) → front ++ behind ≡ those → FirstHeard (s.text ++ piece) (s.heard ++ front)
+          first_of : (front behind : List Heard) → front ++ behind ≡ those → AreFirstEvents (s.text ++ piece) (s.heard ++ front)
           first_of front behind cut = record {
             front = s.text ++ piece;
             behind = [];

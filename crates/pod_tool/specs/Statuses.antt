@@ -1,5 +1,5 @@
 use Rattle.std.specs.Prelude.{◌≡◌, ◌⊎◌, ℕ, ◌^◌, ◌<◌, ◌≤◌, List, [], ◌++◌, length, take, Option, Some, None, codes, decimal}
-use Rattle.http_conn.specs.Messages.{Messages, FirstHeard, StaysOpen, most_requests}
+use Rattle.http_conn.specs.Messages.{Messages, AreFirstEvents, StaysOpen, most_requests}
 use Rattle.pod_base.specs.declared.heard.Heard.{Heard}
 use Rattle.pod_io.specs.Counts.{Rose}
 use Rattle.pod_tool.specs.Reads.{Reads, AtEnd}
@@ -31,7 +31,7 @@ Hears read heard = (all : List Heard) × (rest : ℕ) × Messages read all rest 
 
 -- what is heard in a front of the bytes begins so, and each reading of all of them does
 pub record HearsFirst (read : List ℕ) (heard : List Heard) : Type 0 where
-  pub front : FirstHeard read heard
+  pub front : AreFirstEvents read heard
   pub whole : (all : List Heard) (rest : ℕ) → Messages read all rest → (more : List Heard) × (all ≡ heard ++ more)
 
 -- What was heard in the bytes that were read, and what is left of them, by how the connection ended. For want of memory the

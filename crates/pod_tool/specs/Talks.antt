@@ -1,6 +1,6 @@
 use Rattle.std.specs.Prelude.{◌≡◌, ◌==◌, ℕ, ◌≤◌, ◌<◌, IsTrue, false, List, [], ◌++◌, length, map, fold, take, Option, Some, None, Result, Ok, Err}
 use Rattle.std.specs.List.{AllByRecursion, flat_map, range_with_len, list_all}
-use Rattle.http_conn.specs.Messages.{IsEnd, StaysOpen, most_requests}
+use Rattle.http_conn.specs.Messages.{IsLastRequest, StaysOpen, most_requests}
 use Rattle.http_out.specs.Dates.{Dated}
 use Rattle.http_out.specs.Text.{stays_in_line}
 use Rattle.pod_base.specs.declared.request.Request.{Request}
@@ -90,8 +90,8 @@ RefusedAs may_give status _ old new = ⊥
 
 -- Nothing is heard behind this: a request that is the last, or a refusal. A fault may come anywhere.
 abbrev pub IsOver : ℕ → Heard → PipeEnd → Type 0
-IsOver count (heard.Request request) Closed = IsEnd count request
-IsOver count (heard.Request request) Limit = IsEnd count request
+IsOver count (heard.Request request) Closed = IsLastRequest count request
+IsOver count (heard.Request request) Limit = IsLastRequest count request
 IsOver count (heard.Bad status) (Bad told) = Unit {0}
 IsOver count one WriteFault = Unit {0}
 IsOver count one NoMemory = Unit {0}
