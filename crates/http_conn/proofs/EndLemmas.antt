@@ -4,7 +4,7 @@ use Rattle.std.specs.List.{AllByRecursion}
 use Rattle.pod_base.specs.declared.request.Request.{Request}
 use Rattle.pod_base.specs.declared.heard.Heard.{Heard}
 use Rattle.pod_base.specs.declared.heard.Heard.TheVariants as heard
-use Rattle.http_head.specs.Framing.{framing}
+use Rattle.http_head.specs.BodyFraming.{framing}
 use Rattle.http_conn.specs.Messages.{IsBadMessage, bad_head, bad_body, status_of, IsPartialMessage, in_head, in_body, IsOpen, IsLastRequest, NothingAfterEnd, StaysOpen, Messages, events_of, request_events, interim_of, waits_for, closes_after}
 use Rattle.http_conn.specs.declared.events.TheConstants.{REQUEST_LIMIT}
 use Rattle.http_conn.proofs.Parses.{Parses, partly, badly, last, next, reads_of}
@@ -43,7 +43,7 @@ reads_end n text _ _ (next r len events rest first stays few behind) =
     subst (NothingAfterEnd n) (sym (append_assoc (interim_of r.minor r.fields) (heard.Request r ∷ []) events))
     (ends_behind n (waits_for r.minor r.fields (framing r.minor r.fields)) (heard.Request r ∷ events) ((λ e. absurd (not_end n r stays few e)), reads_end (n + 1) (drop len text) events rest behind))
 
--- Nothing is events behind an end.
+-- No event follows an end.
 pub ends_there : (text : List ℕ) (events : List Heard) (rest : ℕ) → Messages text events rest → NothingAfterEnd 0 events
 ends_there text events rest m = reads_end 0 text events rest (reads_of text events rest m)
 
@@ -75,7 +75,7 @@ open_requests (r ∷ requests) n events stays few h =
     let behind = open_requests requests (n + 1) events stays.1 (omega (arith, few, count)) (subst (λ i. StaysOpen i events) count h) in
     subst (StaysOpen n) (sym (append_assoc (request_events r) (events_of requests) events)) (open_one n r (events_of requests ++ events) stays.0 (omega (arith, few, count)) behind)
 
--- Where the text is unfinished, what is events in it stays open.
+-- The events of an unfinished text stay open.
 pub open_of_unfinished : (requests : List Request) (left : List ℕ) (events : List Heard) → IsOpen requests → IsPartialMessage left events → StaysOpen 0 (events_of requests ++ events)
 open_of_unfinished requests left events stays p =
     open_requests requests 0 events stays.stays (omega (arith, stays.few)) (open_partial (0 + length requests) left events p)
@@ -87,6 +87,6 @@ closed_rest n text _ _ (last r len first which) closed = refl
 closed_rest n text _ _ (next r len events rest first stays few behind) closed =
     closed_rest (n + 1) (drop len text) events rest behind (λ h. closed (open_one n r events stays few h))
 
--- Where something ends what is events, no message is unfinished.
+-- After an end no message is unfinished.
 pub ended_rest : (text : List ℕ) (events : List Heard) (rest : ℕ) → Messages text events rest → (StaysOpen 0 events → ⊥) → rest ≡ 0
 ended_rest text events rest m = closed_rest 0 text events rest (reads_of text events rest m)

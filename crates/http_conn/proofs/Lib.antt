@@ -3,7 +3,6 @@ pub mod EndLemmas
 pub mod LongerTexts
 pub mod StepLemmas
 -- internal
-pub mod HeadEnds
 pub mod Parses
 pub mod RefusalLemmas
 pub mod SingleRequestLemmas

@@ -1,11 +1,11 @@
--- What is events in a front of a text is events first in the text.
+-- The events of a prefix of a text are the first events of the text.
 use Rattle.std.proofs.Common.{◌≡◌, ℕ, ◌+◌, List, [], ◌∷◌, ◌++◌, drop, refl, sym, ap, ap₂, subst, ◌∙◌, append_assoc}
 use Rattle.std.proofs.lemmas.List.{append-nil, drop-append-le}
 use Rattle.pod_base.specs.declared.request.Request.{Request}
 use Rattle.pod_base.specs.declared.heard.Heard.{Heard}
 use Rattle.pod_base.specs.declared.heard.Heard.TheVariants as heard
-use Rattle.http_head.specs.declared.head.RequestHead.{RequestHead}
-use Rattle.http_head.specs.declared.form.BodyForm.{BodyForm}
+use Rattle.http_head.specs.declared.request_head.RequestHead.{RequestHead}
+use Rattle.http_head.specs.declared.body_form.BodyForm.{BodyForm}
 use Rattle.http_conn.specs.Messages.{HasHead, IsFirstRequest, IsBadMessage, bad_head, bad_body, status_of, IsPartialMessage, in_head, in_body, Messages, AreFirstEvents, request_events, interim_of}
 use Rattle.http_conn.proofs.StepLemmas.{head_stays, first_stays, bad_stays}
 use Rattle.http_conn.proofs.Parses.{Parses, partly, badly, last, next, head_not_bad, one_head, not_yet_no_head, first_one, partial_not_first, bad_not_first, last_not_next, reads_one, reads_of}
@@ -20,7 +20,7 @@ begins_same first all e = ([], sym e ∙ sym (append-nil first))
 begins_behind : (front first all : List Heard) → Begins first all → Begins (front ++ first) (front ++ all)
 begins_behind front first all b = (b.0, ap (λ h. front ++ h) b.1 ∙ sym (append_assoc front first b.0))
 
--- ---- behind a head
+-- ---- after a head
 
 -- the interim of the head that a text begins with
 interim_said : (text : List ℕ) (n m : ℕ) (a b : RequestHead) (f g : BodyForm) → HasHead text n a f → HasHead text m b g → interim_of b.minor b.fields ≡ interim_of a.minor a.fields
@@ -47,7 +47,7 @@ interim_request text len parsed form r n h x =
     let one : List Heard = heard.Request r ∷ [] in
     (one, ap (λ i. i ++ one) (own ∙ interim_said text len x.head parsed x.parsed form x.form h x.begins))
 
--- behind a head its interim is events first
+-- the first events after a head are its interim
 pub interim_first : (n : ℕ) (text : List ℕ) (len : ℕ) (parsed : RequestHead) (form : BodyForm) (all : List Heard) (rest : ℕ) → HasHead text len parsed form → Parses n text all rest
     → Begins (interim_of parsed.minor parsed.fields) all
 interim_first n text len parsed form _ _ h (partly events p) = interim_partial text len parsed form events h p
@@ -86,7 +86,7 @@ reads_grow n front behind text _ _ _ _ e (next r k a i x c f u) (next q m b j y 
     let others = begins_behind (request_events r) a b (reads_grow (n + 1) (drop k front) behind (drop m text) a b i j cut u v) in
     (others.0, ap (λ (p : Request). request_events p ++ b) (sym one.0) ∙ others.1)
 
--- What is events first in a text begins what is events in it.
+-- The first events of a text are a prefix of its events.
 pub events_stay_first : (text : List ℕ) (events all : List Heard) (rest : ℕ) → AreFirstEvents text events → Messages text all rest → (more : List Heard) × (all ≡ events ++ more)
 events_stay_first text events all rest x m =
     let grown = reads_grow 0 x.front x.behind text x.all all x.rest rest x.cut (reads_of x.front x.all x.rest x.messages) (reads_of text all rest m) in

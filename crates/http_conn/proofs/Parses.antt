@@ -1,4 +1,4 @@
--- A text has one reading.
+-- A text has one parse.
 use Rattle.std.proofs.Common.{◌≡◌, inl, inr, true, false, ℕ, ◌+◌, ◌<◌, ◌≤◌, List, [], ◌∷◌, ◌++◌, length, take, drop, Result, Ok, Err, refl, sym, ap, ap₂, subst, ◌∙◌, arith, append_assoc, length-drop}
 use Rattle.std.proofs.lemmas.List.{append-nil, take-append-drop, length-take-le}
 use Rattle.std.specs.List.{AllByRecursion}
@@ -6,19 +6,19 @@ use Rattle.std.proofs.lemmas.Grind.{flat_map-append}
 use Rattle.pod_base.specs.declared.request.Request.{Request}
 use Rattle.pod_base.specs.declared.heard.Heard.{Heard}
 use Rattle.pod_base.specs.declared.heard.Heard.TheVariants as heard
-use Rattle.http_head.specs.declared.ends.HeadEnd.{HeadEnd}
-use Rattle.http_head.specs.declared.ends.HeadEnd.TheVariants.{Whole, NotYet, TooLong}
-use Rattle.http_head.specs.declared.head.RequestHead.{RequestHead}
-use Rattle.http_head.specs.declared.form.BodyForm.{BodyForm}
-use Rattle.http_head.specs.declared.framed.FramingFault.{FramingFault}
-use Rattle.http_head.specs.declared.framed.FramingFault.TheVariants as framing_fault
-use Rattle.http_head.specs.Ends.{head_end}
-use Rattle.http_head.specs.Heads.{IsTooMany, IsMalformed, LacksHost, Says}
-use Rattle.http_head.specs.Framing.{framing}
-use Rattle.http_head.proofs.HeadsLemmas.{same_said, lacks_says}
+use Rattle.http_head.specs.declared.head_ends.HeadEnd.{HeadEnd}
+use Rattle.http_head.specs.declared.head_ends.HeadEnd.TheVariants.{Whole, NotYet, TooLong}
+use Rattle.http_head.specs.declared.request_head.RequestHead.{RequestHead}
+use Rattle.http_head.specs.declared.body_form.BodyForm.{BodyForm}
+use Rattle.http_head.specs.declared.body_framing.FramingFault.{FramingFault}
+use Rattle.http_head.specs.declared.body_framing.FramingFault.TheVariants as framing_fault
+use Rattle.http_head.specs.HeadEnds.{head_end}
+use Rattle.http_head.specs.Heads.{HasTooManyLines, IsMalformedHead, LacksHost, ParsesTo}
+use Rattle.http_head.specs.BodyFraming.{framing}
+use Rattle.http_head.proofs.HeadLaws.{one_parsed_head, lacks_no_head}
 use Rattle.http_payload.specs.Chunks as chunks
 use Rattle.http_payload.specs.Bodies.{IsBody, IsFault, IsPartial as IsPartialBody}
-use Rattle.http_payload.proofs.LawLemmas.{one_reading, one_fault, no_fault_at_body, no_fault_at_partial, no_body_at_partial}
+use Rattle.http_payload.proofs.LawLemmas.{one_outcome, one_fault, no_fault_at_body, no_fault_at_partial, no_body_at_partial}
 use Rattle.http_conn.specs.Messages.{HasHead, IsFirstRequest, Requests, IsBadHead, too_long, too_many, malformed, host, conflict, coding, too_large, IsBadMessage, bad_head, bad_body, status_of, IsPartialMessage, in_head, in_body, Messages, unfinished, refused, ended, events_of, request_events, interim_of, with_body, rest_length, closes_after, IsLastRequest}
 use Rattle.http_conn.specs.declared.events.TheConstants.{REQUEST_LIMIT}
 
@@ -32,23 +32,23 @@ pub same_length : (text : List ℕ) (n m : ℕ) → head_end text ≡ Whole n �
 unfolding length_of
 same_length text n m x y = ap length_of (sym x ∙ y)
 
--- why a whole head is bad, and the status
+-- the fault of a complete head, and the status
 data Finding (head : List ℕ) : ℕ → Type 0 where
-  many : IsTooMany head → Finding head 431
-  bad : IsMalformed head → Finding head 400
+  many : HasTooManyLines head → Finding head 431
+  bad : IsMalformedHead head → Finding head 400
   lacks : LacksHost head → Finding head 400
-  conflicts : (parsed : RequestHead) → Says head parsed → framing parsed.minor parsed.fields ≡ Err framing_fault.Conflict → Finding head 400
-  codes : (parsed : RequestHead) → Says head parsed → framing parsed.minor parsed.fields ≡ Err framing_fault.Coding → Finding head 501
-  large : (parsed : RequestHead) → Says head parsed → framing parsed.minor parsed.fields ≡ Err framing_fault.TooLarge → Finding head 413
+  conflicts : (parsed : RequestHead) → ParsesTo head parsed → framing parsed.minor parsed.fields ≡ Err framing_fault.Conflict → Finding head 400
+  codes : (parsed : RequestHead) → ParsesTo head parsed → framing parsed.minor parsed.fields ≡ Err framing_fault.Coding → Finding head 501
+  large : (parsed : RequestHead) → ParsesTo head parsed → framing parsed.minor parsed.fields ≡ Err framing_fault.TooLarge → Finding head 413
 
-many_says : (head : List ℕ) (parsed : RequestHead) → IsTooMany head → Says head parsed → ⊥
+many_says : (head : List ℕ) (parsed : RequestHead) → HasTooManyLines head → ParsesTo head parsed → ⊥
 many_says head parsed h s = omega (arith, h, s.lines)
 
-bad_says : (head : List ℕ) (parsed : RequestHead) → IsMalformed head → Says head parsed → ⊥
+bad_says : (head : List ℕ) (parsed : RequestHead) → IsMalformedHead head → ParsesTo head parsed → ⊥
 bad_says head parsed h s = h.never s.parts s.whole
 
-pub framed_once : (head : List ℕ) (a b : RequestHead) (r s : Result BodyForm FramingFault) → Says head a → Says head b → framing a.minor a.fields ≡ r → framing b.minor b.fields ≡ s → r ≡ s
-framed_once head a b r s x y f g = sym f ∙ ap (λ (h : RequestHead). framing h.minor h.fields) (same_said head a b x y) ∙ g
+pub framed_once : (head : List ℕ) (a b : RequestHead) (r s : Result BodyForm FramingFault) → ParsesTo head a → ParsesTo head b → framing a.minor a.fields ≡ r → framing b.minor b.fields ≡ s → r ≡ s
+framed_once head a b r s x y f g = sym f ∙ ap (λ (h : RequestHead). framing h.minor h.fields) (one_parsed_head head a b x y) ∙ g
 
 one_finding : (head : List ℕ) (s t : ℕ) → Finding head s → Finding head t → s ≡ t
 one_finding head _ _ (many h) (many k) = refl
@@ -67,8 +67,8 @@ one_finding head _ _ (lacks h) (many k) = absurd (omega (arith, k, h.lines))
 one_finding head _ _ (lacks h) (bad k) = refl
 one_finding head _ _ (lacks h) (lacks k) = refl
 one_finding head _ _ (lacks h) (conflicts b y g) = refl
-one_finding head _ _ (lacks h) (codes b y g) = absurd (lacks_says head b h y)
-one_finding head _ _ (lacks h) (large b y g) = absurd (lacks_says head b h y)
+one_finding head _ _ (lacks h) (codes b y g) = absurd (lacks_no_head head b h y)
+one_finding head _ _ (lacks h) (large b y g) = absurd (lacks_no_head head b h y)
 one_finding head _ _ (conflicts a x f) (many k) = absurd (many_says head a k x)
 one_finding head _ _ (conflicts a x f) (bad k) = refl
 one_finding head _ _ (conflicts a x f) (lacks k) = refl
@@ -77,18 +77,18 @@ one_finding head _ _ (conflicts a x f) (codes b y g) = let e = framed_once head 
 one_finding head _ _ (conflicts a x f) (large b y g) = let e = framed_once head a b (Err framing_fault.Conflict) (Err framing_fault.TooLarge) x y f g in cc
 one_finding head _ _ (codes a x f) (many k) = absurd (many_says head a k x)
 one_finding head _ _ (codes a x f) (bad k) = absurd (bad_says head a k x)
-one_finding head _ _ (codes a x f) (lacks k) = absurd (lacks_says head a k x)
+one_finding head _ _ (codes a x f) (lacks k) = absurd (lacks_no_head head a k x)
 one_finding head _ _ (codes a x f) (conflicts b y g) = let e = framed_once head a b (Err framing_fault.Coding) (Err framing_fault.Conflict) x y f g in cc
 one_finding head _ _ (codes a x f) (codes b y g) = refl
 one_finding head _ _ (codes a x f) (large b y g) = let e = framed_once head a b (Err framing_fault.Coding) (Err framing_fault.TooLarge) x y f g in cc
 one_finding head _ _ (large a x f) (many k) = absurd (many_says head a k x)
 one_finding head _ _ (large a x f) (bad k) = absurd (bad_says head a k x)
-one_finding head _ _ (large a x f) (lacks k) = absurd (lacks_says head a k x)
+one_finding head _ _ (large a x f) (lacks k) = absurd (lacks_no_head head a k x)
 one_finding head _ _ (large a x f) (conflicts b y g) = let e = framed_once head a b (Err framing_fault.TooLarge) (Err framing_fault.Conflict) x y f g in cc
 one_finding head _ _ (large a x f) (codes b y g) = let e = framed_once head a b (Err framing_fault.TooLarge) (Err framing_fault.Coding) x y f g in cc
 one_finding head _ _ (large a x f) (large b y g) = refl
 
--- a bad head is too long, or whole with a finding
+-- a bad head is too long, or complete with a fault
 data BadHead (text : List ℕ) : ℕ → Type 0 where
   long : head_end text ≡ TooLong → BadHead text 431
   whole : (len status : ℕ) → head_end text ≡ Whole len → Finding (take len text) status → BadHead text status
@@ -109,15 +109,15 @@ one_bad text _ _ (whole n s e h) (long f) = cc
 one_bad text _ _ (whole n s e h) (whole m t f k) = one_finding (take n text) s t h (subst (λ i. Finding (take i text) t) (sym (same_length text n m e f)) k)
 
 -- a finding on a head that is framed
-framed_not_found : (head : List ℕ) (parsed : RequestHead) (form : BodyForm) (s : ℕ) → Says head parsed → framing parsed.minor parsed.fields ≡ Ok form → Finding head s → ⊥
+framed_not_found : (head : List ℕ) (parsed : RequestHead) (form : BodyForm) (s : ℕ) → ParsesTo head parsed → framing parsed.minor parsed.fields ≡ Ok form → Finding head s → ⊥
 framed_not_found head parsed form _ x f (many h) = many_says head parsed h x
 framed_not_found head parsed form _ x f (bad h) = bad_says head parsed h x
-framed_not_found head parsed form _ x f (lacks h) = lacks_says head parsed h x
+framed_not_found head parsed form _ x f (lacks h) = lacks_no_head head parsed h x
 framed_not_found head parsed form _ x f (conflicts b y g) = let e = framed_once head parsed b (Ok form) (Err framing_fault.Conflict) x y f g in cc
 framed_not_found head parsed form _ x f (codes b y g) = let e = framed_once head parsed b (Ok form) (Err framing_fault.Coding) x y f g in cc
 framed_not_found head parsed form _ x f (large b y g) = let e = framed_once head parsed b (Ok form) (Err framing_fault.TooLarge) x y f g in cc
 
--- a head that is parse_events is not bad
+-- a head without a fault is not bad
 read_not_bad : (text : List ℕ) (len : ℕ) (parsed : RequestHead) (form : BodyForm) (status : ℕ) → HasHead text len parsed form → BadHead text status → ⊥
 read_not_bad text len parsed form _ h (long e) = let never : Whole len ≡ TooLong = sym h.ends ∙ e in cc
 read_not_bad text len parsed form _ h (whole m s e k) =
@@ -139,9 +139,9 @@ pub record OneHead (n m : ℕ) (a b : RequestHead) (f g : BodyForm) : Type 0 whe
 pub one_head : (text : List ℕ) (n m : ℕ) (a b : RequestHead) (f g : BodyForm) → HasHead text n a f → HasHead text m b g → OneHead n m a b f g
 one_head text n m a b f g x y =
     let len = same_length text n m x.ends y.ends in
-    let says : Says (take n text) b = subst (λ i. Says (take i text) b) (sym len) y.says in
+    let says : ParsesTo (take n text) b = subst (λ i. ParsesTo (take i text) b) (sym len) y.says in
     let form : Ok f ≡ Ok g = framed_once (take n text) a b (Ok f) (Ok g) x.says says x.framed y.framed in
-    record { len = len; parsed = same_said (take n text) a b x.says says; form = cc }
+    record { len = len; parsed = one_parsed_head (take n text) a b x.says says; form = cc }
 
 pub not_yet_no_head : (text : List ℕ) (n : ℕ) (a : RequestHead) (f : BodyForm) → head_end text ≡ NotYet → HasHead text n a f → ⊥
 not_yet_no_head text n a f e x = let never : NotYet ≡ Whole n = sym e ∙ x.ends in cc
@@ -159,7 +159,7 @@ one_body : (form : BodyForm) (text : List ℕ) (n m : ℕ) (a b : List ℕ) → 
 unfolding body_of
 one_body form text n m a b n_there m_there x y =
     let both : take n text ++ drop n text ≡ take m text ++ drop m text = take-append-drop n text ∙ sym (take-append-drop m text) in
-    let one = one_reading form (take n text) (take m text) (drop n text) (drop m text) (chunks.Whole a) (chunks.Whole b) x y both in
+    let one = one_outcome form (take n text) (take m text) (drop n text) (drop m text) (chunks.Whole a) (chunks.Whole b) x y both in
     record {
       size = sym (length-take-le n text n_there) ∙ ap length one.0 ∙ length-take-le m text m_there;
       same = ap body_of one.2;
@@ -176,7 +176,7 @@ first_one text r q n m x y =
     let body = one_body x.form behind x.size y.size x.body y.body x_there y_there x.is_body y_body in
     (x.is ∙ ap₂ with_body head.parsed body.same ∙ sym y.is, omega (arith, x.ends, y.ends, head.len, body.size))
 
--- the first of these stands, and the text isn't is_partial
+-- a text that begins with a request is not partial
 pub partial_not_first : (text : List ℕ) (events : List Heard) (r : Request) (n : ℕ) → IsPartialMessage text events → IsFirstRequest text r n → ⊥
 partial_not_first text _ r n (in_head e) x = not_yet_no_head text x.head x.parsed x.form e x.begins
 partial_not_first text _ r n (in_body len parsed form h p) x =
@@ -221,7 +221,7 @@ bad_one text _ _ _ _ (bad_body len parsed form fault h f) (bad_body m other g se
     let same : IsFault form (drop len text) second = subst (λ x. IsFault x (drop len text) second) (sym head.form) (subst (λ i. IsFault g (drop i text) second) (sym head.len) e) in
     (ap (λ (s : RequestHead). interim_of s.minor s.fields) head.parsed, ap status_of (one_fault form (drop len text) fault second f same))
 
--- A reading of a text behind n requests, one request after the other.
+-- A parse of a text after n requests, one request after the other.
 pub data Parses : ℕ → List ℕ → List Heard → ℕ → Type 0 where
   partly : {n : ℕ} {text : List ℕ} (events : List Heard) → IsPartialMessage text events → Parses n text events (rest_length text)
   badly : {n : ℕ} {text : List ℕ} (events : List Heard) (status : ℕ) → IsBadMessage text events status → Parses n text (events ++ heard.Bad status ∷ []) 0
@@ -258,7 +258,7 @@ reads_one n text _ _ _ _ (next r k a i x d e u) (next q m b l y c f z) =
     let rest = reads_one (n + 1) (drop k text) a b i l u (subst (λ j. Parses (n + 1) (drop j text) b l) (sym first.1) z) in
     (ap₂ (λ (p : Request) (h : List Heard). request_events p ++ h) first.0 rest.0, rest.1)
 
--- requests, and then a reading of what is left
+-- requests, and then a parse of what is left
 reads_behind : (requests : List Request) (n : ℕ) (text left : List ℕ) (events : List Heard) (rest : ℕ) → Requests text requests left → AllByRecursion (λ r. closes_after r ≡ false) requests
     → n + length requests < REQUEST_LIMIT → Parses (n + length requests) left events rest → Parses n text (events_of requests ++ events) rest
 reads_behind [] n text left events rest h stays few reads = subst (λ t. Parses n t events rest) (sym h) (subst (λ i. Parses i left events rest) (omega arith) reads)
@@ -279,7 +279,7 @@ split (q ∷ requests) text rest r h =
     let others = split requests (drop h.0 text) rest r h.2 in
     record { left = others.left; len = others.len; reads = (h.0, h.1, others.reads); first = others.first }
 
--- what Messages says is such a reading
+-- each parse of Messages is such a parse
 pub reads_of : (text : List ℕ) (events : List Heard) (rest : ℕ) → Messages text events rest → Parses 0 text events rest
 reads_of text _ _ (unfinished requests left events reads stays p) =
     reads_behind requests 0 text left events (rest_length left) reads stays.stays (omega (arith, stays.few)) (partly events p)
@@ -292,6 +292,6 @@ reads_of text _ _ (ended requests r left reads stays which) =
     subst (λ h. Parses 0 text h 0) all
     (reads_behind requests 0 text parts.left (request_events r) 0 parts.reads stays.stays (omega (arith, stays.few)) (last r parts.len parts.first (subst (λ i. IsLastRequest i r) count which)))
 
--- A text has one reading.
+-- A text has one parse.
 pub messages_one : (text : List ℕ) (one other : List Heard) (rest left : ℕ) → Messages text one rest → Messages text other left → (one ≡ other) × (rest ≡ left)
 messages_one text one other rest left x y = reads_one 0 text one other rest left (reads_of text one rest x) (reads_of text other left y)

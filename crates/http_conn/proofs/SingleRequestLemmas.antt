@@ -5,17 +5,18 @@ use Rattle.std.proofs.lemmas.List.{take_all, drop_all, drop-drop, take-append-dr
 use Rattle.pod_base.specs.declared.request.Request.{Request}
 use Rattle.pod_base.specs.declared.heard.Heard.{Heard}
 use Rattle.pod_base.specs.declared.heard.Heard.TheVariants as heard
-use Rattle.http_head.specs.declared.ends.HeadEnd.{HeadEnd}
-use Rattle.http_head.specs.declared.ends.HeadEnd.TheVariants.{Whole, NotYet, TooLong}
-use Rattle.http_head.specs.declared.head.RequestHead.{RequestHead}
-use Rattle.http_head.specs.declared.form.BodyForm.{BodyForm}
-use Rattle.http_head.specs.Ends.{blank_length, head_length, length_in, end_of, head_end}
-use Rattle.http_head.specs.Wishes.{closes, expects_continue}
+use Rattle.http_head.specs.declared.head_ends.HeadEnd.{HeadEnd}
+use Rattle.http_head.specs.declared.head_ends.HeadEnd.TheVariants.{Whole, NotYet, TooLong}
+use Rattle.http_head.specs.declared.request_head.RequestHead.{RequestHead}
+use Rattle.http_head.specs.declared.body_form.BodyForm.{BodyForm}
+use Rattle.http_head.specs.HeadEnds.{blank_length, head_length, length_in, end_of, head_end}
+use Rattle.http_head.specs.Persistence.{closes}
+use Rattle.http_head.specs.Expectation.{expects_continue}
 use Rattle.http_payload.specs.Bodies.{IsBody}
 use Rattle.http_conn.specs.Messages.{HasHead, IsFirstRequest, Requests, IsBadMessage, bad_head, too_long, IsPartialMessage, in_head, IsOpen, Messages, unfinished, refused, ended, events_of, request_events, interim_of, with_body, rest_length, closes_after}
 use Rattle.http_conn.specs.SingleRequest.{AreEmptyLines, IsOneRequest}
 use Rattle.std.specs.Option.{option_map}
-use Rattle.http_conn.proofs.HeadEnds.{in_stays, whole_there}
+use Rattle.http_head.proofs.HeadEndLaws.{in_stays, whole_within}
 use Rattle.http_conn.proofs.Parses.{one_head, first_one, messages_one, reads_of}
 use Rattle.http_conn.proofs.LongerTexts.{interim_first}
 use Rattle.http_conn.proofs.StepLemmas.{waits_as}
@@ -100,7 +101,7 @@ module _ (text : List ℕ) (len : ℕ) (parsed : RequestHead) (form : BodyForm) 
     size = size;
     body = body;
     is_body = is_body;
-    there = omega (arith, there, whole_there text len h.ends, length-drop len text);
+    there = omega (arith, there, whole_within text len h.ends, length-drop len text);
     ends = refl;
     is = refl;
   }

@@ -1,4 +1,4 @@
--- No text lacks a reading.
+-- No text lacks a parse.
 use Rattle.std.proofs.Common.{◌≡◌, ◌⊎◌, inl, inr, true, false, Bool, ℕ, zero, suc, ◌+◌, ◌<◌, ◌≤◌, List, [], ◌∷◌, ◌++◌, length, take, drop, Result, Ok, Err, refl, sym, ap, subst, ◌∙◌, arith, length-drop, length-append}
 use Rattle.std.specs.List.{AllByRecursion}
 use Rattle.std.proofs.lemmas.Bool.{cases_lt}
@@ -6,27 +6,27 @@ use Rattle.std.proofs.Math.Seq.{take-append_seam}
 use Rattle.pod_base.specs.declared.request.Request.{Request}
 use Rattle.pod_base.specs.declared.heard.Heard.{Heard}
 use Rattle.pod_base.specs.declared.heard.Heard.TheVariants as heard
-use Rattle.http_head.specs.declared.ends.HeadEnd.{HeadEnd}
-use Rattle.http_head.specs.declared.ends.HeadEnd.TheVariants.{Whole, NotYet, TooLong}
-use Rattle.http_head.specs.declared.head.RequestHead.{RequestHead}
-use Rattle.http_head.specs.declared.form.BodyForm.{BodyForm}
-use Rattle.http_head.specs.declared.framed.FramingFault.{FramingFault}
-use Rattle.http_head.specs.declared.framed.FramingFault.TheVariants as framing_fault
-use Rattle.http_head.specs.Ends.{head_end}
-use Rattle.http_head.specs.Heads.{Says}
-use Rattle.http_head.proofs.HeadsLemmas.{some_finding}
-use Rattle.http_head.specs.Framing.{framing}
-use Rattle.http_payload.specs.declared.fault.PayloadFault.TheVariants as payload_fault
+use Rattle.http_head.specs.declared.head_ends.HeadEnd.{HeadEnd}
+use Rattle.http_head.specs.declared.head_ends.HeadEnd.TheVariants.{Whole, NotYet, TooLong}
+use Rattle.http_head.specs.declared.request_head.RequestHead.{RequestHead}
+use Rattle.http_head.specs.declared.body_form.BodyForm.{BodyForm}
+use Rattle.http_head.specs.declared.body_framing.FramingFault.{FramingFault}
+use Rattle.http_head.specs.declared.body_framing.FramingFault.TheVariants as framing_fault
+use Rattle.http_head.specs.HeadEnds.{head_end}
+use Rattle.http_head.specs.Heads.{ParsesTo}
+use Rattle.http_head.proofs.HeadLaws.{some_finding}
+use Rattle.http_head.specs.BodyFraming.{framing}
+use Rattle.http_payload.specs.declared.payload_fault.PayloadFault.TheVariants as payload_fault
 use Rattle.http_payload.specs.Chunks as chunks
 use Rattle.http_payload.specs.Bodies.{Ends, IsBody}
-use Rattle.http_payload.proofs.Fronts.{fronts}
+use Rattle.http_payload.proofs.Prefixes.{prefixes}
 use Rattle.http_payload.proofs.LawLemmas.{partial_before}
 use Rattle.http_conn.specs.Messages.{HasHead, IsFirstRequest, Requests, IsBadHead, too_long, too_many, malformed, host, conflict, coding, too_large, IsBadMessage, bad_head, bad_body, status_of, IsPartialMessage, in_head, in_body, IsOpen, Messages, unfinished, refused, ended, events_of, interim_of, with_body, rest_length, closes_after}
 use Rattle.http_conn.specs.declared.events.TheConstants.{REQUEST_LIMIT}
-use Rattle.http_conn.proofs.HeadEnds.{whole_there}
+use Rattle.http_head.proofs.HeadEndLaws.{whole_within}
 use Rattle.http_conn.proofs.StepLemmas.{requests_snoc}
 
--- A text that is neither bad nor is_partial, and begins with no request, isn't there.
+-- No text is neither malformed nor partial and begins with no request.
 module _ (text : List ℕ) (not_bad : (events : List Heard) (status : ℕ) → IsBadMessage text events status → ⊥) (not_partial : (events : List Heard) → IsPartialMessage text events → ⊥)
     (not_first : (r : Request) (len : ℕ) → IsFirstRequest text r len → ⊥) where
 
@@ -41,7 +41,7 @@ module _ (text : List ℕ) (not_bad : (events : List Heard) (status : ℕ) → I
           size = length front;
           body = body;
           is_body = subst (λ t. IsBody form t body) (sym (ap (take (length front)) cut ∙ take-append_seam front m)) e;
-          there = omega (arith, whole_there text len h.ends, length-drop len text, ap length cut, length-append front m);
+          there = omega (arith, whole_within text len h.ends, length-drop len text, ap length cut, length-append front m);
           ends = refl;
           is = refl;
         })
@@ -55,10 +55,10 @@ module _ (text : List ℕ) (not_bad : (events : List Heard) (status : ℕ) → I
     end_at : (more front behind : List ℕ) (ending : chunks.Ending) → drop len text ++ more ≡ front ++ behind → Ends form front ending
         → (length (drop len text) < length front) ⊎ (length front ≤ length (drop len text)) → ⊥
     end_at more front behind ending same e (inl longer) =
-        let f = fronts (drop len text) front more behind same (omega (arith, longer)) in
+        let f = prefixes (drop len text) front more behind same (omega (arith, longer)) in
         end_behind f.0 ending (omega (arith, longer, ap length f.1, length-append (drop len text) f.0)) (subst (λ t. Ends form t ending) f.1 e)
     end_at more front behind ending same e (inr shorter) =
-        let f = fronts front (drop len text) behind more (sym same) shorter in
+        let f = prefixes front (drop len text) behind more (sym same) shorter in
         end_in front f.0 ending f.1 e
 
     no_body : ⊥
@@ -70,7 +70,7 @@ module _ (text : List ℕ) (not_bad : (events : List Heard) (status : ℕ) → I
     bad : (status : ℕ) → IsBadHead text status → ⊥
     bad status b = not_bad [] status (bad_head status b)
 
-    framed : (parsed : RequestHead) → Says (take len text) parsed → (f : Result BodyForm FramingFault) → framing parsed.minor parsed.fields ≡ f → ⊥
+    framed : (parsed : RequestHead) → ParsesTo (take len text) parsed → (f : Result BodyForm FramingFault) → framing parsed.minor parsed.fields ≡ f → ⊥
     framed parsed s (Ok form) is = no_body len parsed form (record { ends = e; says = s; framed = is })
     framed parsed s (Err framing_fault.Conflict) is = bad 400 (conflict len parsed e s is)
     framed parsed s (Err framing_fault.TooLarge) is = bad 413 (too_large len parsed e s is)
@@ -98,7 +98,7 @@ more_open requests last h stays few = record {
     all_snoc [] a = (stays, tt)
     all_snoc (r ∷ rs) a = (a.0, all_snoc rs a.1)
 
--- behind one request more
+-- after one request more
 behind_one : (fuel : ℕ) (text left : List ℕ) (requests : List Request) → Requests text requests left → IsOpen requests → REQUEST_LIMIT ≤ length requests + suc fuel
     → ((events : List Heard) (rest : ℕ) → Messages text events rest → ⊥)
     → ((left : List ℕ) (requests : List Request) → Requests text requests left → IsOpen requests → REQUEST_LIMIT ≤ length requests + fuel → ⊥)

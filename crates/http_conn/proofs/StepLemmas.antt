@@ -1,4 +1,4 @@
--- What was events in a text is events in a longer one, and a parse_step more.
+-- The messages of a longer text, and the steps of the parser.
 use Rattle.std.proofs.Common.{◌≡◌, inl, inr, ℕ, ◌∙◌, ◌+◌, ◌-◌, ◌<◌, ◌≤◌, ◌||◌, true, false, if◌then◌else◌, nat_le, List, [], ◌∷◌, ◌++◌, length, take, drop, Result, Ok, Err, OnOk, IfOk, refl, sym, ap, subst, arith, append_assoc, length-append, length-drop}
 use Rattle.std.specs.List.{AllByRecursion}
 use Rattle.std.proofs.lemmas.Grind.{flat_map-append}
@@ -9,16 +9,17 @@ use Rattle.std.proofs.Math.Seq.{drop-length, take-length, take-append-add}
 use Rattle.pod_base.specs.declared.request.Request.{Request}
 use Rattle.pod_base.specs.declared.heard.Heard.{Heard}
 use Rattle.pod_base.specs.declared.heard.Heard.TheVariants as heard
-use Rattle.http_head.specs.declared.ends.HeadEnd.TheVariants.{Whole, NotYet, TooLong}
-use Rattle.http_head.specs.declared.head.RequestHead.{RequestHead}
-use Rattle.http_head.specs.declared.form.BodyForm.{BodyForm}
-use Rattle.http_head.specs.declared.framed.FramingFault.TheVariants as framing_fault
-use Rattle.http_head.specs.Ends.{head_end}
-use Rattle.http_head.specs.Heads.{IsTooMany, IsMalformed, LacksHost, Says}
-use Rattle.http_head.specs.Framing.{framing}
-use Rattle.http_head.specs.Wishes.{closes, expects_continue}
-use Rattle.http_head.specs.Search.{HasSeen}
-use Rattle.http_payload.specs.declared.fault.PayloadFault.{PayloadFault}
+use Rattle.http_head.specs.declared.head_ends.HeadEnd.TheVariants.{Whole, NotYet, TooLong}
+use Rattle.http_head.specs.declared.request_head.RequestHead.{RequestHead}
+use Rattle.http_head.specs.declared.body_form.BodyForm.{BodyForm}
+use Rattle.http_head.specs.declared.body_framing.FramingFault.TheVariants as framing_fault
+use Rattle.http_head.specs.HeadEnds.{head_end}
+use Rattle.http_head.specs.Heads.{HasTooManyLines, IsMalformedHead, LacksHost, ParsesTo}
+use Rattle.http_head.specs.BodyFraming.{framing}
+use Rattle.http_head.specs.Persistence.{closes}
+use Rattle.http_head.specs.Expectation.{expects_continue}
+use Rattle.http_head.specs.HeadScan.{HasScanned}
+use Rattle.http_payload.specs.declared.payload_fault.PayloadFault.{PayloadFault}
 use Rattle.http_payload.specs.Bodies.{IsBody, IsFault, IsPartial as IsPartialBody}
 use Rattle.http_payload.proofs.LawLemmas.{fault_stays}
 use Rattle.http_conn.specs.Messages.{HasHead, IsFirstRequest, Requests, IsBadHead, too_long, too_many, malformed, host, conflict, coding, too_large, IsBadMessage, bad_head, bad_body, status_of, in_head, in_body, IsLastRequest, IsOpen, Messages, unfinished, refused, ended, events_of, request_events, interim_of, waits_for, with_body, rest_length, closes_after}
@@ -27,19 +28,19 @@ use Rattle.http_conn.specs.declared.parser_state.ParserState.{ParserState}
 use Rattle.http_conn.specs.declared.parser_state.ParserState.TheVariants.{Head, Body, Closed, Failed}
 use Rattle.http_conn.specs.declared.parser_state.PartialHead.{PartialHead}
 use Rattle.http_conn.specs.declared.parser_state.PartialBody.{PartialBody}
-use Rattle.http_payload.specs.Held as payload
+use Rattle.http_payload.specs.PayloadState as payload
 use Rattle.http_conn.specs.ParserStates.{InBody, HasEnded, Represents, rest_of}
-use Rattle.http_conn.specs.ParserSteps.{ParsesTo, ParsesAfter, ParsesAfterHead, StartsBody, EndsRequest}
-use Rattle.http_conn.proofs.HeadEnds.{whole_stays, whole_there, long_stays, blank_stays, blank_fits}
+use Rattle.http_conn.specs.ParserSteps.{StepsTo, StepsAfter, StepsAfterHead, StartsBody, EndsRequest}
+use Rattle.http_head.proofs.HeadEndLaws.{whole_stays, whole_within, long_stays, blank_stays, blank_fits}
 
 -- ---- longer texts
 
 pub head_stays : (text more : List ℕ) (len : ℕ) (parsed : RequestHead) (form : BodyForm) → HasHead text len parsed form → HasHead (text ++ more) len parsed form
 head_stays text more len parsed form h =
-    let there = whole_there text len h.ends in
+    let there = whole_within text len h.ends in
     record {
       ends = whole_stays text more len h.ends;
-      says = subst (λ front. Says front parsed) (sym (take-append-le len text more there)) h.says;
+      says = subst (λ front. ParsesTo front parsed) (sym (take-append-le len text more there)) h.says;
       framed = h.framed;
     }
 
@@ -76,40 +77,40 @@ requests_snoc (request ∷ requests) text left rest last len h first is = (h.0, 
 
 bad_head_stays : (text more : List ℕ) (status : ℕ) → IsBadHead text status → IsBadHead (text ++ more) status
 bad_head_stays text more _ (too_long e) = too_long (long_stays text more e)
-bad_head_stays text more _ (too_many len e h) = too_many len (whole_stays text more len e) (subst IsTooMany (sym (take-append-le len text more (whole_there text len e))) h)
-bad_head_stays text more _ (malformed len e h) = malformed len (whole_stays text more len e) (subst IsMalformed (sym (take-append-le len text more (whole_there text len e))) h)
-bad_head_stays text more _ (host len e h) = host len (whole_stays text more len e) (subst LacksHost (sym (take-append-le len text more (whole_there text len e))) h)
+bad_head_stays text more _ (too_many len e h) = too_many len (whole_stays text more len e) (subst HasTooManyLines (sym (take-append-le len text more (whole_within text len e))) h)
+bad_head_stays text more _ (malformed len e h) = malformed len (whole_stays text more len e) (subst IsMalformedHead (sym (take-append-le len text more (whole_within text len e))) h)
+bad_head_stays text more _ (host len e h) = host len (whole_stays text more len e) (subst LacksHost (sym (take-append-le len text more (whole_within text len e))) h)
 bad_head_stays text more _ (conflict len parsed e h f) =
-    conflict len parsed (whole_stays text more len e) (subst (λ front. Says front parsed) (sym (take-append-le len text more (whole_there text len e))) h) f
+    conflict len parsed (whole_stays text more len e) (subst (λ front. ParsesTo front parsed) (sym (take-append-le len text more (whole_within text len e))) h) f
 bad_head_stays text more _ (coding len parsed e h f) =
-    coding len parsed (whole_stays text more len e) (subst (λ front. Says front parsed) (sym (take-append-le len text more (whole_there text len e))) h) f
+    coding len parsed (whole_stays text more len e) (subst (λ front. ParsesTo front parsed) (sym (take-append-le len text more (whole_within text len e))) h) f
 bad_head_stays text more _ (too_large len parsed e h f) =
-    too_large len parsed (whole_stays text more len e) (subst (λ front. Says front parsed) (sym (take-append-le len text more (whole_there text len e))) h) f
+    too_large len parsed (whole_stays text more len e) (subst (λ front. ParsesTo front parsed) (sym (take-append-le len text more (whole_within text len e))) h) f
 
 pub bad_stays : (text more : List ℕ) (events : List Heard) (status : ℕ) → IsBadMessage text events status → IsBadMessage (text ++ more) events status
 bad_stays text more _ _ (bad_head status h) = bad_head status (bad_head_stays text more status h)
 bad_stays text more _ _ (bad_body len parsed form fault h f) =
-    let cut : drop len (text ++ more) ≡ drop len text ++ more = drop-append-le len text more (whole_there text len h.ends) in
+    let cut : drop len (text ++ more) ≡ drop len text ++ more = drop-append-le len text more (whole_within text len h.ends) in
     bad_body len parsed form fault (head_stays text more len parsed form h) (subst (λ t. IsFault form t fault) (sym cut) (fault_stays form (drop len text) more fault f))
 
 -- ---- the ends
 
--- a refusal ends what is events
+-- no event follows a refusal
 pub refused_ends : (text left : List ℕ) (requests : List Request) (events : List Heard) (status : ℕ) → Requests text requests left → IsOpen requests → IsBadMessage left events status
     → HasEnded text (events_of requests ++ (events ++ heard.Bad status ∷ []))
 refused_ends text left requests events status reads stays bad more =
     refused requests (left ++ more) events status (requests_stay requests text left more reads) stays (bad_stays left more events status bad)
 
--- the last request ends what is events
+-- no event follows the last request
 pub last_ends : (text left : List ℕ) (requests : List Request) (last : Request) → Requests text (requests ++ last ∷ []) left → IsOpen requests → IsLastRequest (length requests) last
     → HasEnded text (events_of (requests ++ last ∷ []))
 last_ends text left requests last reads stays is_last_request more =
     ended requests last (left ++ more) (requests_stay (requests ++ last ∷ []) text left more reads) stays is_last_request
 
--- what a connection stands for is what Messages says
+-- a state that represents a text has its messages
 pub represents_messages : (stage : ParserState) (text : List ℕ) (events : List Heard) → Represents stage text events → Messages text events (rest_of stage)
 represents_messages (Head partial) text events s =
-    subst (λ h. Messages text h (rest_length partial.bytes.items)) (append-nil (events_of s.requests) ∙ sym s.is) (unfinished s.requests partial.bytes.items [] s.reads s.stays (in_head s.not_yet))
+    subst (λ h. Messages text h (rest_length partial.bytes)) (append-nil (events_of s.requests) ∙ sym s.is) (unfinished s.requests partial.bytes [] s.reads s.stays (in_head s.not_yet))
 represents_messages (Body partial) text events s =
     let parsed = partial.head in
     let interim : List Heard = interim_of parsed.minor parsed.fields in
@@ -118,9 +119,9 @@ represents_messages (Body partial) text events s =
 represents_messages Closed text events s = subst (λ t. Messages t events 0) (append-nil text) (s [])
 represents_messages Failed text events s = absurd s
 
--- ---- what was events since some moment
+-- ---- the events since some moment
 
--- a refusal, old_events behind what was events
+-- a refusal after the events so far
 pub refuses : (count : ℕ) (left text : List ℕ) (before old_events interim old_events' : List Heard) (status : ℕ) (requests : List Request)
     → Requests text requests left → IsOpen requests → before ++ old_events ≡ events_of requests ++ interim → IsBadMessage left interim status → old_events' ≡ old_events ++ heard.Bad status ∷ []
     → HasEnded text (before ++ old_events')
@@ -140,7 +141,7 @@ open_snoc requests last h stays few = record {
     all_snoc [] a = (stays, tt)
     all_snoc (r ∷ rs) a = (a.0, all_snoc rs a.1)
 
--- a request, old_events behind its interim
+-- a request after its interim
 heard_snoc : (requests : List Request) (last : Request) (before old_events : List Heard) → before ++ old_events ≡ events_of requests ++ interim_of last.minor last.fields
     → before ++ (old_events ++ heard.Request last ∷ []) ≡ events_of (requests ++ last ∷ [])
 heard_snoc requests last before old_events is =
@@ -152,7 +153,7 @@ heard_snoc requests last before old_events is =
 
 -- ---- the steps
 
--- a whole request is old_events, and nothing more is events
+-- a complete request is pushed, and no event follows
 pub finishes_over : (count : ℕ) (parsed : RequestHead) (body : List ℕ) (old_events new : List Heard) → (closes parsed.minor parsed.fields || nat_le 10_000 (count + 1)) ≡ true
     → new ≡ old_events ++ heard.Request (with_body parsed body) ∷ [] → EndsRequest count parsed body old_events Closed new
 finishes_over count parsed body old_events new ends new_is text before requests reads stays count_is is =
@@ -164,9 +165,9 @@ finishes_over count parsed body old_events new ends new_is text before requests 
     ] in
     subst (HasEnded text) (sym (ap (λ h. before ++ h) new_is ∙ heard_snoc requests last before old_events is)) (last_ends text [] requests last reads stays which)
 
--- a whole request is old_events, and a head is waited for
+-- a complete request is pushed, and a head follows
 pub finishes_head : (count : ℕ) (parsed : RequestHead) (body : List ℕ) (old_events new : List Heard) (partial : PartialHead) → (closes parsed.minor parsed.fields || nat_le 10_000 (count + 1)) ≡ false
-    → new ≡ old_events ++ heard.Request (with_body parsed body) ∷ [] → partial.bytes.items ≡ [] → HasSeen partial.search [] → partial.count ≡ count + 1
+    → new ≡ old_events ++ heard.Request (with_body parsed body) ∷ [] → partial.bytes ≡ [] → HasScanned partial.search [] → partial.count ≡ count + 1
     → EndsRequest count parsed body old_events (Head partial) new
 finishes_head count parsed body old_events new partial ends new_is none seen next text before requests reads stays count_is is =
     let last : Request = with_body parsed body in
@@ -179,7 +180,7 @@ finishes_head count parsed body old_events new partial ends new_is none seen nex
       count = omega (arith, next, count_is, length-append requests (last ∷ []));
       is = ap (λ h. before ++ h) new_is ∙ heard_snoc requests last before old_events is;
       not_yet = subst (λ b. head_end b ≡ NotYet) (sym none) refl;
-      seen = subst (HasSeen partial.search) (sym none) seen;
+      seen = subst (HasScanned partial.search) (sym none) seen;
     }
 
 pub waits_as : (parsed : RequestHead) (form : BodyForm) → framing parsed.minor parsed.fields ≡ Ok form
@@ -193,11 +194,11 @@ told_interim before old_events interim new requests parsed form framed new_is is
     let some : List Heard = if expects_continue parsed.minor parsed.fields form then heard.Interim ∷ [] else [] in
     ap (λ h. before ++ h) new_is ∙ sym (append_assoc before old_events some) ∙ ap (λ h. h ++ some) is ∙ ap (λ h. events_of requests ++ h) (sym (waits_as parsed form framed))
 
-whole_has_head : (left : List ℕ) (parsed : RequestHead) (form : BodyForm) → head_end left ≡ Whole (length left) → Says left parsed → framing parsed.minor parsed.fields ≡ Ok form
+whole_has_head : (left : List ℕ) (parsed : RequestHead) (form : BodyForm) → head_end left ≡ Whole (length left) → ParsesTo left parsed → framing parsed.minor parsed.fields ≡ Ok form
     → HasHead left (length left) parsed form
-whole_has_head left parsed form ends says framed = record { ends = ends; says = subst (λ t. Says t parsed) (sym (take-length left)) says; framed = framed }
+whole_has_head left parsed form ends says framed = record { ends = ends; says = subst (λ t. ParsesTo t parsed) (sym (take-length left)) says; framed = framed }
 
--- a body that is empty is whole at once
+-- an empty body is complete at once
 pub awaits_none : (count len : ℕ) (parsed : RequestHead) (form : BodyForm) (old_events interim events : List Heard) (new : ParserState) (body : List ℕ)
     → interim ≡ old_events ++ (if expects_continue parsed.minor parsed.fields form then heard.Interim ∷ [] else []) → IsBody form [] body
     → EndsRequest count parsed body interim new events → StartsBody count len parsed form old_events new events
@@ -217,9 +218,9 @@ awaits_none count len parsed form old_events interim events new body interim_is 
     finishes text before r.requests (requests_snoc r.requests text left [] (with_body parsed body) (length left) r.reads first (drop-length left)) r.stays r.count_is
     (told_interim before old_events interim interim r.requests parsed form framed interim_is r.is)
 
--- a body that is waited for
+-- a body that has not come
 pub awaits_body : (count len : ℕ) (parsed : RequestHead) (form : BodyForm) (old_events new : List Heard) (partial : PartialBody)
-    → new ≡ old_events ++ (if expects_continue parsed.minor parsed.fields form then heard.Interim ∷ [] else []) → IsPartialBody form [] → payload.Stands form partial.payload []
+    → new ≡ old_events ++ (if expects_continue parsed.minor parsed.fields form then heard.Interim ∷ [] else []) → IsPartialBody form [] → payload.Represents form partial.payload []
     → partial.head ≡ parsed → partial.len ≡ len → partial.count ≡ count → StartsBody count len parsed form old_events (Body partial) new
 awaits_body count len parsed form old_events new partial new_is is_partial stands said_is len_same count_same left ends says framed len_is text before r =
     let none : drop (length left) left ≡ [] = drop-length left in
@@ -235,12 +236,12 @@ awaits_body count len parsed form old_events new partial new_is is_partial stand
       there = omega arith;
       begins = subst (λ s. HasHead left (length left) s form) (sym said_is) (whole_has_head left parsed form ends says framed);
       body = subst (IsPartialBody form) (sym none) is_partial;
-      stands = subst (payload.Stands form partial.payload) (sym none) stands;
+      stands = subst (payload.Represents form partial.payload) (sym none) stands;
       rest = len_same ∙ len_is;
     }
 
 -- a head that is refused
-pub refuses_head : (count : ℕ) (left : List ℕ) (old_events new : List Heard) (status : ℕ) → IsBadHead left status → new ≡ old_events ++ heard.Bad status ∷ [] → ParsesAfter count left old_events Closed new
+pub refuses_head : (count : ℕ) (left : List ℕ) (old_events new : List Heard) (status : ℕ) → IsBadHead left status → new ≡ old_events ++ heard.Bad status ∷ [] → StepsAfter count left old_events Closed new
 refuses_head count left old_events new status bad new_is text before r =
     refuses count left text before old_events [] new status r.requests r.reads r.stays (r.is ∙ sym (append-nil (events_of r.requests))) (bad_head status bad) new_is
 
@@ -249,14 +250,14 @@ pub if_refused : {E : Type 0} (P : ParserState → Type 0) {T : Type 0} (result 
 if_refused P (Ok s) f old_events over = subst P (sym over) (f old_events)
 if_refused P (Err e) f old_events over = tt
 
--- what was left in an open head is parse_events
-pub head_goes : (partial : PartialHead) (bytes : List ℕ) (old_events new : List Heard) (next : ParserState) → ParsesAfter partial.count (partial.bytes.items ++ bytes) old_events next new → ParsesTo (Head partial) old_events bytes next new
+-- the bytes of a partial head are parsed with those that follow
+pub head_goes : (partial : PartialHead) (bytes : List ℕ) (old_events new : List Heard) (next : ParserState) → StepsAfter partial.count (partial.bytes ++ bytes) old_events next new → StepsTo (Head partial) old_events bytes next new
 head_goes partial bytes old_events new next goes text before s =
-    goes (text ++ bytes) before (record { requests = s.requests; reads = requests_stay s.requests text partial.bytes.items bytes s.reads; stays = s.stays; count_is = s.count; is = s.is })
+    goes (text ++ bytes) before (record { requests = s.requests; reads = requests_stay s.requests text partial.bytes bytes s.reads; stays = s.stays; count_is = s.count; is = s.is })
 
--- a head that has not ended goes on
-pub head_waits : (count : ℕ) (left : List ℕ) (old_events : List Heard) (partial : PartialHead) → partial.bytes.items ≡ left → head_end left ≡ NotYet → HasSeen partial.search left → partial.count ≡ count
-    → ParsesAfter count left old_events (Head partial) old_events
+-- a head that has not ended
+pub head_waits : (count : ℕ) (left : List ℕ) (old_events : List Heard) (partial : PartialHead) → partial.bytes ≡ left → head_end left ≡ NotYet → HasScanned partial.search left → partial.count ≡ count
+    → StepsAfter count left old_events (Head partial) old_events
 head_waits count left old_events partial bytes not_yet seen same text before r = record {
   requests = r.requests;
   reads = subst (Requests text r.requests) (sym bytes) r.reads;
@@ -264,52 +265,52 @@ head_waits count left old_events partial bytes not_yet seen same text before r =
   count = same ∙ r.count_is;
   is = r.is;
   not_yet = subst (λ b. head_end b ≡ NotYet) (sym bytes) not_yet;
-  seen = subst (HasSeen partial.search) (sym bytes) seen;
+  seen = subst (HasScanned partial.search) (sym bytes) seen;
 }
 
 refuses_fault : (count len : ℕ) (parsed : RequestHead) (old_events new : List Heard) (status : ℕ)
-    → ((left : List ℕ) → head_end left ≡ Whole (length left) → Says (take (length left) left) parsed → IsBadHead left status)
-    → new ≡ old_events ++ heard.Bad status ∷ [] → ParsesAfterHead count len parsed old_events Closed new
+    → ((left : List ℕ) → head_end left ≡ Whole (length left) → ParsesTo (take (length left) left) parsed → IsBadHead left status)
+    → new ≡ old_events ++ heard.Bad status ∷ [] → StepsAfterHead count len parsed old_events Closed new
 refuses_fault count len parsed old_events new status bad new_is left ends says len_is =
-    refuses_head count left old_events new status (bad left ends (subst (λ t. Says t parsed) (sym (take-length left)) says)) new_is
+    refuses_head count left old_events new status (bad left ends (subst (λ t. ParsesTo t parsed) (sym (take-length left)) says)) new_is
 
 pub refuses_conflict : (count len : ℕ) (parsed : RequestHead) (old_events new : List Heard) → framing parsed.minor parsed.fields ≡ Err framing_fault.Conflict → new ≡ old_events ++ heard.Bad 400 ∷ []
-    → ParsesAfterHead count len parsed old_events Closed new
+    → StepsAfterHead count len parsed old_events Closed new
 refuses_conflict count len parsed old_events new f = refuses_fault count len parsed old_events new 400 (λ left ends says. conflict (length left) parsed ends says f)
 
 pub refuses_coding : (count len : ℕ) (parsed : RequestHead) (old_events new : List Heard) → framing parsed.minor parsed.fields ≡ Err framing_fault.Coding → new ≡ old_events ++ heard.Bad 501 ∷ []
-    → ParsesAfterHead count len parsed old_events Closed new
+    → StepsAfterHead count len parsed old_events Closed new
 refuses_coding count len parsed old_events new f = refuses_fault count len parsed old_events new 501 (λ left ends says. coding (length left) parsed ends says f)
 
 pub refuses_large : (count len : ℕ) (parsed : RequestHead) (old_events new : List Heard) → framing parsed.minor parsed.fields ≡ Err framing_fault.TooLarge → new ≡ old_events ++ heard.Bad 413 ∷ []
-    → ParsesAfterHead count len parsed old_events Closed new
+    → StepsAfterHead count len parsed old_events Closed new
 refuses_large count len parsed old_events new f = refuses_fault count len parsed old_events new 413 (λ left ends says. too_large (length left) parsed ends says f)
 
 whole_of : (P : List ℕ → Type 0) (left : List ℕ) → P left → P (take (length left) left)
 whole_of P left p = subst P (sym (take-length left)) p
 
-pub refuses_many : (count : ℕ) (left : List ℕ) (old_events new : List Heard) → head_end left ≡ Whole (length left) → IsTooMany left → new ≡ old_events ++ heard.Bad 431 ∷ [] → ParsesAfter count left old_events Closed new
-refuses_many count left old_events new ends h = refuses_head count left old_events new 431 (too_many (length left) ends (whole_of IsTooMany left h))
+pub refuses_many : (count : ℕ) (left : List ℕ) (old_events new : List Heard) → head_end left ≡ Whole (length left) → HasTooManyLines left → new ≡ old_events ++ heard.Bad 431 ∷ [] → StepsAfter count left old_events Closed new
+refuses_many count left old_events new ends h = refuses_head count left old_events new 431 (too_many (length left) ends (whole_of HasTooManyLines left h))
 
-pub refuses_malformed : (count : ℕ) (left : List ℕ) (old_events new : List Heard) → head_end left ≡ Whole (length left) → IsMalformed left → new ≡ old_events ++ heard.Bad 400 ∷ [] → ParsesAfter count left old_events Closed new
-refuses_malformed count left old_events new ends h = refuses_head count left old_events new 400 (malformed (length left) ends (whole_of IsMalformed left h))
+pub refuses_malformed : (count : ℕ) (left : List ℕ) (old_events new : List Heard) → head_end left ≡ Whole (length left) → IsMalformedHead left → new ≡ old_events ++ heard.Bad 400 ∷ [] → StepsAfter count left old_events Closed new
+refuses_malformed count left old_events new ends h = refuses_head count left old_events new 400 (malformed (length left) ends (whole_of IsMalformedHead left h))
 
-pub refuses_host : (count : ℕ) (left : List ℕ) (old_events new : List Heard) → head_end left ≡ Whole (length left) → LacksHost left → new ≡ old_events ++ heard.Bad 400 ∷ [] → ParsesAfter count left old_events Closed new
+pub refuses_host : (count : ℕ) (left : List ℕ) (old_events new : List Heard) → head_end left ≡ Whole (length left) → LacksHost left → new ≡ old_events ++ heard.Bad 400 ∷ [] → StepsAfter count left old_events Closed new
 refuses_host count left old_events new ends h = refuses_head count left old_events new 400 (host (length left) ends (whole_of LacksHost left h))
 
-pub refuses_long : (count : ℕ) (left : List ℕ) (old_events new : List Heard) → head_end left ≡ TooLong → new ≡ old_events ++ heard.Bad 431 ∷ [] → ParsesAfter count left old_events Closed new
+pub refuses_long : (count : ℕ) (left : List ℕ) (old_events new : List Heard) → head_end left ≡ TooLong → new ≡ old_events ++ heard.Bad 431 ∷ [] → StepsAfter count left old_events Closed new
 refuses_long count left old_events new ends = refuses_head count left old_events new 431 (too_long ends)
 
 -- ---- in a body
 
--- what is left behind a head grows by the bytes
+-- the bytes after a head grow
 body_grows : (partial : PartialBody) (text : List ℕ) (events : List Heard) (s : InBody partial text events) (bytes : List ℕ) → drop s.head (s.left ++ bytes) ≡ drop s.head s.left ++ bytes
 body_grows partial text events s bytes = drop-append-le s.head s.left bytes s.there
 
 -- the body has ended
 pub body_ends : (partial : PartialBody) (front body : List ℕ) (old_events new : List Heard) (next : ParserState)
-    → ((form : BodyForm) (text : List ℕ) → payload.Stands form partial.payload text → IsBody form (text ++ front) body)
-    → EndsRequest partial.count partial.head body old_events next new → ParsesTo (Body partial) old_events front next new
+    → ((form : BodyForm) (text : List ℕ) → payload.Represents form partial.payload text → IsBody form (text ++ front) body)
+    → EndsRequest partial.count partial.head body old_events next new → StepsTo (Body partial) old_events front next new
 body_ends partial front body old_events new next whole finishes text before s =
     let left : List ℕ = s.left ++ front in
     let behind : List ℕ = drop s.head s.left ++ front in
@@ -333,11 +334,11 @@ body_ends partial front body old_events new next whole finishes text before s =
     let none : drop len left ≡ [] = ap (λ n. drop n left) all ∙ drop-length left in
     finishes (text ++ front) before s.requests (requests_snoc s.requests (text ++ front) left [] last len (requests_stay s.requests text s.left front s.reads) first none) s.stays s.count s.is
 
--- the body goes on
+-- the body continues
 pub body_waits : (partial new : PartialBody) (bytes : List ℕ) (old_events : List Heard) → new.head ≡ partial.head → new.count ≡ partial.count → new.len ≡ partial.len + length bytes
-    → ((form : BodyForm) (text : List ℕ) → payload.Stands form partial.payload text → IsPartialBody form (text ++ bytes))
-    → ((form : BodyForm) (text : List ℕ) → payload.Stands form partial.payload text → payload.Stands form new.payload (text ++ bytes))
-    → ParsesTo (Body partial) old_events bytes (Body new) old_events
+    → ((form : BodyForm) (text : List ℕ) → payload.Represents form partial.payload text → IsPartialBody form (text ++ bytes))
+    → ((form : BodyForm) (text : List ℕ) → payload.Represents form partial.payload text → payload.Represents form new.payload (text ++ bytes))
+    → StepsTo (Body partial) old_events bytes (Body new) old_events
 body_waits partial new bytes old_events said_is count_is len_is is_partial stands text before s =
     let left : List ℕ = s.left ++ bytes in
     let cut : drop s.head left ≡ drop s.head s.left ++ bytes = body_grows partial text (before ++ old_events) s bytes in
@@ -353,14 +354,14 @@ body_waits partial new bytes old_events said_is count_is len_is is_partial stand
       there = omega (arith, s.there, length-append s.left bytes);
       begins = subst (λ h. HasHead left s.head h s.form) (sym said_is) (head_stays s.left bytes s.head partial.head s.form s.begins);
       body = subst (IsPartialBody s.form) (sym cut) (is_partial s.form (drop s.head s.left) s.stands);
-      stands = subst (payload.Stands s.form new.payload) (sym cut) (stands s.form (drop s.head s.left) s.stands);
+      stands = subst (payload.Represents s.form new.payload) (sym cut) (stands s.form (drop s.head s.left) s.stands);
       rest = omega (arith, len_is, s.rest, blank_stays s.left bytes s.head s.begins.ends, blank_fits s.left, length-append s.left bytes);
     }
 
 -- the body is refused
 pub body_refused : (partial : PartialBody) (bytes : List ℕ) (old_events new : List Heard) (fault : PayloadFault)
-    → ((form : BodyForm) (text : List ℕ) → payload.Stands form partial.payload text → IsFault form (text ++ bytes) fault)
-    → new ≡ old_events ++ heard.Bad (status_of fault) ∷ [] → ParsesTo (Body partial) old_events bytes Closed new
+    → ((form : BodyForm) (text : List ℕ) → payload.Represents form partial.payload text → IsFault form (text ++ bytes) fault)
+    → new ≡ old_events ++ heard.Bad (status_of fault) ∷ [] → StepsTo (Body partial) old_events bytes Closed new
 body_refused partial bytes old_events new fault bad new_is text before s =
     let left : List ℕ = s.left ++ bytes in
     let cut : drop s.head left ≡ drop s.head s.left ++ bytes = body_grows partial text (before ++ old_events) s bytes in
@@ -369,17 +370,17 @@ body_refused partial bytes old_events new fault bad new_is text before s =
     (bad_body s.head partial.head s.form fault (head_stays s.left bytes s.head partial.head s.form s.begins) (subst (λ t. IsFault s.form t fault) (sym cut) (bad s.form (drop s.head s.left) s.stands)))
     new_is
 
--- nothing more is events
-pub over_goes : (bytes : List ℕ) (old_events : List Heard) → ParsesTo Closed old_events bytes Closed old_events
+-- no event follows
+pub over_goes : (bytes : List ℕ) (old_events : List Heard) → StepsTo Closed old_events bytes Closed old_events
 over_goes bytes old_events text before s more = subst (λ t. Messages t (before ++ old_events) 0) (sym (append_assoc text bytes more)) (s (bytes ++ more))
 
--- one parse_step after others
-pub goes_on : (old next new : ParserState) (old_events next_events new_events : List Heard) (front bytes : List ℕ) → ParsesTo old old_events front next next_events → ParsesTo next next_events bytes new new_events
-    → ParsesTo old old_events (front ++ bytes) new new_events
+-- one step after others
+pub goes_on : (old next new : ParserState) (old_events next_events new_events : List Heard) (front bytes : List ℕ) → StepsTo old old_events front next next_events → StepsTo next next_events bytes new new_events
+    → StepsTo old old_events (front ++ bytes) new new_events
 goes_on old next new old_events next_events new_events front bytes a b text before s =
     subst (λ t. Represents new t (before ++ new_events)) (append_assoc text front bytes) (b (text ++ front) before (a text before s))
 
-pub goes_nowhere : (stage : ParserState) (old_events : List Heard) → ParsesTo stage old_events [] stage old_events
+pub goes_nowhere : (stage : ParserState) (old_events : List Heard) → StepsTo stage old_events [] stage old_events
 goes_nowhere stage old_events text before s = subst (λ t. Represents stage t (before ++ old_events)) (sym (append-nil text)) s
 
 -- the head with the bytes up to its end

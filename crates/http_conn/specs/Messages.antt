@@ -1,21 +1,24 @@
--- The messages of a connection's bytes (RFC 9112): the whole text split into requests, and what is left after them.
-use Rattle.std.specs.Prelude.{◌≡◌, ◌⊎◌, ℕ, ◌+◌, ◌-◌, ◌<◌, ◌≤◌, Bool, true, false, if◌then◌else◌, List, [], ◌∷◌, ◌++◌, length, take, drop, Result, Ok, Err}
+-- The messages of a connection's bytes (RFC 9112): the whole text split into requests, and what is
+-- left after them.
+use Rattle.std.specs.Prelude.{◌≡◌, ◌⊎◌, ℕ, ◌+◌, ◌-◌, ◌<◌, ◌≤◌, Bool, true, false, if◌then◌else◌}
+use Rattle.std.specs.Prelude.{List, [], ◌∷◌, ◌++◌, length, take, drop, Result, Ok, Err}
 use Rattle.std.specs.List.{flat_map, AllByRecursion}
 use Rattle.pod_base.specs.declared.field.Field.{Field}
 use Rattle.pod_base.specs.declared.request.Request.{Request}
 use Rattle.pod_base.specs.declared.heard.Heard.{Heard}
 use Rattle.pod_base.specs.declared.heard.Heard.TheVariants as heard
-use Rattle.http_head.specs.declared.ends.HeadEnd.TheVariants.{Whole, NotYet, TooLong}
-use Rattle.http_head.specs.declared.head.RequestHead.{RequestHead}
-use Rattle.http_head.specs.declared.form.BodyForm.{BodyForm}
-use Rattle.http_head.specs.declared.framed.FramingFault.{FramingFault}
-use Rattle.http_head.specs.declared.framed.FramingFault.TheVariants as framing_fault
-use Rattle.http_head.specs.Ends.{blank_length, head_end}
-use Rattle.http_head.specs.Heads.{IsTooMany, IsMalformed, LacksHost, Says}
-use Rattle.http_head.specs.Framing.{framing}
-use Rattle.http_head.specs.Wishes.{closes, expects_continue}
-use Rattle.http_payload.specs.declared.fault.PayloadFault.{PayloadFault}
-use Rattle.http_payload.specs.declared.fault.PayloadFault.TheVariants as payload_fault
+use Rattle.http_head.specs.declared.head_ends.HeadEnd.TheVariants.{Whole, NotYet, TooLong}
+use Rattle.http_head.specs.declared.request_head.RequestHead.{RequestHead}
+use Rattle.http_head.specs.declared.body_form.BodyForm.{BodyForm}
+use Rattle.http_head.specs.declared.body_framing.FramingFault.{FramingFault}
+use Rattle.http_head.specs.declared.body_framing.FramingFault.TheVariants as framing_fault
+use Rattle.http_head.specs.HeadEnds.{blank_length, head_end}
+use Rattle.http_head.specs.Heads.{HasTooManyLines, IsMalformedHead, LacksHost, ParsesTo}
+use Rattle.http_head.specs.BodyFraming.{framing}
+use Rattle.http_head.specs.Persistence.{closes}
+use Rattle.http_head.specs.Expectation.{expects_continue}
+use Rattle.http_payload.specs.declared.payload_fault.PayloadFault.{PayloadFault}
+use Rattle.http_payload.specs.declared.payload_fault.PayloadFault.TheVariants as payload_fault
 use Rattle.http_payload.specs.Bodies.{IsBody, IsFault, IsPartial as IsPartialBody}
 use Rattle.http_conn.specs.declared.events.TheConstants.{REQUEST_LIMIT}
 
@@ -24,13 +27,19 @@ use Rattle.http_conn.specs.declared.events.TheConstants.{REQUEST_LIMIT}
 -- The text begins with a head of that length and meaning, and a body of that form follows it.
 pub record HasHead (text : List ℕ) (len : ℕ) (parsed : RequestHead) (form : BodyForm) : Type 0 where
   pub ends : head_end text ≡ Whole len
-  pub says : Says (take len text) parsed
+  pub says : ParsesTo (take len text) parsed
   pub framed : framing parsed.minor parsed.fields ≡ Ok form
 
 -- the request of a head and a body
 abbrev pub with_body : RequestHead → List ℕ → Request
 with_body parsed body =
-    record { method = parsed.method; target = parsed.target; minor = parsed.minor; fields = parsed.fields; body = body }
+    record {
+      method = parsed.method;
+      target = parsed.target;
+      minor = parsed.minor;
+      fields = parsed.fields;
+      body = body;
+    }
 
 -- The first len bytes of the text are a request: a head, and after it a body of so many bytes.
 pub record IsFirstRequest (text : List ℕ) (request : Request) (len : ℕ) : Type 0 where
@@ -75,14 +84,19 @@ events_of requests = flat_map request_events requests
 -- No text that begins so begins with a request, since of its head: the status of the refusal.
 pub data IsBadHead (text : List ℕ) : ℕ → Type 0 where
   too_long : head_end text ≡ TooLong → IsBadHead text 431
-  too_many : (len : ℕ) → head_end text ≡ Whole len → IsTooMany (take len text) → IsBadHead text 431
-  malformed : (len : ℕ) → head_end text ≡ Whole len → IsMalformed (take len text) → IsBadHead text 400
+  too_many : (len : ℕ) → head_end text ≡ Whole len → HasTooManyLines (take len text)
+      → IsBadHead text 431
+  malformed : (len : ℕ) → head_end text ≡ Whole len → IsMalformedHead (take len text)
+      → IsBadHead text 400
   host : (len : ℕ) → head_end text ≡ Whole len → LacksHost (take len text) → IsBadHead text 400
-  conflict : (len : ℕ) (parsed : RequestHead) → head_end text ≡ Whole len → Says (take len text) parsed
+  conflict : (len : ℕ) (parsed : RequestHead) → head_end text ≡ Whole len
+      → ParsesTo (take len text) parsed
       → framing parsed.minor parsed.fields ≡ Err framing_fault.Conflict → IsBadHead text 400
-  coding : (len : ℕ) (parsed : RequestHead) → head_end text ≡ Whole len → Says (take len text) parsed
+  coding : (len : ℕ) (parsed : RequestHead) → head_end text ≡ Whole len
+      → ParsesTo (take len text) parsed
       → framing parsed.minor parsed.fields ≡ Err framing_fault.Coding → IsBadHead text 501
-  too_large : (len : ℕ) (parsed : RequestHead) → head_end text ≡ Whole len → Says (take len text) parsed
+  too_large : (len : ℕ) (parsed : RequestHead) → head_end text ≡ Whole len
+      → ParsesTo (take len text) parsed
       → framing parsed.minor parsed.fields ≡ Err framing_fault.TooLarge → IsBadHead text 413
 
 -- the status that refuses a body. No body is at fault for being out of memory.
@@ -94,8 +108,10 @@ status_of payload_fault.NoMemory = 500
 -- No text that begins so begins with a request: the events before the refusal, and its status.
 pub data IsBadMessage (text : List ℕ) : List Heard → ℕ → Type 0 where
   bad_head : (status : ℕ) → IsBadHead text status → IsBadMessage text [] status
-  bad_body : (len : ℕ) (parsed : RequestHead) (form : BodyForm) (fault : PayloadFault) → HasHead text len parsed form
-      → IsFault form (drop len text) fault → IsBadMessage text (interim_of parsed.minor parsed.fields) (status_of fault)
+  bad_body : (len : ℕ) (parsed : RequestHead) (form : BodyForm) (fault : PayloadFault)
+      → HasHead text len parsed form
+      → IsFault form (drop len text) fault
+          → IsBadMessage text (interim_of parsed.minor parsed.fields) (status_of fault)
 
 -- the statuses of refusals
 abbrev pub IsRefusalStatus : ℕ → Type 0
@@ -117,7 +133,8 @@ rest_length text = length text - blank_length text
 pub data IsPartialMessage (text : List ℕ) : List Heard → Type 0 where
   in_head : head_end text ≡ NotYet → IsPartialMessage text []
   in_body : (len : ℕ) (parsed : RequestHead) (form : BodyForm) → HasHead text len parsed form
-      → IsPartialBody form (drop len text) → IsPartialMessage text (interim_of parsed.minor parsed.fields)
+      → IsPartialBody form (drop len text)
+          → IsPartialMessage text (interim_of parsed.minor parsed.fields)
 
 -- ---- all messages
 
@@ -136,17 +153,23 @@ pub record IsOpen (requests : List Request) : Type 0 where
 
 -- The events of the text, and the length of the unfinished message at its end.
 pub data Messages (text : List ℕ) : List Heard → ℕ → Type 0 where
-  unfinished : (requests : List Request) (left : List ℕ) (events : List Heard) → Requests text requests left
-      → IsOpen requests → IsPartialMessage left events → Messages text (events_of requests ++ events) (rest_length left)
-  refused : (requests : List Request) (left : List ℕ) (events : List Heard) (status : ℕ) → Requests text requests left
+  unfinished : (requests : List Request) (left : List ℕ) (events : List Heard)
+      → Requests text requests left
+      → IsOpen requests → IsPartialMessage left events
+          → Messages text (events_of requests ++ events) (rest_length left)
+  refused : (requests : List Request) (left : List ℕ) (events : List Heard) (status : ℕ)
+      → Requests text requests left
       → IsOpen requests → IsBadMessage left events status
       → Messages text (events_of requests ++ (events ++ heard.Bad status ∷ [])) 0
-  ended : (requests : List Request) (last : Request) (left : List ℕ) → Requests text (requests ++ last ∷ []) left
-      → IsOpen requests → IsLastRequest (length requests) last → Messages text (events_of (requests ++ last ∷ [])) 0
+  ended : (requests : List Request) (last : Request) (left : List ℕ)
+      → Requests text (requests ++ last ∷ []) left
+      → IsOpen requests → IsLastRequest (length requests) last
+          → Messages text (events_of (requests ++ last ∷ [])) 0
 
 -- ---- laws
 
--- No event follows a request that closes, the last of so many, and a refusal; count requests precede these events.
+-- No event follows a request that closes, the last of so many, and a refusal; count requests
+-- precede these events.
 abbrev pub NothingAfterEnd : ℕ → List Heard → Type 0
 NothingAfterEnd count [] = Unit {0}
 NothingAfterEnd count (heard.Interim ∷ events) = NothingAfterEnd count events
@@ -158,7 +181,8 @@ NothingAfterEnd count (heard.Bad status ∷ events) = events ≡ []
 abbrev pub StaysOpen : ℕ → List Heard → Type 0
 StaysOpen count [] = Unit {0}
 StaysOpen count (heard.Interim ∷ events) = StaysOpen count events
-StaysOpen count (heard.Request request ∷ events) = (IsLastRequest count request → ⊥) × StaysOpen (count + 1) events
+StaysOpen count (heard.Request request ∷ events) = (IsLastRequest count request
+    → ⊥) × StaysOpen (count + 1) events
 StaysOpen count (heard.Bad status ∷ events) = ⊥
 
 -- The events of a prefix of the text begin with these.

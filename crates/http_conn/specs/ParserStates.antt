@@ -1,25 +1,30 @@
 -- The states of a connection, and the texts that they represent.
-use Rattle.std.specs.Prelude.{◌≡◌, ℕ, ◌+◌, ◌-◌, ◌*◌, ◌<◌, ◌≤◌, List, [], ◌∷◌, ◌++◌, length, drop, Ok}
+use Rattle.std.specs.Prelude.{◌≡◌, ℕ, ◌+◌, ◌-◌, ◌*◌, ◌<◌, ◌≤◌, List, [], ◌∷◌, ◌++◌, length, drop}
+use Rattle.std.specs.Prelude.{Ok}
 use Rattle.pod_base.specs.declared.request.Request.{Request}
 use Rattle.pod_base.specs.declared.heard.Heard.{Heard}
-use Rattle.http_head.specs.declared.ends.HeadEnd.TheVariants.{Whole, NotYet}
-use Rattle.http_head.specs.declared.head.RequestHead.{RequestHead}
-use Rattle.http_head.specs.declared.form.BodyForm.{BodyForm}
-use Rattle.http_head.specs.Ends.{head_end}
-use Rattle.http_head.specs.Heads.{Says}
-use Rattle.http_head.specs.Framing.{framing}
-use Rattle.http_head.specs.Search.{HasSeen}
+use Rattle.http_head.specs.declared.head_ends.HeadEnd.TheVariants.{Whole, NotYet}
+use Rattle.http_head.specs.declared.request_head.RequestHead.{RequestHead}
+use Rattle.http_head.specs.declared.body_form.BodyForm.{BodyForm}
+use Rattle.http_head.specs.HeadEnds.{head_end}
+use Rattle.http_head.specs.Heads.{ParsesTo}
+use Rattle.http_head.specs.BodyFraming.{framing}
+use Rattle.http_head.specs.HeadScan.{HasScanned}
 use Rattle.http_payload.specs.Bodies.{IsPartial as IsPartialBody}
-use Rattle.http_payload.specs.Held as payload
-use Rattle.http_conn.specs.Messages.{HasHead, Requests, IsOpen, Messages, events_of, interim_of, rest_length, with_body}
+use Rattle.http_payload.specs.PayloadState as payload
+use Rattle.http_conn.specs.Messages.{HasHead, Requests, IsOpen, Messages, events_of, interim_of}
+use Rattle.http_conn.specs.Messages.{rest_length, with_body}
 use Rattle.http_conn.specs.declared.parser_state.ParserState.{ParserState}
-use Rattle.http_conn.specs.declared.parser_state.ParserState.TheVariants.{Head, Body, Closed, Failed}
+use Rattle.http_conn.specs.declared.parser_state.ParserState.TheVariants.{Head, Body, Closed}
+use Rattle.http_conn.specs.declared.parser_state.ParserState.TheVariants.{Failed}
 use Rattle.http_conn.specs.declared.parser_state.PartialHead.{PartialHead}
 use Rattle.http_conn.specs.declared.parser_state.PartialBody.{PartialBody}
 
--- what is true of each connection: the search of an open head has seen its bytes so far, and found no end
+-- what is true of each connection: the search of an open head has seen its bytes so far, and found
+-- no end
 abbrev pub IsSoundState : ParserState → Type 0
-IsSoundState (Head partial) = (head_end partial.bytes.items ≡ NotYet) × HasSeen partial.search partial.bytes.items
+IsSoundState (Head partial) = (head_end partial.bytes ≡ NotYet)
+    × HasScanned partial.search partial.bytes
 IsSoundState (Body partial) = Unit {0}
 IsSoundState Closed = Unit {0}
 IsSoundState Failed = Unit {0}
@@ -27,12 +32,12 @@ IsSoundState Failed = Unit {0}
 -- Between messages or in a head: the text is requests, and then the bytes of that head.
 pub record InHead (partial : PartialHead) (text : List ℕ) (events : List Heard) : Type 0 where
   pub requests : List Request
-  pub reads : Requests text requests partial.bytes.items
+  pub reads : Requests text requests partial.bytes
   pub stays : IsOpen requests
   pub count : partial.count ≡ length requests
   pub is : events ≡ events_of requests
-  pub not_yet : head_end partial.bytes.items ≡ NotYet
-  pub seen : HasSeen partial.search partial.bytes.items
+  pub not_yet : head_end partial.bytes ≡ NotYet
+  pub seen : HasScanned partial.search partial.bytes
 
 -- In a body: the text is requests, and then a head and a body that has not ended.
 pub record InBody (partial : PartialBody) (text : List ℕ) (events : List Heard) : Type 0 where
@@ -47,14 +52,15 @@ pub record InBody (partial : PartialBody) (text : List ℕ) (events : List Heard
   pub there : head ≤ length left
   pub begins : HasHead left head partial.head form
   pub body : IsPartialBody form (drop head left)
-  pub stands : payload.Stands form partial.payload (drop head left)
+  pub stands : payload.Represents form partial.payload (drop head left)
   pub rest : partial.len ≡ rest_length left
 
 -- No event follows, however the text goes on.
 abbrev pub HasEnded : List ℕ → List Heard → Type 0
 HasEnded text events = (more : List ℕ) → Messages (text ++ more) events 0
 
--- The state is that after this text, which has these events. Once out of memory it is that of no text.
+-- The state is that after this text, which has these events. Once out of memory it is that of no
+-- text.
 abbrev pub Represents : ParserState → List ℕ → List Heard → Type 0
 Represents (Head partial) text events = InHead partial text events
 Represents (Body partial) text events = InBody partial text events
@@ -63,7 +69,7 @@ Represents Failed text events = ⊥
 
 -- how many bytes of an unfinished message it keeps
 abbrev pub rest_of : ParserState → ℕ
-rest_of (Head partial) = rest_length partial.bytes.items
+rest_of (Head partial) = rest_length partial.bytes
 rest_of (Body partial) = partial.len
 rest_of Closed = 0
 rest_of Failed = 0

@@ -3,7 +3,7 @@
 ghost use Rattle.std.specs.Prelude.{◌≡◌, ◌<◌, length, take, IfOk};
 ghost use Rattle.http_conn.specs.declared.parser_state.ParserState.TheVariants as state;
 ghost use Rattle.http_conn.specs.ParserStates.{IsSoundState};
-ghost use Rattle.http_conn.specs.ParserSteps.{ParsesTo, MakesProgress};
+ghost use Rattle.http_conn.specs.ParserSteps.{StepsTo, MakesProgress};
 
 use crate::events::{push_request, refuse};
 use crate::parser_state::{ParserState, PartialBody};
@@ -19,9 +19,12 @@ pub(crate) fn body_step(
     bytes: &[u8],
 ) -> Mem<(usize, ParserState)>
     requires { 0 < length bytes.now }
-    ensures progress { IfOk result (λ r. MakesProgress (state.Body partial) (length bytes.now) r.0 r.1) }
+    ensures progress { IfOk result
+        (λ r. MakesProgress (state.Body partial) (length bytes.now) r.0 r.1) }
     ensures sound { IfOk result (λ r. IsSoundState r.1) }
-    ensures parses { IfOk result (λ r. ParsesTo (state.Body partial) events.old.items (take r.0 bytes.now) r.1 events.new.items) }
+    ensures parses { IfOk result
+        (λ r. StepsTo (state.Body partial) events.old.items (take r.0 bytes.now) r.1
+        events.new.items) }
 {
     let PartialBody {
         head,
@@ -32,7 +35,8 @@ pub(crate) fn body_step(
     match payload.feed(alloc, bytes) {
         Ok(fed) => {
             if fed.done {
-                let next = push_request(alloc, events, count, head, payload.body())?;
+                let body = payload.body(alloc)?;
+                let next = push_request(alloc, events, count, head, body)?;
                 return Ok((fed.taken, next));
             }
             // No text is so long that this fails.

@@ -1,8 +1,10 @@
 //! The events of a connection, as a list to which they are pushed.
 
-ghost use Rattle.std.specs.Prelude.{◌≡◌, ◌+◌, ◌++◌, ◌∷◌, ◌||◌, nat_le, [], if◌then◌else◌, IfOk, OnOk};
+ghost use Rattle.std.specs.Prelude.{◌≡◌, ◌+◌, ◌++◌, ◌∷◌, ◌||◌, nat_le, [], if◌then◌else◌, IfOk};
+ghost use Rattle.std.specs.Prelude.{OnOk};
 ghost use Rattle.pod_base.specs.declared.heard.Heard.TheVariants as heard;
-ghost use Rattle.http_head.specs.Wishes as wishes;
+ghost use Rattle.http_head.specs.Expectation as expectation;
+ghost use Rattle.http_head.specs.Persistence as persistence;
 ghost use Rattle.http_conn.specs.ParserStates.{IsSoundState};
 ghost use Rattle.http_conn.specs.ParserSteps.{EndsRequest, measure};
 
@@ -41,7 +43,8 @@ pub(crate) fn push_interim(
     form: BodyForm,
 ) -> Mem<()>
     ensures { OnOk result (events.new.items ≡ events.old.items
-        ++ (if wishes.expects_continue head.now.minor head.now.fields form then heard.Interim ∷ [] else [])) }
+        ++ (if expectation.expects_continue head.now.minor head.now.fields form
+        then heard.Interim ∷ [] else [])) }
 {
     if expects_continue(head.minor, &head.fields, form) {
         push_event(alloc, events, Heard::Interim)
@@ -52,7 +55,8 @@ pub(crate) fn push_interim(
 
 /// Whether a request that `count` others precede is the last of its connection.
 fn is_last_request(count: u64, head: &RequestHead) -> bool
-    ensures { result ≡ (wishes.closes head.now.minor head.now.fields || nat_le REQUEST_LIMIT (count + 1)) }
+    ensures { result
+        ≡ (persistence.closes head.now.minor head.now.fields || nat_le REQUEST_LIMIT (count + 1)) }
 {
     closes(head.minor, &head.fields) || count >= REQUEST_LIMIT - 1
 }
@@ -67,7 +71,8 @@ pub(crate) fn push_request(
 ) -> Mem<ParserState>
     ensures sound { IfOk result IsSoundState }
     ensures no_body { IfOk result (λ new. measure new ≡ 0) }
-    ensures ends { IfOk result (λ new. EndsRequest count head body events.old.items new events.new.items) }
+    ensures ends { IfOk result
+        (λ new. EndsRequest count head body events.old.items new events.new.items) }
 {
     let last = is_last_request(count, &head);
     let request = Request {

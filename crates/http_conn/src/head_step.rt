@@ -1,11 +1,11 @@
 //! A step of the parser between messages and in the head of a request.
 
 ghost use Rattle.std.specs.Prelude.{◌≡◌, ◌<◌, ◌≤◌, ◌++◌, length, take, IfOk};
-ghost use Rattle.http_head.specs.Ends.{head_end};
-ghost use Rattle.http_head.specs.declared.ends.HeadEnd.TheVariants as end;
+ghost use Rattle.http_head.specs.HeadEnds.{head_end};
+ghost use Rattle.http_head.specs.declared.head_ends.HeadEnd.TheVariants as end;
 ghost use Rattle.http_conn.specs.declared.parser_state.ParserState.TheVariants as state;
 ghost use Rattle.http_conn.specs.ParserStates.{IsSoundState};
-ghost use Rattle.http_conn.specs.ParserSteps.{ParsesTo, ParsesAfter, ParsesAfterHead, StartsBody};
+ghost use Rattle.http_conn.specs.ParserSteps.{StepsTo, StepsAfter, StepsAfterHead, StartsBody};
 
 use crate::events::{push_interim, push_request, refuse};
 use crate::parser_state::{ParserState, PartialBody, PartialHead};
@@ -15,7 +15,7 @@ use http_head::{
     framing, read_head,
 };
 use http_payload::Payload;
-use pod_base::{Heard, List, Mem, NoMemory};
+use pod_base::{BytesBuilder, Heard, List, Mem, NoMemory};
 use std::alloc::Global;
 
 /// The state after a head whose body has that form. The head has `len` bytes.
@@ -28,12 +28,14 @@ fn start_body(
     form: BodyForm,
 ) -> Mem<ParserState>
     ensures sound { IfOk result IsSoundState }
-    ensures parses { IfOk result (λ new. StartsBody count len head form events.old.items new events.new.items) }
+    ensures parses { IfOk result
+        (λ new. StartsBody count len head form events.old.items new events.new.items) }
 {
     push_interim(alloc, events, &head, form)?;
     let payload = Payload::new(alloc, form);
     if payload.is_done() {
-        return push_request(alloc, events, count, head, payload.body());
+        let body = payload.body(alloc)?;
+        return push_request(alloc, events, count, head, body);
     }
     Ok(ParserState::Body(PartialBody {
         head,
@@ -52,7 +54,8 @@ fn frame_body(
     head: RequestHead,
 ) -> Mem<ParserState>
     ensures sound { IfOk result IsSoundState }
-    ensures parses { IfOk result (λ new. ParsesAfterHead count len head events.old.items new events.new.items) }
+    ensures parses { IfOk result
+        (λ new. StepsAfterHead count len head events.old.items new events.new.items) }
 {
     match framing(&head) {
         Ok(form) => start_body(alloc, events, count, len, head, form),
@@ -71,7 +74,8 @@ fn parse_head(
 ) -> Mem<ParserState>
     requires { head_end bytes.now ≡ end.Whole (length bytes.now) }
     ensures sound { IfOk result IsSoundState }
-    ensures parses { IfOk result (λ new. ParsesAfter count bytes.now events.old.items new events.new.items) }
+    ensures parses { IfOk result
+        (λ new. StepsAfter count bytes.now events.old.items new events.new.items) }
 {
     match read_head(alloc, bytes) {
         Ok(head) => {
@@ -95,10 +99,11 @@ fn start_head(
     requires { 0 < length bytes.now }
     ensures taken { IfOk result (λ r. (0 < r.0) × (r.0 ≤ length bytes.now)) }
     ensures sound { IfOk result (λ r. IsSoundState r.1) }
-    ensures parses { IfOk result (λ r. ParsesAfter count (take r.0 bytes.now) events.old.items r.1 events.new.items) }
+    ensures parses { IfOk result
+        (λ r. StepsAfter count (take r.0 bytes.now) events.old.items r.1 events.new.items) }
 {
     let mut search = HeadSearch::new();
-    match search.look(bytes) {
+    match search.scan(bytes) {
         HeadEnd::Whole(len) => {
             let next = parse_head(alloc, events, count, prefix(bytes, len))?;
             Ok((len, next))
@@ -108,14 +113,14 @@ fn start_head(
             Ok((bytes.len(), next))
         }
         HeadEnd::NotYet => {
-            let bytes = Vec::from_slice(alloc, bytes)?;
-            let len = bytes.len();
+            let mut head = BytesBuilder::new(alloc);
+            head.append(alloc, bytes)?;
             let partial = PartialHead {
-                bytes,
+                bytes: head,
                 search,
                 count,
             };
-            Ok((len, ParserState::Head(partial)))
+            Ok((bytes.len(), ParserState::Head(partial)))
         }
     }
 }
@@ -131,7 +136,8 @@ fn continue_head(
     requires sound { IsSoundState (state.Head partial) }
     ensures taken { IfOk result (λ r. (0 < r.0) × (r.0 ≤ length bytes.now)) }
     ensures sound { IfOk result (λ r. IsSoundState r.1) }
-    ensures parses { IfOk result (λ r. ParsesAfter partial.count (partial.bytes.items ++ take r.0 bytes.now)
+    ensures parses { IfOk result (λ r. StepsAfter partial.count (partial.bytes
+        ++ take r.0 bytes.now)
         events.old.items r.1 events.new.items) }
 {
     let PartialHead {
@@ -141,8 +147,8 @@ fn continue_head(
     } = partial;
     let kept = head.len();
     let window = prefix_up_to(bytes, HEAD_LIMIT.saturating_sub(kept));
-    head.extend_from_slice(window)?;
-    match search.look(head.as_slice()) {
+    head.append(alloc, window)?;
+    match search.scan(head.as_slice()) {
         HeadEnd::Whole(len) => {
             let next = parse_head(alloc, events, count, prefix(head.as_slice(), len))?;
             Ok((len - kept, next))
@@ -173,7 +179,8 @@ pub(crate) fn head_step(
     requires sound { IsSoundState (state.Head partial) }
     ensures taken { IfOk result (λ r. (0 < r.0) × (r.0 ≤ length bytes.now)) }
     ensures sound { IfOk result (λ r. IsSoundState r.1) }
-    ensures parses { IfOk result (λ r. ParsesTo (state.Head partial) events.old.items (take r.0 bytes.now)
+    ensures parses { IfOk result
+        (λ r. StepsTo (state.Head partial) events.old.items (take r.0 bytes.now)
         r.1 events.new.items) }
 {
     if partial.bytes.is_empty() {

@@ -2,7 +2,7 @@
 
 ghost use Rattle.std.specs.Prelude.{◌≡◌, ◌<◌, ◌≤◌, length, take, drop, IfOk};
 ghost use Rattle.http_conn.specs.ParserStates.{IsSoundState};
-ghost use Rattle.http_conn.specs.ParserSteps.{ParsesTo, MakesProgress};
+ghost use Rattle.http_conn.specs.ParserSteps.{StepsTo, MakesProgress};
 
 use crate::body_step::body_step;
 use crate::head_step::head_step;
@@ -22,7 +22,8 @@ fn parse_step(
     requires sound { IsSoundState state }
     ensures progress { IfOk result (λ r. MakesProgress state (length bytes.now) r.0 r.1) }
     ensures sound { IfOk result (λ r. IsSoundState r.1) }
-    ensures parses { IfOk result (λ r. ParsesTo state events.old.items (take r.0 bytes.now) r.1 events.new.items) }
+    ensures parses { IfOk result
+        (λ r. StepsTo state events.old.items (take r.0 bytes.now) r.1 events.new.items) }
 {
     match state {
         ParserState::Head(partial) => head_step(alloc, events, partial, bytes),
@@ -41,7 +42,8 @@ pub(crate) fn parse_piece(
 ) -> Mem<ParserState>
     requires { IsSoundState state }
     ensures sound { IfOk result IsSoundState }
-    ensures parses { IfOk result (λ new. ParsesTo state events.old.items piece.now new events.new.items) }
+    ensures parses { IfOk result
+        (λ new. StepsTo state events.old.items piece.now new events.new.items) }
 {
     let mut rest = piece;
     while !rest.is_empty() {

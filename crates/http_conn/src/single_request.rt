@@ -1,15 +1,16 @@
 //! [`one_request`]: a text that is to be one request and nothing else.
 
-ghost use Rattle.std.specs.Prelude.{◌≡◌, ◌⊎◌, ◌<◌, ◌≤◌, ℕ, List as Items, true, false, length, take, drop, IsTrue, IfOk, IfSome, IfNone};
+ghost use Rattle.std.specs.Prelude.{◌≡◌, ◌⊎◌, ◌<◌, ◌≤◌, ℕ, List as Items, true, false, length};
+ghost use Rattle.std.specs.Prelude.{take, drop, IsTrue, IfOk, IfSome, IfNone};
 ghost use Rattle.pod_base.specs.declared.request.Request.{Request as Parsed};
-ghost use Rattle.http_head.specs.declared.head.RequestHead.{RequestHead as Head};
-ghost use Rattle.http_head.specs.declared.form.BodyForm.{BodyForm as Form};
+ghost use Rattle.http_head.specs.declared.request_head.RequestHead.{RequestHead as Head};
+ghost use Rattle.http_head.specs.declared.body_form.BodyForm.{BodyForm as Form};
 ghost use Rattle.http_payload.specs.Bodies.{IsBody};
 ghost use Rattle.http_conn.specs.Messages.{HasHead};
 ghost use Rattle.http_conn.specs.SingleRequest.{AreEmptyLines, IsOneRequest};
-ghost use Rattle.http_head.specs.Ends as ends;
-ghost use Rattle.http_head.specs.declared.ends.HeadEnd.TheVariants as end;
-ghost use Rattle.http_head.specs.Wishes as wishes;
+ghost use Rattle.http_head.specs.HeadEnds as ends;
+ghost use Rattle.http_head.specs.declared.head_ends.HeadEnd.TheVariants as end;
+ghost use Rattle.http_head.specs.Persistence as persistence;
 
 use crate::slices::{prefix, suffix};
 use http_head::{
@@ -31,7 +32,8 @@ struct FirstHead {
 fn framed_head(alloc: Global, bytes: &[u8], len: usize) -> Mem<Option<FirstHead>>
     requires within { len ≤ length bytes.now }
     requires ends { ends.head_end bytes.now ≡ end.Whole len }
-    ensures some { IfOk result (λ found. IfSome found (λ f. (f.len ≡ len) × HasHead bytes.now f.len f.head f.form)) }
+    ensures some { IfOk result (λ found. IfSome found (λ f. (f.len ≡ len)
+        × HasHead bytes.now f.len f.head f.form)) }
     ensures none { IfOk result (λ found. IfNone found ((n : ℕ) (head : Head) (form : Form)
         → HasHead bytes.now n head form → ⊥)) }
 {
@@ -65,14 +67,16 @@ fn first_head(alloc: Global, bytes: &[u8]) -> Mem<Option<FirstHead>>
 fn first_body(alloc: Global, form: BodyForm, bytes: &[u8]) -> Mem<Option<(Bytes, usize)>>
     ensures some { IfOk result (λ found. IfSome found (λ r. (r.1 ≤ length bytes.now)
         × IsBody form (take r.1 bytes.now) r.0)) }
-    ensures none { IfOk result (λ found. IfNone found ((size : ℕ) (body : Items ℕ) → size ≤ length bytes.now
+    ensures none { IfOk result (λ found. IfNone found ((size : ℕ) (body : Items ℕ)
+        → size ≤ length bytes.now
         → IsBody form (take size bytes.now) body → ⊥)) }
 {
     let mut payload = Payload::new(alloc, form);
     match payload.feed(alloc, bytes) {
         Ok(fed) => {
             if fed.done {
-                Ok(Some((payload.body(), fed.taken)))
+                let body = payload.body(alloc)?;
+                Ok(Some((body, fed.taken)))
             } else {
                 Ok(None)
             }
@@ -83,13 +87,13 @@ fn first_body(alloc: Global, form: BodyForm, bytes: &[u8]) -> Mem<Option<(Bytes,
     }
 }
 
-/// Whether only empty lines follow a request with these fields, and no event: so many of them that no head can follow
-/// are a malformed message, unless the connection is closed.
+/// Whether only empty lines follow a request with these fields, and no event: so many of them that
+/// no head can follow are a malformed message, unless the connection is closed.
 fn ends_text(minor: u8, fields: &Fields, rest: &[u8]) -> bool
     ensures yes { IsTrue result → AreEmptyLines rest.now
-        × ((wishes.closes minor fields.now ≡ true) ⊎ (length rest.now < HEAD_LIMIT)) }
+        × ((persistence.closes minor fields.now ≡ true) ⊎ (length rest.now < HEAD_LIMIT)) }
     ensures no { result ≡ false → AreEmptyLines rest.now
-        → (wishes.closes minor fields.now ≡ false) × (HEAD_LIMIT ≤ length rest.now) }
+        → (persistence.closes minor fields.now ≡ false) × (HEAD_LIMIT ≤ length rest.now) }
 {
     if blank_length(rest) != rest.len() {
         return false;
@@ -102,7 +106,8 @@ fn request_of(alloc: Global, first: FirstHead, bytes: &[u8]) -> Mem<Option<Reque
     requires within { first.len ≤ length bytes.now }
     requires begins { HasHead bytes.now first.len first.head first.form }
     ensures some { IfOk result (λ found. IfSome found (IsOneRequest bytes.now)) }
-    ensures none { IfOk result (λ found. IfNone found ((request : Parsed) → IsOneRequest bytes.now request → ⊥)) }
+    ensures none { IfOk result (λ found. IfNone found ((request : Parsed)
+        → IsOneRequest bytes.now request → ⊥)) }
 {
     let FirstHead { head, len, form } = first;
     if expects_continue(head.minor, &head.fields, form) {
@@ -127,11 +132,12 @@ fn request_of(alloc: Global, first: FirstHead, bytes: &[u8]) -> Mem<Option<Reque
     }
 }
 
-/// The request that the bytes are: one request, which waits for no `100 Continue`, and then empty lines alone. None
-/// exactly where they are not that.
+/// The request that the bytes are: one request, which waits for no `100 Continue`, and then empty
+/// lines alone. None exactly where they are not that.
 pub fn one_request(alloc: Global, bytes: &[u8]) -> Mem<Option<Request>>
     ensures some { IfOk result (λ found. IfSome found (IsOneRequest bytes.now)) }
-    ensures none { IfOk result (λ found. IfNone found ((request : Parsed) → IsOneRequest bytes.now request → ⊥)) }
+    ensures none { IfOk result (λ found. IfNone found ((request : Parsed)
+        → IsOneRequest bytes.now request → ⊥)) }
 {
     match first_head(alloc, bytes)? {
         None => Ok(None),

@@ -20,7 +20,7 @@ first_field [] rest_text = refl
 first_field (f ∷ fs) rest_text =
     sym (append_assoc (field_line f.name f.value) (field_lines fs) rest_text ∙ field_pieces f.name f.value (field_lines fs ++ rest_text))
 
--- rest_text a field's line stand the other fields
+-- after a field's line the other fields follow
 pub other_fields : (fields : List Field) (i : ℕ) (rest_text : List ℕ) → i < length fields
     → after_line (drop i fields) rest_text ≡ from_fields (drop (i + 1) fields) rest_text
 other_fields [] i rest_text inside = absurd (omega arith)
@@ -44,12 +44,17 @@ status_pieces : (version code space phrase rest_text : List ℕ)
     → line (version ++ code ++ space ++ phrase) ++ rest_text ≡ version ++ (code ++ (space ++ (phrase ++ (codes "\r\n" ++ rest_text))))
 status_pieces version code space phrase rest_text = simp append_assoc
 
+seven : (a b c d e f g : List ℕ) → a ++ b ++ c ++ d ++ e ++ f ++ g ≡ a ++ (b ++ (c ++ (d ++ (e ++ (f ++ g)))))
+seven a b c d e f g = simp append_assoc
+
 pub whole_text : (response : Response) (date : List ℕ) (close : Bool)
     → left_at response date close Version 0 ≡ response_text response date close
 whole_text response date close =
     let lengths = length_line response ++ (codes "\r\n" ++ body_text response) in
     let fields = field_lines response.fields ++ (closing_line response.status close ++ lengths) in
-    sym (status_pieces (codes "HTTP/1.1 ") (code_digits response.status) (codes " ") (phrase_of response.status)
+    sym (seven (status_line response.status) (field_line (codes "Date") date) (field_lines response.fields)
+    (closing_line response.status close) (length_line response) (codes "\r\n") (body_text response)
+    ∙ status_pieces (codes "HTTP/1.1 ") (code_digits response.status) (codes " ") (phrase_of response.status)
     (field_line (codes "Date") date ++ fields)
     ∙ ap (λ (t : List ℕ). codes "HTTP/1.1 " ++ (code_digits response.status ++ (codes " " ++ (phrase_of response.status ++ (codes "\r\n" ++ t)))))
     (field_pieces (codes "Date") date fields
@@ -153,3 +158,8 @@ pub none_left : (old new slice_old slice_new : List ℕ) (count : ℕ) → Copie
     → 0 < length slice_old → count ≡ 0 → new ≡ []
 none_left old new slice_old slice_new count x is some zero =
     x.left ∙ drop_all count old (omega (arith, is, some, zero))
+
+-- the slice keeps its length
+pub copies_length : (old new slice_old slice_new : List ℕ) (count : ℕ) → Copies old new slice_old slice_new count → length slice_new ≡ length slice_old
+copies_length old new slice_old slice_new count x =
+    omega (arith, x.within, x.room, ap length x.given, length-append (take count old) (drop count slice_old), length-take-le count old x.within, length-drop count slice_old)

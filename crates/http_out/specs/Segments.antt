@@ -1,17 +1,26 @@
 -- The segments of a response's text, in their order: the bytes of each, and the bytes after it.
-use Rattle.std.specs.Prelude.{ℕ, Bool, ◌+◌, ◌-◌, ◌*◌, ◌≡◌, ◌≤◌, if◌then◌else◌, List, [], ◌∷◌, ◌++◌, length, take, drop, codes, decimal}
+use Rattle.std.specs.Prelude.{ℕ, Bool, ◌+◌, ◌-◌, ◌*◌, ◌≡◌, ◌≤◌, if◌then◌else◌, List, [], ◌∷◌, ◌++◌}
+use Rattle.std.specs.Prelude.{length, take, drop, codes, decimal}
 use Rattle.http.specs.StatusCode.{code_digits}
 use Rattle.pod_base.specs.declared.field.Field.{Field}
 use Rattle.pod_base.specs.declared.response.Response.{Response}
+use Rattle.http_out.specs.declared.cursor.Cursor.{Cursor}
+use Rattle.http_out.specs.declared.head_parts.HeadParts.{HeadParts}
 use Rattle.http_out.specs.declared.segment.Segment.{Segment}
-use Rattle.http_out.specs.declared.segment.Segment.TheVariants.{Version, Code, Space, Phrase, DateName, Date, DateEnd, Name, Colon, Value, LineEnd, Closing, LengthName, Length, LengthEnd, HeadEnd, Body, End}
-use Rattle.http_out.specs.Text.{phrase_of, field_lines, closing_line, has_no_length, body_length, body_text}
+use Rattle.http_out.specs.declared.segment.Segment.TheVariants.{Version, Code, Space, Phrase}
+use Rattle.http_out.specs.declared.segment.Segment.TheVariants.{DateName, Date, DateEnd, Name}
+use Rattle.http_out.specs.declared.segment.Segment.TheVariants.{Colon, Value, LineEnd, Closing}
+use Rattle.http_out.specs.declared.segment.Segment.TheVariants.{LengthName, Length, LengthEnd}
+use Rattle.http_out.specs.declared.segment.Segment.TheVariants.{HeadEnd, Body, End}
+use Rattle.http_out.specs.Text.{phrase_of, field_lines, closing_line, has_no_length, body_length}
+use Rattle.http_out.specs.Text.{body_text}
 
 abbrev pub length_name : Response → List ℕ
 length_name response = if has_no_length response.status then [] else codes "Content-Length: "
 
 abbrev pub length_digits : Response → List ℕ
-length_digits response = if has_no_length response.status then [] else decimal (body_length response.body)
+length_digits response =
+    if has_no_length response.status then [] else decimal (body_length response.body)
 
 abbrev pub length_end : Response → List ℕ
 length_end response = if has_no_length response.status then [] else codes "\r\n"
@@ -59,7 +68,8 @@ abbrev pub from_head_end : Response → List ℕ
 from_head_end response = codes "\r\n" ++ body_text response
 
 abbrev pub from_length : Response → List ℕ
-from_length response = length_name response ++ (length_digits response ++ (length_end response ++ from_head_end response))
+from_length response = length_name response ++ (length_digits response ++ (length_end response
+    ++ from_head_end response))
 
 -- from the closing of the connection on
 abbrev pub from_closing : Response → Bool → List ℕ
@@ -89,24 +99,35 @@ after_line (f ∷ fs) rest = from_fields fs rest
 -- from the date's name on
 abbrev pub from_date_name : Response → List ℕ → Bool → List ℕ
 from_date_name response date close =
-    codes "\r\nDate: " ++ (date ++ (codes "\r\n" ++ from_fields response.fields (from_closing response close)))
+    codes "\r\nDate: " ++ (date ++ (codes "\r\n"
+        ++ from_fields response.fields (from_closing response close)))
 
 -- the bytes after a segment
 abbrev pub text_after : Response → List ℕ → Bool → Segment → List ℕ
 text_after response date close Version =
-    code_digits response.status ++ (codes " " ++ (phrase_of response.status ++ from_date_name response date close))
-text_after response date close Code = codes " " ++ (phrase_of response.status ++ from_date_name response date close)
-text_after response date close Space = phrase_of response.status ++ from_date_name response date close
+    code_digits response.status ++ (codes " " ++ (phrase_of response.status
+        ++ from_date_name response date close))
+text_after response date close Code = codes " " ++ (phrase_of response.status
+    ++ from_date_name response date close)
+text_after response date close Space = phrase_of response.status
+    ++ from_date_name response date close
 text_after response date close Phrase = from_date_name response date close
-text_after response date close DateName = date ++ (codes "\r\n" ++ from_fields response.fields (from_closing response close))
-text_after response date close Date = codes "\r\n" ++ from_fields response.fields (from_closing response close)
+text_after response date close DateName = date ++ (codes "\r\n"
+    ++ from_fields response.fields (from_closing response close))
+text_after response date close Date = codes "\r\n"
+    ++ from_fields response.fields (from_closing response close)
 text_after response date close DateEnd = from_fields response.fields (from_closing response close)
-text_after response date close (Name i) = after_name (drop i response.fields) (from_closing response close)
-text_after response date close (Colon i) = after_colon (drop i response.fields) (from_closing response close)
-text_after response date close (Value i) = after_value (drop i response.fields) (from_closing response close)
-text_after response date close (LineEnd i) = after_line (drop i response.fields) (from_closing response close)
+text_after response date close (Name i) =
+    after_name (drop i response.fields) (from_closing response close)
+text_after response date close (Colon i) =
+    after_colon (drop i response.fields) (from_closing response close)
+text_after response date close (Value i) =
+    after_value (drop i response.fields) (from_closing response close)
+text_after response date close (LineEnd i) =
+    after_line (drop i response.fields) (from_closing response close)
 text_after response date close Closing = from_length response
-text_after response date close LengthName = length_digits response ++ (length_end response ++ from_head_end response)
+text_after response date close LengthName = length_digits response ++ (length_end response
+    ++ from_head_end response)
 text_after response date close Length = length_end response ++ from_head_end response
 text_after response date close LengthEnd = from_head_end response
 text_after response date close HeadEnd = body_text response
@@ -115,7 +136,14 @@ text_after response date close End = []
 
 -- the bytes that are left after so many bytes of a segment
 abbrev pub left_at : Response → List ℕ → Bool → Segment → ℕ → List ℕ
-left_at response date close segment offset = drop offset (segment_text response date close segment) ++ text_after response date close segment
+left_at response date close segment offset =
+    drop offset (segment_text response date close segment)
+    ++ text_after response date close segment
+
+-- those after a cursor
+abbrev pub left_of : Response → HeadParts → Cursor → List ℕ
+left_of response head cursor =
+    left_at response head.date head.close cursor.segment cursor.offset
 
 -- how many segments are still to come at most, with so many fields
 abbrev pub segments_left : ℕ → Segment → ℕ
@@ -138,7 +166,8 @@ segments_left fields HeadEnd = 2
 segments_left fields Body = 1
 segments_left fields End = 0
 
--- The first of the bytes that were left are copied to the beginning of a slice, and the others are left.
+-- The first of the bytes that were left are copied to the beginning of a slice, and the others are
+-- left.
 pub record Copies (old new slice_old slice_new : List ℕ) (count : ℕ) : Type 0 where
   pub within : count ≤ length old
   pub room : count ≤ length slice_old

@@ -1,5 +1,6 @@
 -- The bytes of a response (RFC 9112, sections 2 to 6).
-use Rattle.std.specs.Prelude.{◌≡◌, ℕ, Bool, ◌&&◌, ◌||◌, not, ◌==◌, nat_lt, if◌then◌else◌, List, [], ◌++◌, length, IsTrue, unwrap_or, codes, decimal}
+use Rattle.std.specs.Prelude.{◌≡◌, ℕ, Bool, ◌&&◌, ◌||◌, not, ◌==◌, nat_lt, if◌then◌else◌, List, []}
+use Rattle.std.specs.Prelude.{◌++◌, length, IsTrue, unwrap_or, codes, decimal}
 use Rattle.std.specs.List.{flat_map, list_all}
 use Rattle.http.specs.StatusCode.{reason_phrase, code_digits}
 use Rattle.pod_base.specs.declared.field.Field.{Field}
@@ -28,7 +29,9 @@ field_lines fields = flat_map (λ f. field_line f.name f.value) fields
 
 -- The connection closes after this response. An upgraded connection says so otherwise.
 abbrev pub closing_line : ℕ → Bool → List ℕ
-closing_line status close = if close then (if status == 101 then [] else field_line (codes "Connection") (codes "close")) else []
+closing_line status close =
+    if close then (if status == 101 then [] else field_line (codes "Connection") (codes "close"))
+    else []
 
 -- A response of this status has no length and no body: 1xx, 204 and 304 (RFC 9112, section 6.3).
 abbrev pub has_no_length : ℕ → Bool
@@ -38,34 +41,37 @@ has_no_length status = nat_lt status 200 || (status == 204 || status == 304)
 abbrev pub body_length : Body → ℕ
 body_length Absent = 0
 body_length (Whole bytes) = length bytes
-body_length (LengthOnly told) = told
+body_length (LengthOnly only) = only
 
 abbrev pub length_line : Response → List ℕ
 length_line response =
-    if has_no_length response.status then [] else field_line (codes "Content-Length") (decimal (body_length response.body))
+    if has_no_length response.status then []
+    else field_line (codes "Content-Length") (decimal (body_length response.body))
 
 -- the bytes of a body that are sent
 abbrev pub body_bytes : Body → List ℕ
 body_bytes Absent = []
 body_bytes (Whole bytes) = bytes
-body_bytes (LengthOnly told) = []
+body_bytes (LengthOnly only) = []
 
 -- the bytes of a response's body: none, whatever its body, where its status has no length
 abbrev pub body_text : Response → List ℕ
 body_text response = if has_no_length response.status then [] else body_bytes response.body
 
--- The bytes of a response with that date: the status line, the date, the response's own fields, the closing of the
--- connection, the length, an empty line and the body.
+-- The bytes of a response with that date: the status line, the date, the response's own fields, the
+-- closing of the connection, the length, an empty line and the body.
 abbrev pub response_text : Response → List ℕ → Bool → List ℕ
 response_text response date close =
     status_line response.status ++ field_line (codes "Date") date ++ field_lines response.fields
-    ++ closing_line response.status close ++ length_line response ++ codes "\r\n" ++ body_text response
+    ++ closing_line response.status close ++ length_line response ++ codes "\r\n"
+    ++ body_text response
 
 -- the same response without a body
 abbrev pub without_body : Response → Response
 without_body response = record { status = response.status; fields = response.fields; body = Absent }
 
--- Where the status has no length, the bytes are those without a body, whatever the response's body is.
+-- Where the status has no length, the bytes are those without a body, whatever the response's body
+-- is.
 abbrev pub NoBodyWithoutLength : Type 0
 NoBodyWithoutLength =
     (response : Response) (date : List ℕ) (close : Bool) → IsTrue (has_no_length response.status)

@@ -1,7 +1,7 @@
 //! A position in a response's text, and the copying of bytes from there on.
 
 ghost use Rattle.std.specs.Prelude.{◌≡◌, ◌≢◌, ◌<◌, ◌+◌, ◌-◌, min, length};
-ghost use Rattle.http_out.specs.Segments.{Copies, left_at, segments_left};
+ghost use Rattle.http_out.specs.Segments.{Copies, left_of, segments_left};
 
 use crate::head_parts::HeadParts;
 use crate::segment::Segment;
@@ -22,7 +22,8 @@ fn field_count(fields: &Fields) -> usize
     fields.list.len()
 }
 
-/// Copies bytes of the segment at the cursor, and goes to the next segment where there is room for more.
+/// Copies bytes of the segment at the cursor, and goes to the next segment where there is room for
+/// more.
 fn copy_next(
     response: &Response,
     head: &HeadParts,
@@ -32,9 +33,10 @@ fn copy_next(
     requires code { head.now.code ≡ response.now.status }
     requires not_end { cursor.old.segment ≢ Segment.End }
     requires some { 0 < length into.old }
-    ensures copies { Copies (left_at response.now head.now.date head.now.close cursor.old.segment cursor.old.offset)
-        (left_at response.now head.now.date head.now.close cursor.new.segment cursor.new.offset) into.old into.new result }
-    ensures nearer { segments_left (length response.now.fields) cursor.new.segment + (length into.old - result)
+    ensures copies { Copies (left_of response.now head.now cursor.old)
+        (left_of response.now head.now cursor.new) into.old into.new result }
+    ensures nearer { segments_left (length response.now.fields) cursor.new.segment
+        + (length into.old - result)
         < segments_left (length response.now.fields) cursor.old.segment + length into.old }
 {
     let count = copy_segment(response, head, cursor.segment, cursor.offset, into);
@@ -55,10 +57,10 @@ pub(crate) fn fill(
     into: &mut [u8],
 ) -> usize
     requires { head.now.code ≡ response.now.status }
-    ensures copies { Copies (left_at response.now head.now.date head.now.close cursor.old.segment cursor.old.offset)
-        (left_at response.now head.now.date head.now.close cursor.new.segment cursor.new.offset) into.old into.new result }
-    ensures count { result ≡ min (length (left_at response.now head.now.date head.now.close cursor.old.segment cursor.old.offset))
-        (length into.old) }
+    ensures copies { Copies (left_of response.now head.now cursor.old)
+        (left_of response.now head.now cursor.new) into.old into.new result }
+    ensures count { result
+        ≡ min (length (left_of response.now head.now cursor.old)) (length into.old) }
 {
     let mut count = 0;
     while count < into.len() && !cursor.segment.is_end() {

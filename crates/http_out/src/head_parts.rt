@@ -1,4 +1,5 @@
-//! What a response's head has beside the response itself: the status as a code, the date, and the closing.
+//! What a response's head has beside the response itself: the status as a code, the date, and the
+//! closing.
 
 ghost use Rattle.std.specs.Prelude.{◌≡◌, ◌≤◌, ◌<◌};
 ghost use Rattle.http_out.specs.Dates.{IsDateOf};

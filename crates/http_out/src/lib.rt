@@ -6,9 +6,10 @@
 //! let text = bytes_of(alloc, &response, moment, close)?;
 //! ```
 //!
-//! [`Out`] gives the bytes in pieces of any size and takes no memory; [`bytes_of`] gives them all. Both are the text of
-//! one definition (`response_text` of `specs/`). [`interim`], [`memory_text`] and [`disk_text`] are fixed, for moments
-//! at which no memory can be asked for. [`laws`] states that a status without a length has no body.
+//! [`Out`] gives the bytes in pieces of any size and takes no memory; [`bytes_of`] gives them all.
+//! Both are the text of one definition (`response_text` of `specs/`). [`interim`], [`memory_text`]
+//! and [`disk_text`] are fixed, for moments at which no memory can be asked for. [`laws`] states
+//! that a status without a length has no body.
 #![tactic(auto)]
 
 mod cursor;
@@ -21,6 +22,3 @@ mod segment_bytes;
 
 pub use fixed_responses::{disk_text, interim, memory_text};
 pub use out::{Out, bytes_of};
-
-#[cfg(test)]
-mod tests;

@@ -7,7 +7,7 @@ ghost use Rattle.http_out.specs.Text.{response_text, AreFieldLines};
 use crate::cursor::{Cursor, fill};
 use crate::head_parts::HeadParts;
 use crate::segment::Segment;
-use pod_base::{Bytes, Mem, Moment, Response};
+use pod_base::{Bytes, BytesBuilder, Mem, Moment, Response};
 use std::alloc::Global;
 use std::marker::Model;
 
@@ -23,11 +23,11 @@ pub struct Out {
 
 impl Model for Out {
     ghost use Rattle.std.specs.Prelude.{◌≡◌, List, ℕ};
-    ghost use Rattle.http_out.specs.Segments.{left_at};
+    ghost use Rattle.http_out.specs.Segments.{left_of};
 
     ghost Value = { List ℕ };
 
-    ghost view = { λ o. left_at o.response o.head.date o.head.close o.cursor.segment o.cursor.offset };
+    ghost view = { λ o. left_of o.response o.head o.cursor };
 
     ghost invariant = { λ o. o.head.code ≡ o.response.status };
 }
@@ -39,12 +39,13 @@ const START: Cursor = Cursor {
 };
 
 impl Out {
-    /// The bytes of a response of that moment, on a connection that closes after it or stays open (RFC 9112, sections
-    /// 2 to 6). The fields must not break their lines.
+    /// The bytes of a response of that moment, on a connection that closes after it or stays open
+    /// (RFC 9112, sections 2 to 6). The fields must not break their lines.
     pub fn new(response: Response, moment: Moment, close: bool) -> Out
         requires status { (100 ≤ response.status) × (response.status < 600) }
         requires fields { AreFieldLines response.fields }
-        ensures { (date : List ℕ) × IsDateOf moment.0 date × (result ≡ response_text response date close) }
+        ensures { (date : List ℕ) × IsDateOf moment.0 date
+            × (result ≡ response_text response date close) }
     {
         Out {
             head: HeadParts::new(response.status, moment, close),
@@ -53,8 +54,9 @@ impl Out {
         }
     }
 
-    /// Copies the next bytes to the beginning of a slice, as many as there is room for, and returns how many. The other
-    /// bytes of the slice stay. Where no byte is left it returns 0, and only there, since the slice has room.
+    /// Copies the next bytes to the beginning of a slice, as many as there is room for, and returns
+    /// how many. The other bytes of the slice stay. Where no byte is left it returns 0, and only
+    /// there, since the slice has room.
     pub fn next(&mut self, into: &mut [u8]) -> usize
         requires { 0 < length into.old }
         ensures count { result ≡ min (length self.old) (length into.old) }
@@ -78,11 +80,11 @@ pub fn bytes_of(alloc: Global, response: &Response, moment: Moment, close: bool)
     let head = HeadParts::new(response.status, moment, close);
     let mut cursor = START;
     let mut piece = [0; PIECE_LENGTH];
-    let mut text = Vec::new(alloc);
+    let mut text = BytesBuilder::new(alloc);
     let mut count = fill(response, &head, &mut cursor, &mut piece);
     while count > 0 {
-        text.extend_from_slice(&piece[..count])?;
+        text.append(alloc, &piece[..count])?;
         count = fill(response, &head, &mut cursor, &mut piece);
     }
-    Ok(Bytes::from_vec(text))
+    text.freeze(alloc)
 }

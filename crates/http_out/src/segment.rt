@@ -3,7 +3,8 @@
 ghost use Rattle.std.specs.Prelude.{◌≡◌, ◌≢◌, ◌<◌, ◌++◌, Bool, false, IsTrue, List, ℕ, length};
 ghost use Rattle.http_out.specs.Segments.{segment_text, text_after, segments_left};
 
-/// The segments of a response's text, in their order. Those of a field's line have the field's number, from 0.
+/// The segments of a response's text, in their order. Those of a field's line have the field's
+/// number, from 0.
 #[derive(Clone, Copy, Debug, PartialEq, Eq)]
 pub(crate) enum Segment {
     Version,
@@ -39,9 +40,12 @@ impl Segment {
 
     /// The segment after it, in a response with so many fields.
     pub(crate) fn next(self, fields: usize) -> Segment
-        ensures after { (response : Whole) (date : List ℕ) (close : Bool) → length response.fields ≡ fields
-            → segment_text response date close result ++ text_after response date close result ≡ text_after response date close self }
-        ensures nearer { self ≢ Segment.End → segments_left fields result < segments_left fields self }
+        ensures after { (response : Whole) (date : List ℕ) (close : Bool)
+            → length response.fields ≡ fields
+            → segment_text response date close result ++ text_after response date close result
+                ≡ text_after response date close self }
+        ensures nearer { self ≢ Segment.End
+            → segments_left fields result < segments_left fields self }
     {
         match self {
             Segment::Version => Segment::Code,

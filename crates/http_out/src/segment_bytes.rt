@@ -1,9 +1,11 @@
 //! The bytes of each segment of a response's text, copied into a slice.
 
-ghost use Rattle.std.specs.Prelude.{◌≡◌, ◌≢◌, ◌<◌, ◌+◌, ◌-◌, ◌^◌, ◌∷◌, ◌++◌, [], min, take, drop, length, IfSome, IfNone};
+ghost use Rattle.std.specs.Prelude.{◌≡◌, ◌≢◌, ◌<◌, ◌+◌, ◌-◌, ◌^◌, ◌∷◌, ◌++◌, [], min, take, drop};
+ghost use Rattle.std.specs.Prelude.{length, IfSome, IfNone};
 ghost use Rattle.std.specs.Option.{option_copied};
 ghost use Rattle.http_out.specs.Text as text;
-ghost use Rattle.http_out.specs.Segments.{length_digits, name_of, colon_of, value_of, line_end_of, segment_text};
+ghost use Rattle.http_out.specs.Segments.{length_digits, name_of, colon_of, value_of, line_end_of};
+ghost use Rattle.http_out.specs.Segments.{segment_text};
 
 use crate::head_parts::{HeadParts, phrase_of};
 use crate::segment::Segment;
@@ -24,7 +26,8 @@ fn copy_bytes(text: &[u8], offset: usize, into: &mut [u8]) -> usize
 
 /// The field of that number.
 fn field_at(fields: &Fields, i: usize) -> Option<&Field>
-    ensures some { IfSome (option_copied result) (λ f. drop i fields.now ≡ f ∷ drop (i + 1) fields.now) }
+    ensures some { IfSome (option_copied result) (λ f. drop i fields.now
+        ≡ f ∷ drop (i + 1) fields.now) }
     ensures none { IfNone result (drop i fields.now ≡ []) }
 {
     fields.list.as_slice().get(i)
@@ -83,7 +86,8 @@ fn body_bytes(response: &Response) -> &[u8]
 /// The bytes of a segment, but for the digits of the length.
 fn segment_bytes<'a>(response: &'a Response, head: &'a HeadParts, segment: Segment) -> &'a [u8]
     requires { head.now.code ≡ response.now.status }
-    ensures { segment ≢ Segment.Length → result.now ≡ segment_text response.now head.now.date head.now.close segment }
+    ensures { segment ≢ Segment.Length → result.now
+        ≡ segment_text response.now head.now.date head.now.close segment }
 {
     match segment {
         Segment::Version => b"HTTP/1.1 ",
@@ -118,7 +122,8 @@ fn body_length(body: &Body) -> u64
 /// Copies the digits of the length from a byte on, as far as they go: returns how many bytes.
 fn copy_length(response: &Response, offset: usize, into: &mut [u8]) -> usize
     ensures count { result ≡ min (length (length_digits response.now) - offset) (length into.old) }
-    ensures copied { into.new ≡ take result (drop offset (length_digits response.now)) ++ drop result into.old }
+    ensures copied { into.new ≡ take result (drop offset (length_digits response.now))
+        ++ drop result into.old }
     ensures fits { offset + result < 2 ^ 64 }
 {
     if has_no_length(response.status) {
@@ -138,9 +143,11 @@ pub(crate) fn copy_segment(
     into: &mut [u8],
 ) -> usize
     requires { head.now.code ≡ response.now.status }
-    ensures count { result ≡ min (length (segment_text response.now head.now.date head.now.close segment) - offset)
+    ensures count { result
+        ≡ min (length (segment_text response.now head.now.date head.now.close segment) - offset)
         (length into.old) }
-    ensures copied { into.new ≡ take result (drop offset (segment_text response.now head.now.date head.now.close segment))
+    ensures copied { into.new
+        ≡ take result (drop offset (segment_text response.now head.now.date head.now.close segment))
         ++ drop result into.old }
     ensures fits { offset + result < 2 ^ 64 }
 {

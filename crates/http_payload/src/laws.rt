@@ -3,7 +3,7 @@
 ghost use Rattle.http_payload.specs.Laws.{HasOneEnd, FaultStays, HasOneFault, BodyHasNoFault, PartialHasNoFault, PartialHasNoBody, BodyBeginsPartial, PartialBeginsPartial};
 
 /// A text has one reading: a body at its front, or a fault, or neither of them yet, and not two of these.
-pub fn one_reading()
+pub fn one_outcome()
     ensures one_end { HasOneEnd }
     ensures one_fault { HasOneFault }
     ensures body { BodyHasNoFault }

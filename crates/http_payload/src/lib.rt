@@ -5,15 +5,15 @@
 //! which ones are at fault, and which ones are the beginning of a body.
 #![tactic(auto)]
 
-mod fault;
+mod chunk_line;
+mod feed_loop;
 pub mod laws;
-mod line;
 mod payload;
-mod run;
+mod payload_fault;
 mod stage;
 
-pub use fault::PayloadFault;
 pub use payload::{Fed, Payload};
+pub use payload_fault::PayloadFault;
 
 #[cfg(test)]
 mod tests;

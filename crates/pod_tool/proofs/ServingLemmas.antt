@@ -4,8 +4,8 @@ use Rattle.std.specs.List.{AllByRecursion, list_all}
 use Rattle.std.proofs.lemmas.Bool.Decides.{nat_tests}
 use Rattle.std.proofs.lemmas.List.{append-nil}
 use Rattle.http_conn.specs.Messages.{Messages, unfinished, in_head, AreFirstEvents, NothingAfterEnd, StaysOpen}
-use Rattle.http_conn.specs.ParserStates.{Stands, rest_of}
-use Rattle.http_conn.specs.declared.parser_state.ParserState.{Stage}
+use Rattle.http_conn.specs.ParserStates.{Represents, rest_of}
+use Rattle.http_conn.specs.declared.parser_state.ParserState.{ParserState}
 use Rattle.http_conn.proofs.EndLemmas.{ends_there, ended_rest}
 use Rattle.http_conn.proofs.LongerTexts.{events_stay_first}
 use Rattle.http_conn.proofs.StepLemmas.{represents_messages}
@@ -29,12 +29,12 @@ use Rattle.pod_tool.proofs.RefusedLemmas.{are_refused}
 use Rattle.pod_tool.proofs.TalksLemmas.{nothing_added, adds_more, stops_before, serves_before}
 
 -- What was read so far was answered, and the connection is open.
-pub record Serving (may_give : ℕ → Type 0) (owner : List ℕ) (stage : Stage) (talk : Talk) (old_input new_input old_output new_output : Option (List ℕ)) (pieces : ℕ) : Type 0 where
+pub record Serving (may_give : ℕ → Type 0) (owner : List ℕ) (stage : ParserState) (talk : Talk) (old_input new_input old_output new_output : Option (List ℕ)) (pieces : ℕ) : Type 0 where
   pub text : List ℕ
   pub heard : List Heard
   pub written : List ℕ
   pub reads : Reads text old_input new_input
-  pub stands : Stands stage text heard
+  pub stands : Represents stage text heard
   pub talks : Talks may_give owner talk heard written
   pub sound : IsSound talk
   pub writes : Adds written old_output new_output
@@ -44,7 +44,7 @@ pub nothing_read : (rest : Option (List ℕ)) → Reads [] rest rest
 nothing_read None = refl
 nothing_read (Some bytes) = refl
 
-pub begins : (may_give : ℕ → Type 0) (stage : Stage) (keeper : Keeper) (input output : Option (List ℕ)) → IsNew keeper → Stands stage [] []
+pub begins : (may_give : ℕ → Type 0) (stage : ParserState) (keeper : Keeper) (input output : Option (List ℕ)) → IsNew keeper → Represents stage [] []
     → Serving may_give keeper.pod.owner stage (record { keeper = keeper; number = 0 }) input input output output 0
 begins may_give stage keeper input output new stands = record {
   text = [];
@@ -77,7 +77,7 @@ first_heard text more hears those rest m = hears_first (text ++ more) hears (rec
 all_first : (text : List ℕ) (hears : List Heard) (rest : ℕ) → Messages text hears rest → HearsFirst text hears
 all_first text hears rest m = hears_first text hears (record { front = text; behind = []; cut = append-nil text; all = hears; rest = rest; messages = m; more = []; is = sym (append-nil hears) })
 
-module _ (may_give : ℕ → Type 0) (owner : List ℕ) (stage : Stage) (talk : Talk) (old_input new_input old_output new_output : Option (List ℕ)) (pieces : ℕ) (s : Serving may_give owner stage talk old_input new_input old_output new_output pieces) where
+module _ (may_give : ℕ → Type 0) (owner : List ℕ) (stage : ParserState) (talk : Talk) (old_input new_input old_output new_output : Option (List ℕ)) (pieces : ℕ) (s : Serving may_give owner stage talk old_input new_input old_output new_output pieces) where
   messages : Messages s.text s.heard (rest_of stage)
   messages = represents_messages stage s.text s.heard s.stands
 
@@ -153,7 +153,7 @@ module _ (may_give : ℕ → Type 0) (owner : List ℕ) (stage : Stage) (talk : 
       writes = s.writes;
     }
 
-    module _ (next : Stage) (those : List Heard) (rest : ℕ) (m : Messages (s.text ++ piece) (s.heard ++ those) rest) where
+    module _ (next : ParserState) (those : List Heard) (rest : ℕ) (m : Messages (s.text ++ piece) (s.heard ++ those) rest) where
       count_is : 0 + length (requests_of s.heard) ≡ talk.number
       count_is = omega (arith, s.talks.number, all_have_items may_give owner (requests_of s.heard) s.talks.items s.talks.history s.talks.progress)
 
@@ -165,7 +165,7 @@ module _ (may_give : ℕ → Type 0) (owner : List ℕ) (stage : Stage) (talk : 
       statuses = refused_behind s.heard those (are_refused (s.text ++ piece) (s.heard ++ those) rest m)
 
       -- all of it was answered
-      pub goes_on : Stands next (s.text ++ piece) (s.heard ++ those) → (after : Talk) (text : List ℕ) (output : Option (List ℕ)) → Adds text new_output output
+      pub goes_on : Represents next (s.text ++ piece) (s.heard ++ those) → (after : Talk) (text : List ℕ) (output : Option (List ℕ)) → Adds text new_output output
           → TurnsIn may_give talk after those text (Ok tt) → IsSound after → 0 < length piece → Serving may_give owner next after old_input last_input old_output output (pieces + 1)
       goes_on stands after text output adds t sound some =
           let whole : t.front ≡ those = sym (append-nil t.front) ∙ ap (λ b. t.front ++ b) (sym t.over) ∙ t.cut in

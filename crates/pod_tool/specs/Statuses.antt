@@ -1,5 +1,6 @@
 use Rattle.std.specs.Prelude.{◌≡◌, ◌⊎◌, ℕ, ◌^◌, ◌<◌, ◌≤◌, List, [], ◌++◌, length, take, Option, Some, None, codes, decimal}
-use Rattle.http_conn.specs.Messages.{Messages, AreFirstEvents, StaysOpen, most_requests}
+use Rattle.http_conn.specs.Messages.{Messages, AreFirstEvents, StaysOpen}
+use Rattle.http_conn.specs.declared.events.TheConstants.{REQUEST_LIMIT}
 use Rattle.pod_base.specs.declared.heard.Heard.{Heard}
 use Rattle.pod_io.specs.Counts.{Rose}
 use Rattle.pod_tool.specs.Reads.{Reads, AtEnd}
@@ -39,8 +40,8 @@ pub record HearsFirst (read : List ℕ) (heard : List Heard) : Type 0 where
 abbrev pub IsHeard : PipeEnd → List ℕ → List Heard → Option (List ℕ) → Type 0
 IsHeard Peer read heard left = Messages read heard 0 × StaysOpen 0 heard × AtEnd left
 IsHeard (Cut rest) read heard left = Messages read heard rest × (0 < rest) × StaysOpen 0 heard × AtEnd left
-IsHeard Closed read heard left = Messages read heard 0 × IsLastHeard heard × (length (requests_of heard) < most_requests)
-IsHeard Limit read heard left = Messages read heard 0 × IsLastHeard heard × (length (requests_of heard) ≡ most_requests)
+IsHeard Closed read heard left = Messages read heard 0 × IsLastHeard heard × (length (requests_of heard) < REQUEST_LIMIT)
+IsHeard Limit read heard left = Messages read heard 0 × IsLastHeard heard × (length (requests_of heard) ≡ REQUEST_LIMIT)
 IsHeard (Bad status) read heard left = Messages read heard 0 × (bad_status heard ≡ Some status)
 IsHeard ReadFault read heard left = (rest : ℕ) × Messages read heard rest × StaysOpen 0 heard
 IsHeard Bounded read heard left = (rest : ℕ) × Messages read heard rest × StaysOpen 0 heard × (2 ^ 40 ≤ length read)

@@ -1,6 +1,6 @@
 ghost use Rattle.std.specs.Prelude.{◌≡◌, ◌≤◌, ◌<◌, ◌+◌, ◌^◌, ◌==◌, ◌∷◌, [], ℕ, List, length, IsTrue, IfOk, IfErr, OnOk, if◌then◌else◌};
 ghost use Rattle.std.specs.List.{AllByRecursion, list_all};
-ghost use Rattle.http_conn.specs.Messages.{NothingAfterEnd, most_requests};
+ghost use Rattle.http_conn.specs.Messages.{NothingAfterEnd};
 ghost use Rattle.http_out.specs.Dates.{Dated};
 ghost use Rattle.http_out.specs.Text.{interim_text, stays_in_line};
 ghost use Rattle.pod_base.specs.declared.heard.Heard.TheVariants as hears;
@@ -37,7 +37,7 @@ fn closes_after(request: &Request, number: u64) -> bool
 
 /// The end behind the last request of a connection, by its number.
 fn end_behind(number: u64) -> PipeEnd
-    ensures { result ≡ (if number == most_requests then PipeEnd.Limit else PipeEnd.Closed) }
+    ensures { result ≡ (if number == REQUEST_LIMIT then PipeEnd.Limit else PipeEnd.Closed) }
 {
     if number == REQUEST_LIMIT {
         PipeEnd::Limit

@@ -3,7 +3,7 @@ use Rattle.std.proofs.lemmas.List.{take-append-drop}
 use Rattle.http_conn.proofs.StepLemmas.{goes_on}
 use Rattle.http_conn.proofs.parse_piece.parse_piece.Goals as goal
 
--- one parse_step more
+-- one step more
 pub loop-rest-preserved : goal.loop-rest-preserved
 loop-rest-preserved c =
     let partial = c.loop-rest.invariant.1 in

@@ -1,6 +1,6 @@
 use Rattle.std.proofs.Common.{◌≡◌, ◌≢◌, ℕ, List, [], ◌++◌, take, drop, sym, subst}
 use Rattle.std.proofs.lemmas.List.{take-append-drop}
-use Rattle.http_payload.specs.declared.fault.PayloadFault.TheVariants.{Malformed, TooLarge, NoMemory}
+use Rattle.http_payload.specs.declared.payload_fault.PayloadFault.TheVariants.{Malformed, TooLarge, NoMemory}
 use Rattle.http_payload.specs.Bodies.{IsBody, IsFault, IsPartial}
 use Rattle.http_payload.proofs.LawLemmas.{no_body_at_partial, no_fault_at_body}
 use Rattle.http_conn.proofs.single_request.first_body.Goals as goal
@@ -9,7 +9,7 @@ use Rattle.http_conn.proofs.single_request.first_body.Goals as goal
 pub returns-then-fed-clause-some : goal.returns-then-fed-clause-some
 returns-then-fed-clause-some c =
     (c.in-Ok.ensures.within,
-    subst (IsBody c.args.form (take c.in-Ok.fed.taken c.args.bytes.now)) (sym c.body.ensures.bytes)
+    subst (IsBody c.args.form (take c.in-Ok.fed.taken c.args.bytes.now)) (sym c.in_ok-body-in-Ok.ensures.bytes)
     (c.in-Ok.ensures.whole c.if-fed.true c.args.form [] c.new-payload.ensures))
 
 -- it is not, and no other one is

@@ -1,5 +1,5 @@
 use Rattle.std.proofs.Common.{◌≡◌, ◌⊎◌, ◌≤◌, ◌<◌, true, false, ℕ, List, length, take, drop, sym, ap, subst, ◌∙◌}
-use Rattle.http_head.specs.Wishes.{closes}
+use Rattle.http_head.specs.Persistence.{closes}
 use Rattle.http_payload.specs.Bodies.{IsBody}
 use Rattle.http_conn.specs.SingleRequest.{AreEmptyLines}
 use Rattle.http_conn.proofs.SingleRequestLemmas.{is_one_request, waits_not_one, no_body_not_one, more_not_one}

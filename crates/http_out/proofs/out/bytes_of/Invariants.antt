@@ -7,8 +7,8 @@ use Rattle.http_out.proofs.out.bytes_of.Given as goal
 abbrev pub invariant-loop-count : goal.invariant-loop-count
 invariant-loop-count l =
     let left : List ℕ = left_at l.response l.head.date l.head.close l.cursor.segment l.cursor.offset in
-    (l.text.items ++ (take l.count l.piece ++ left) ≡ left_at l.response l.head.date l.head.close Version 0)
-    × (l.count ≤ length l.piece) × (l.count ≡ 0 → left ≡ [])
+    (l.text ++ (take l.count l.piece ++ left) ≡ left_at l.response l.head.date l.head.close Version 0)
+    × (length l.piece ≡ 1_024) × (l.count ≤ length l.piece) × (l.count ≡ 0 → left ≡ [])
 
 -- the bytes that are still to be appended
 abbrev pub decreases-loop-count : goal.decreases-loop-count
