@@ -5,7 +5,7 @@ use Rattle.pod_base.specs.declared.request.Request.{Request}
 use Rattle.pod_base.specs.declared.heard.Heard.{Heard}
 use Rattle.pod_base.specs.declared.heard.Heard.TheVariants as heard
 use Rattle.http_head.specs.BodyFraming.{framing}
-use Rattle.http_conn.specs.Messages.{IsBadMessage, bad_head, bad_body, status_of, IsPartialMessage, in_head, in_body, IsOpen, IsLastRequest, NothingAfterEnd, StaysOpen, Messages, events_of, request_events, interim_of, waits_for, closes_after}
+use Rattle.http_conn.specs.Messages.{IsBadMessage, bad_head, bad_body, status_of, IsPartialMessage, in_head, in_body, IsOpen, IsLastRequest, NothingAfterEnd, StaysOpen, Messages, events_of, request_events, interim_of, waits_for, closes_connection}
 use Rattle.http_conn.specs.declared.events.TheConstants.{REQUEST_LIMIT}
 use Rattle.http_conn.proofs.Parses.{Parses, partly, badly, last, next, reads_of}
 
@@ -30,7 +30,7 @@ ends_bad n text _ _ (bad_body len parsed form fault h f) =
     ends_behind n (waits_for parsed.minor parsed.fields (framing parsed.minor parsed.fields)) (heard.Bad (status_of fault) ∷ []) refl
 
 -- a request that closes, or the last of so many, isn't one that stays
-not_end : (n : ℕ) (r : Request) → closes_after r ≡ false → n + 1 < REQUEST_LIMIT → IsLastRequest n r → ⊥
+not_end : (n : ℕ) (r : Request) → closes_connection r ≡ false → n + 1 < REQUEST_LIMIT → IsLastRequest n r → ⊥
 not_end n r stays few (inl closing) = let never : true ≡ false = sym closing ∙ stays in cc
 not_end n r stays few (inr full) = omega (arith, full, few)
 
@@ -62,12 +62,12 @@ open_partial n text _ (in_head e) = tt
 open_partial n text _ (in_body len parsed form h p) = open_alone n (waits_for parsed.minor parsed.fields (framing parsed.minor parsed.fields))
 
 -- one request before what stays open
-open_one : (n : ℕ) (r : Request) (events : List Heard) → closes_after r ≡ false → n + 1 < REQUEST_LIMIT → StaysOpen (n + 1) events → StaysOpen n (request_events r ++ events)
+open_one : (n : ℕ) (r : Request) (events : List Heard) → closes_connection r ≡ false → n + 1 < REQUEST_LIMIT → StaysOpen (n + 1) events → StaysOpen n (request_events r ++ events)
 open_one n r events stays few h =
     subst (StaysOpen n) (sym (append_assoc (interim_of r.minor r.fields) (heard.Request r ∷ []) events))
     (open_behind n (waits_for r.minor r.fields (framing r.minor r.fields)) (heard.Request r ∷ events) (not_end n r stays few, h))
 
-open_requests : (requests : List Request) (n : ℕ) (events : List Heard) → AllByRecursion (λ r. closes_after r ≡ false) requests → n + length requests < REQUEST_LIMIT
+open_requests : (requests : List Request) (n : ℕ) (events : List Heard) → AllByRecursion (λ r. closes_connection r ≡ false) requests → n + length requests < REQUEST_LIMIT
     → StaysOpen (n + length requests) events → StaysOpen n (events_of requests ++ events)
 open_requests [] n events stays few h = subst (λ i. StaysOpen i events) (omega arith) h
 open_requests (r ∷ requests) n events stays few h =

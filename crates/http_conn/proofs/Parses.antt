@@ -19,7 +19,7 @@ use Rattle.http_head.proofs.HeadLaws.{one_parsed_head, lacks_no_head}
 use Rattle.http_payload.specs.Chunks as chunks
 use Rattle.http_payload.specs.Bodies.{IsBody, IsFault, IsPartial as IsPartialBody}
 use Rattle.http_payload.proofs.LawLemmas.{one_outcome, one_fault, no_fault_at_body, no_fault_at_partial, no_body_at_partial}
-use Rattle.http_conn.specs.Messages.{HasHead, IsFirstRequest, Requests, IsBadHead, too_long, too_many, malformed, host, conflict, coding, too_large, IsBadMessage, bad_head, bad_body, status_of, IsPartialMessage, in_head, in_body, Messages, unfinished, refused, ended, events_of, request_events, interim_of, with_body, rest_length, closes_after, IsLastRequest}
+use Rattle.http_conn.specs.Messages.{HasHead, IsFirstRequest, Requests, IsBadHead, too_long, too_many, malformed, host, conflict, coding, too_large, IsBadMessage, bad_head, bad_body, status_of, IsPartialMessage, in_head, in_body, Messages, unfinished, refused, ended, events_of, request_events, interim_of, with_body, rest_length, closes_connection, IsLastRequest}
 use Rattle.http_conn.specs.declared.events.TheConstants.{REQUEST_LIMIT}
 
 length_of : HeadEnd → ℕ
@@ -226,12 +226,12 @@ pub data Parses : ℕ → List ℕ → List Heard → ℕ → Type 0 where
   partly : {n : ℕ} {text : List ℕ} (events : List Heard) → IsPartialMessage text events → Parses n text events (rest_length text)
   badly : {n : ℕ} {text : List ℕ} (events : List Heard) (status : ℕ) → IsBadMessage text events status → Parses n text (events ++ heard.Bad status ∷ []) 0
   last : {n : ℕ} {text : List ℕ} (r : Request) (len : ℕ) → IsFirstRequest text r len → IsLastRequest n r → Parses n text (request_events r) 0
-  next : {n : ℕ} {text : List ℕ} (r : Request) (len : ℕ) (events : List Heard) (rest : ℕ) → IsFirstRequest text r len → closes_after r ≡ false → n + 1 < REQUEST_LIMIT → Parses (n + 1) (drop len text) events rest
+  next : {n : ℕ} {text : List ℕ} (r : Request) (len : ℕ) (events : List Heard) (rest : ℕ) → IsFirstRequest text r len → closes_connection r ≡ false → n + 1 < REQUEST_LIMIT → Parses (n + 1) (drop len text) events rest
       → Parses n text (request_events r ++ events) rest
 
-pub last_not_next : (n : ℕ) (r q : Request) → r ≡ q → IsLastRequest n r → closes_after q ≡ false → n + 1 < REQUEST_LIMIT → ⊥
+pub last_not_next : (n : ℕ) (r q : Request) → r ≡ q → IsLastRequest n r → closes_connection q ≡ false → n + 1 < REQUEST_LIMIT → ⊥
 last_not_next n r q same (inl closing) stays few =
-    let never : true ≡ false = sym closing ∙ ap closes_after same ∙ stays in
+    let never : true ≡ false = sym closing ∙ ap closes_connection same ∙ stays in
     cc
 last_not_next n r q same (inr full) stays few = omega (arith, full, few)
 
@@ -259,7 +259,7 @@ reads_one n text _ _ _ _ (next r k a i x d e u) (next q m b l y c f z) =
     (ap₂ (λ (p : Request) (h : List Heard). request_events p ++ h) first.0 rest.0, rest.1)
 
 -- requests, and then a parse of what is left
-reads_behind : (requests : List Request) (n : ℕ) (text left : List ℕ) (events : List Heard) (rest : ℕ) → Requests text requests left → AllByRecursion (λ r. closes_after r ≡ false) requests
+reads_behind : (requests : List Request) (n : ℕ) (text left : List ℕ) (events : List Heard) (rest : ℕ) → Requests text requests left → AllByRecursion (λ r. closes_connection r ≡ false) requests
     → n + length requests < REQUEST_LIMIT → Parses (n + length requests) left events rest → Parses n text (events_of requests ++ events) rest
 reads_behind [] n text left events rest h stays few reads = subst (λ t. Parses n t events rest) (sym h) (subst (λ i. Parses i left events rest) (omega arith) reads)
 reads_behind (r ∷ requests) n text left events rest h stays few reads =

@@ -13,7 +13,7 @@ use Rattle.http_head.specs.HeadEnds.{blank_length, head_length, length_in, end_o
 use Rattle.http_head.specs.Persistence.{closes}
 use Rattle.http_head.specs.Expectation.{expects_continue}
 use Rattle.http_payload.specs.Bodies.{IsBody}
-use Rattle.http_conn.specs.Messages.{HasHead, IsFirstRequest, Requests, IsBadMessage, bad_head, too_long, IsPartialMessage, in_head, IsOpen, Messages, unfinished, refused, ended, events_of, request_events, interim_of, with_body, rest_length, closes_after}
+use Rattle.http_conn.specs.Messages.{HasHead, IsFirstRequest, Requests, IsBadMessage, bad_head, too_long, IsPartialMessage, in_head, IsOpen, Messages, unfinished, refused, ended, events_of, request_events, interim_of, with_body, rest_length, closes_connection}
 use Rattle.http_conn.specs.SingleRequest.{AreEmptyLines, IsOneRequest}
 use Rattle.std.specs.Option.{option_map}
 use Rattle.http_head.proofs.HeadEndLaws.{in_stays, whole_within}
@@ -59,19 +59,19 @@ many_refused rest e many =
 no_open : IsOpen []
 no_open = record { few = omega arith; stays = tt }
 
-one_open : (r : Request) → closes_after r ≡ false → IsOpen (r ∷ [])
+one_open : (r : Request) → closes_connection r ≡ false → IsOpen (r ∷ [])
 one_open r stays = record { few = omega arith; stays = (stays, tt) }
 
 only_event : (r : Request) → interim_of r.minor r.fields ≡ [] → events_of (r ∷ []) ≡ heard.Request r ∷ []
 only_event r none = ap (λ (i : List Heard). (i ++ heard.Request r ∷ []) ++ []) none
 
-closes_messages : (text : List ℕ) (r : Request) (len : ℕ) → IsFirstRequest text r len → interim_of r.minor r.fields ≡ [] → closes_after r ≡ true
+closes_messages : (text : List ℕ) (r : Request) (len : ℕ) → IsFirstRequest text r len → interim_of r.minor r.fields ≡ [] → closes_connection r ≡ true
     → Messages text (heard.Request r ∷ []) 0
 closes_messages text r len first none closing =
     subst (λ e. Messages text e 0) (only_event r none) (ended [] r (drop len text) (len, first, refl) no_open (inl closing))
 
 open_messages : (text : List ℕ) (r : Request) (len : ℕ) → IsFirstRequest text r len → interim_of r.minor r.fields ≡ [] → AreEmptyLines (drop len text)
-    → length (drop len text) < 16_384 → closes_after r ≡ false → Messages text (heard.Request r ∷ []) 0
+    → length (drop len text) < 16_384 → closes_connection r ≡ false → Messages text (heard.Request r ∷ []) 0
 open_messages text r len first none empty few stays =
     let rest : List ℕ = drop len text in
     let no_rest : rest_length rest ≡ 0 = omega (arith, empty) in
@@ -81,7 +81,7 @@ open_messages text r len first none empty few stays =
     (unfinished (r ∷ []) rest [] (len, first, refl) (one_open r stays) (in_head (few_wait rest empty few))))
 
 some_messages : (text : List ℕ) (r : Request) (len : ℕ) → IsFirstRequest text r len → interim_of r.minor r.fields ≡ [] → AreEmptyLines (drop len text)
-    → (closes_after r ≡ true) ⊎ (length (drop len text) < 16_384) → (closing : Bool) → closes_after r ≡ closing → Messages text (heard.Request r ∷ []) 0
+    → (closes_connection r ≡ true) ⊎ (length (drop len text) < 16_384) → (closing : Bool) → closes_connection r ≡ closing → Messages text (heard.Request r ∷ []) 0
 some_messages text r len first none empty (inl closing) other e = closes_messages text r len first none closing
 some_messages text r len first none empty (inr few) true closing = closes_messages text r len first none closing
 some_messages text r len first none empty (inr few) false stays = open_messages text r len first none empty few stays
@@ -116,7 +116,7 @@ module _ (text : List ℕ) (len : ℕ) (parsed : RequestHead) (form : BodyForm) 
       let none : interim_of parsed.minor parsed.fields ≡ [] = waits_as parsed form h.framed ∙ ap (λ (t : Bool). if t then heard.Interim ∷ [] else []) waits in
       record {
         messages = some_messages text r (len + size) (first_of size body there is_body) none lines
-            (subst (λ (t : List ℕ). (closes_after r ≡ true) ⊎ (length t < 16_384)) cut which) (closes_after r) refl;
+            (subst (λ (t : List ℕ). (closes_connection r ≡ true) ⊎ (length t < 16_384)) cut which) (closes_connection r) refl;
         len = len + size;
         first = first_of size body there is_body;
         empty_lines = lines;
@@ -127,7 +127,7 @@ module _ (text : List ℕ) (len : ℕ) (parsed : RequestHead) (form : BodyForm) 
   waits_not_one waits r one =
       let some : interim_of parsed.minor parsed.fields ≡ heard.Interim ∷ [] = waits_as parsed form h.framed ∙ ap (λ (t : Bool). if t then heard.Interim ∷ [] else []) waits in
       let begins = interim_first 0 text len parsed form (heard.Request r ∷ []) 0 h (reads_of text (heard.Request r ∷ []) 0 one.messages) in
-      let never : heard.Request r ∷ [] ≡ heard.Interim ∷ begins.0 = begins.1 ∙ ap (λ (i : List Heard). i ++ begins.0) some in
+      let never : heard.Request r ∷ [] ≡ heard.Interim ∷ begins.0 = sym begins.1 ∙ ap (λ (i : List Heard). i ++ begins.0) some in
       cc
 
   -- a request has a body

@@ -21,7 +21,7 @@ use Rattle.http_payload.specs.Chunks as chunks
 use Rattle.http_payload.specs.Bodies.{Ends, IsBody}
 use Rattle.http_payload.proofs.Prefixes.{prefixes}
 use Rattle.http_payload.proofs.LawLemmas.{partial_before}
-use Rattle.http_conn.specs.Messages.{HasHead, IsFirstRequest, Requests, IsBadHead, too_long, too_many, malformed, host, conflict, coding, too_large, IsBadMessage, bad_head, bad_body, status_of, IsPartialMessage, in_head, in_body, IsOpen, Messages, unfinished, refused, ended, events_of, interim_of, with_body, rest_length, closes_after}
+use Rattle.http_conn.specs.Messages.{HasHead, IsFirstRequest, Requests, IsBadHead, too_long, too_many, malformed, host, conflict, coding, too_large, IsBadMessage, bad_head, bad_body, status_of, IsPartialMessage, in_head, in_body, IsOpen, Messages, unfinished, refused, ended, events_of, interim_of, with_body, rest_length, closes_connection}
 use Rattle.http_conn.specs.declared.events.TheConstants.{REQUEST_LIMIT}
 use Rattle.http_head.proofs.HeadEndLaws.{whole_within}
 use Rattle.http_conn.proofs.StepLemmas.{requests_snoc}
@@ -88,13 +88,13 @@ module _ (text : List ℕ) (not_bad : (events : List Heard) (status : ℕ) → I
   nothing : ⊥
   nothing = by_end (head_end text) refl
 
-more_open : (requests : List Request) (last : Request) → IsOpen requests → closes_after last ≡ false → length requests + 1 < REQUEST_LIMIT → IsOpen (requests ++ last ∷ [])
+more_open : (requests : List Request) (last : Request) → IsOpen requests → closes_connection last ≡ false → length requests + 1 < REQUEST_LIMIT → IsOpen (requests ++ last ∷ [])
 more_open requests last h stays few = record {
   few = omega (arith, few, length-append requests (last ∷ []));
   stays = all_snoc requests h.stays;
 }
   where
-    all_snoc : (rs : List Request) → AllByRecursion (λ r. closes_after r ≡ false) rs → AllByRecursion (λ r. closes_after r ≡ false) (rs ++ last ∷ [])
+    all_snoc : (rs : List Request) → AllByRecursion (λ r. closes_connection r ≡ false) rs → AllByRecursion (λ r. closes_connection r ≡ false) (rs ++ last ∷ [])
     all_snoc [] a = (stays, tt)
     all_snoc (r ∷ rs) a = (a.0, all_snoc rs a.1)
 
@@ -102,7 +102,7 @@ more_open requests last h stays few = record {
 behind_one : (fuel : ℕ) (text left : List ℕ) (requests : List Request) → Requests text requests left → IsOpen requests → REQUEST_LIMIT ≤ length requests + suc fuel
     → ((events : List Heard) (rest : ℕ) → Messages text events rest → ⊥)
     → ((left : List ℕ) (requests : List Request) → Requests text requests left → IsOpen requests → REQUEST_LIMIT ≤ length requests + fuel → ⊥)
-    → (r : Request) (len : ℕ) → IsFirstRequest left r len → (closing : Bool) → closes_after r ≡ closing → (length requests + 1 < REQUEST_LIMIT) ⊎ (REQUEST_LIMIT ≤ length requests + 1) → ⊥
+    → (r : Request) (len : ℕ) → IsFirstRequest left r len → (closing : Bool) → closes_connection r ≡ closing → (length requests + 1 < REQUEST_LIMIT) ⊎ (REQUEST_LIMIT ≤ length requests + 1) → ⊥
 behind_one fuel text left requests reads stays enough none go r len first true closing room =
     none (events_of (requests ++ r ∷ [])) 0 (ended requests r (drop len left) (requests_snoc requests text left (drop len left) r len reads first refl) stays (inl closing))
 behind_one fuel text left requests reads stays enough none go r len first false closing (inr full) =
@@ -118,7 +118,7 @@ loop (suc fuel) text left requests reads stays enough none =
     nothing left
     (λ events status b. none (events_of requests ++ (events ++ heard.Bad status ∷ [])) 0 (refused requests left events status reads stays b))
     (λ events p. none (events_of requests ++ events) (rest_length left) (unfinished requests left events reads stays p))
-    (λ r len first. behind_one fuel text left requests reads stays enough none (λ after others. λ a b c. loop fuel text after others a b c none) r len first (closes_after r) refl
+    (λ r len first. behind_one fuel text left requests reads stays enough none (λ after others. λ a b c. loop fuel text after others a b c none) r len first (closes_connection r) refl
     (cases_lt (length requests + 1) REQUEST_LIMIT))
 
 pub some_parse : (text : List ℕ) → ((events : List Heard) (rest : ℕ) → Messages text events rest → ⊥) → ⊥

@@ -22,7 +22,7 @@ use Rattle.http_head.specs.HeadScan.{HasScanned}
 use Rattle.http_payload.specs.declared.payload_fault.PayloadFault.{PayloadFault}
 use Rattle.http_payload.specs.Bodies.{IsBody, IsFault, IsPartial as IsPartialBody}
 use Rattle.http_payload.proofs.LawLemmas.{fault_stays}
-use Rattle.http_conn.specs.Messages.{HasHead, IsFirstRequest, Requests, IsBadHead, too_long, too_many, malformed, host, conflict, coding, too_large, IsBadMessage, bad_head, bad_body, status_of, in_head, in_body, IsLastRequest, IsOpen, Messages, unfinished, refused, ended, events_of, request_events, interim_of, waits_for, with_body, rest_length, closes_after}
+use Rattle.http_conn.specs.Messages.{HasHead, IsFirstRequest, Requests, IsBadHead, too_long, too_many, malformed, host, conflict, coding, too_large, IsBadMessage, bad_head, bad_body, status_of, in_head, in_body, IsLastRequest, IsOpen, Messages, unfinished, refused, ended, events_of, request_events, interim_of, waits_for, with_body, rest_length, closes_connection}
 use Rattle.http_conn.specs.declared.events.TheConstants.{REQUEST_LIMIT}
 use Rattle.http_conn.specs.declared.parser_state.ParserState.{ParserState}
 use Rattle.http_conn.specs.declared.parser_state.ParserState.TheVariants.{Head, Body, Closed, Failed}
@@ -131,13 +131,13 @@ refuses count left text before old_events interim old_events' status requests re
     ∙ append_assoc before old_events (heard.Bad status ∷ []) ∙ ap (λ h. before ++ h) (sym more_is) in
     subst (HasEnded text) all (refused_ends text left requests interim status reads stays bad)
 
-open_snoc : (requests : List Request) (last : Request) → IsOpen requests → closes_after last ≡ false → length requests + 1 < REQUEST_LIMIT → IsOpen (requests ++ last ∷ [])
+open_snoc : (requests : List Request) (last : Request) → IsOpen requests → closes_connection last ≡ false → length requests + 1 < REQUEST_LIMIT → IsOpen (requests ++ last ∷ [])
 open_snoc requests last h stays few = record {
   few = omega (arith, few, length-append requests (last ∷ []));
   stays = all_snoc requests h.stays;
 }
   where
-    all_snoc : (rs : List Request) → AllByRecursion (λ r. closes_after r ≡ false) rs → AllByRecursion (λ r. closes_after r ≡ false) (rs ++ last ∷ [])
+    all_snoc : (rs : List Request) → AllByRecursion (λ r. closes_connection r ≡ false) rs → AllByRecursion (λ r. closes_connection r ≡ false) (rs ++ last ∷ [])
     all_snoc [] a = (stays, tt)
     all_snoc (r ∷ rs) a = (a.0, all_snoc rs a.1)
 

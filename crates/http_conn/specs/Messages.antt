@@ -3,6 +3,7 @@
 use Rattle.std.specs.Prelude.{◌≡◌, ◌⊎◌, ℕ, ◌+◌, ◌-◌, ◌<◌, ◌≤◌, Bool, true, false, if◌then◌else◌}
 use Rattle.std.specs.Prelude.{List, [], ◌∷◌, ◌++◌, length, take, drop, Result, Ok, Err}
 use Rattle.std.specs.List.{flat_map, AllByRecursion}
+use mathlib.Core.List.{IsPrefix}
 use Rattle.pod_base.specs.declared.field.Field.{Field}
 use Rattle.pod_base.specs.declared.request.Request.{Request}
 use Rattle.pod_base.specs.declared.heard.Heard.{Heard}
@@ -139,17 +140,17 @@ pub data IsPartialMessage (text : List ℕ) : List Heard → Type 0 where
 -- ---- all messages
 
 -- whether a request closes its connection
-abbrev pub closes_after : Request → Bool
-closes_after request = closes request.minor request.fields
+abbrev pub closes_connection : Request → Bool
+closes_connection request = closes request.minor request.fields
 
 -- whether a request that so many others precede is the last of its connection
 abbrev pub IsLastRequest : ℕ → Request → Type 0
-IsLastRequest count request = (closes_after request ≡ true) ⊎ (count + 1 ≡ REQUEST_LIMIT)
+IsLastRequest count request = (closes_connection request ≡ true) ⊎ (count + 1 ≡ REQUEST_LIMIT)
 
 -- More events may follow these requests.
 pub record IsOpen (requests : List Request) : Type 0 where
   pub few : length requests < REQUEST_LIMIT
-  pub stays : AllByRecursion (λ request. closes_after request ≡ false) requests
+  pub stays : AllByRecursion (λ request. closes_connection request ≡ false) requests
 
 -- The events of the text, and the length of the unfinished message at its end.
 pub data Messages (text : List ℕ) : List Heard → ℕ → Type 0 where
@@ -187,11 +188,9 @@ StaysOpen count (heard.Bad status ∷ events) = ⊥
 
 -- The events of a prefix of the text begin with these.
 pub record AreFirstEvents (text : List ℕ) (events : List Heard) : Type 0 where
-  pub front : List ℕ
-  pub behind : List ℕ
-  pub cut : front ++ behind ≡ text
+  pub prefix : List ℕ
+  pub is_prefix : IsPrefix prefix text
   pub all : List Heard
   pub rest : ℕ
-  pub messages : Messages front all rest
-  pub more : List Heard
-  pub is : all ≡ events ++ more
+  pub messages : Messages prefix all rest
+  pub first : IsPrefix events all

@@ -2,6 +2,7 @@
 
 ghost use Rattle.std.specs.Prelude.{◌≡◌, ◌++◌, List, ℕ};
 ghost use Rattle.std.specs.List.{AllByRecursion};
+ghost use mathlib.Core.List.{IsPrefix};
 ghost use Rattle.pod_base.specs.declared.heard.Heard.{Heard};
 ghost use Rattle.pod_base.specs.declared.request.Request.{Request};
 ghost use Rattle.http_conn.specs.Messages.{AreFirstEvents, HasRefusalStatus, IsBadMessage};
@@ -10,14 +11,12 @@ ghost use Rattle.http_conn.specs.Messages.{Messages, NothingAfterEnd, Requests, 
 /// A text has at most one parse: one list of events, and one rest.
 pub fn one_parse()
     ensures { (text : List ℕ) (one other : List Heard) (rest left : ℕ) → Messages text one rest
-        → Messages text other left
-        → (one ≡ other) × (rest ≡ left) }
+        → Messages text other left → (one ≡ other) × (rest ≡ left) }
 {}
 
 /// No text lacks a parse.
 pub fn some_parse()
-    ensures { (text : List ℕ) → ((events : List Heard) (rest : ℕ) → Messages text events rest
-        → ⊥) → ⊥ }
+    ensures { (text : List ℕ) → ((events : List Heard) (rest : ℕ) → Messages text events rest → ⊥) → ⊥ }
 {}
 
 /// No event follows a request that closes the connection, the 10,000th request, and a refusal.
@@ -29,8 +28,7 @@ pub fn nothing_after_an_end()
 /// No message is unfinished after one of those ends.
 pub fn rest_is_0_after_an_end()
     ensures { (text : List ℕ) (events : List Heard) (rest : ℕ) → Messages text events rest
-        → (StaysOpen 0 events → ⊥)
-        → rest ≡ 0 }
+        → (StaysOpen 0 events → ⊥) → rest ≡ 0 }
 {}
 
 /// A malformed message is refused with 400, 413, 431 or 501, and with no other status.
@@ -42,17 +40,14 @@ pub fn refusal_statuses()
 /// Complete requests stay what they are, whatever follows, and so does a malformed message.
 pub fn complete_messages_stay()
     ensures requests { (text left more : List ℕ) (requests : List Request)
-        → Requests text requests left
-        → Requests (text ++ more) requests (left ++ more) }
+        → Requests text requests left → Requests (text ++ more) requests (left ++ more) }
     ensures malformed { (text more : List ℕ) (events : List Heard) (status : ℕ)
-        → IsBadMessage text events status
-        → IsBadMessage (text ++ more) events status }
+        → IsBadMessage text events status → IsBadMessage (text ++ more) events status }
 {}
 
 /// The events of a prefix of a text are the first events of the text: a piece that comes later
 /// takes nothing back.
 pub fn events_stay()
     ensures { (text : List ℕ) (events all : List Heard) (rest : ℕ) → AreFirstEvents text events
-        → Messages text all rest
-        → (more : List Heard) × (all ≡ events ++ more) }
+        → Messages text all rest → IsPrefix events all }
 {}

@@ -68,14 +68,16 @@ begins may_give stage keeper input output new stands = record {
 
 -- what is heard in a front is heard first in the whole
 hears_first : (text : List ℕ) (hears : List Heard) → AreFirstEvents text hears → HearsFirst text hears
-hears_first text hears f = record { front = f; whole = λ all rest m. events_stay_first text hears all rest f m }
+hears_first text hears f = record { front = f; whole = λ all rest m.
+    let first = events_stay_first text hears all rest f m in
+    (first.0, sym first.1) }
 
 -- what is heard first in a text and more
 first_heard : (text more : List ℕ) (hears those : List Heard) (rest : ℕ) → Messages text (hears ++ those) rest → HearsFirst (text ++ more) hears
-first_heard text more hears those rest m = hears_first (text ++ more) hears (record { front = text; behind = more; cut = refl; all = hears ++ those; rest = rest; messages = m; more = those; is = refl })
+first_heard text more hears those rest m = hears_first (text ++ more) hears (record { prefix = text; is_prefix = (more, refl); all = hears ++ those; rest = rest; messages = m; first = (those, sym (refl)) })
 
 all_first : (text : List ℕ) (hears : List Heard) (rest : ℕ) → Messages text hears rest → HearsFirst text hears
-all_first text hears rest m = hears_first text hears (record { front = text; behind = []; cut = append-nil text; all = hears; rest = rest; messages = m; more = []; is = sym (append-nil hears) })
+all_first text hears rest m = hears_first text hears (record { prefix = text; is_prefix = ([], append-nil text); all = hears; rest = rest; messages = m; first = ([], sym (sym (append-nil hears))) })
 
 module _ (may_give : ℕ → Type 0) (owner : List ℕ) (stage : ParserState) (talk : Talk) (old_input new_input old_output new_output : Option (List ℕ)) (pieces : ℕ) (s : Serving may_give owner stage talk old_input new_input old_output new_output pieces) where
   messages : Messages s.text s.heard (rest_of stage)
@@ -210,14 +212,12 @@ module _ (may_give : ℕ → Type 0) (owner : List ℕ) (stage : ParserState) (t
 
           first_of : (front behind : List Heard) → front ++ behind ≡ those → AreFirstEvents (s.text ++ piece) (s.heard ++ front)
           first_of front behind cut = record {
-            front = s.text ++ piece;
-            behind = [];
-            cut = append-nil (s.text ++ piece);
+            prefix = s.text ++ piece;
+            is_prefix = ([], append-nil (s.text ++ piece));
             all = s.heard ++ those;
             rest = rest;
             messages = m;
-            more = behind;
-            is = longer front behind cut;
+            first = (behind, sym (longer front behind cut));
           }
 
           heard_so : (end : PipeEnd) (front behind : List Heard) → front ++ behind ≡ those → IsAll behind (Err end) → Ends may_give owner end (s.heard ++ front) (s.written ++ text)
