@@ -6,6 +6,7 @@ use Rattle.std.proofs.lemmas.Bool.Decides.{nat_tests}
 use Rattle.std.proofs.lemmas.List.{drop-append-le, take-append-le, take-take, take_all, drop-take, length-take-le, length-take, take-append-drop}
 use Rattle.http_head.specs.declared.head_ends.HeadEnd.{HeadEnd}
 use Rattle.http_head.specs.declared.head_ends.HeadEnd.TheVariants.{Whole, NotYet, TooLong}
+use Rattle.http_head.specs.declared.head_ends.TheConstants.{HEAD_LIMIT}
 use Rattle.http_head.specs.HeadEnds.{line_end_length, blank_length, line_end_after_lf, head_length, length_in, end_of, head_end}
 use Rattle.http_head.specs.HeadScan.{begins_line}
 use Rattle.http_head.proofs.HeadScanLemmas.{blank-append, blank_none, in_split, in_line}
@@ -250,7 +251,7 @@ end_cond true n h = cc
 end_cond false n h = cc
 
 end_whole : (len : ℕ) (o : Option ℕ) (n : ℕ) → end_of len o ≡ Whole n → o ≡ Some n
-end_whole len None n h = absurd (end_cond (nat_le 16_384 len) n h)
+end_whole len None n h = absurd (end_cond (nat_le HEAD_LIMIT len) n h)
 end_whole len (Some m) n h =
     let same : m ≡ n = cc in
     ap Some same
@@ -259,8 +260,8 @@ end_long_cond : (t : Bool) → cond t TooLong NotYet ≡ TooLong → t ≡ true
 end_long_cond true h = refl
 end_long_cond false h = cc
 
-end_long : (len : ℕ) (o : Option ℕ) → end_of len o ≡ TooLong → (o ≡ None) × (nat_le 16_384 len ≡ true)
-end_long len None h = (refl, end_long_cond (nat_le 16_384 len) h)
+end_long : (len : ℕ) (o : Option ℕ) → end_of len o ≡ TooLong → (o ≡ None) × (nat_le HEAD_LIMIT len ≡ true)
+end_long len None h = (refl, end_long_cond (nat_le HEAD_LIMIT len) h)
 end_long len (Some m) h = cc
 
 window_grows : (most : ℕ) (seen more : List ℕ) → (others : List ℕ) × (take most (seen ++ more) ≡ take most seen ++ others)
@@ -288,16 +289,16 @@ prefix_in most text n h =
 -- A whole head stays.
 pub whole_stays : (text more : List ℕ) (n : ℕ) → head_end text ≡ Whole n → head_end (text ++ more) ≡ Whole n
 whole_stays text more n h =
-    ap (end_of (length (text ++ more))) (stays_in 16_384 text more n (end_whole (length text) (length_in (take 16_384 text)) n h))
+    ap (end_of (length (text ++ more))) (stays_in HEAD_LIMIT text more n (end_whole (length text) (length_in (take HEAD_LIMIT text)) n h))
 
 -- It is in the text.
 pub whole_within : (text : List ℕ) (n : ℕ) → head_end text ≡ Whole n → n ≤ length text
-whole_within text n h = (prefix_in 16_384 text n (end_whole (length text) (length_in (take 16_384 text)) n h)).1
+whole_within text n h = (prefix_in HEAD_LIMIT text n (end_whole (length text) (length_in (take HEAD_LIMIT text)) n h)).1
 
 -- It ends itself.
 pub whole_prefix : (text : List ℕ) (n : ℕ) → head_end text ≡ Whole n → head_end (take n text) ≡ Whole n
 whole_prefix text n h =
-    ap (end_of (length (take n text))) (prefix_in 16_384 text n (end_whole (length text) (length_in (take 16_384 text)) n h)).2
+    ap (end_of (length (take n text))) (prefix_in HEAD_LIMIT text n (end_whole (length text) (length_in (take HEAD_LIMIT text)) n h)).2
 
 long_in : (most : ℕ) (text more : List ℕ) → nat_le most (length text) ≡ true → length_in (take most text) ≡ None
     → (length_in (take most (text ++ more)) ≡ None) × (nat_le most (length (text ++ more)) ≡ true)
@@ -309,22 +310,22 @@ long_in most text more t h =
 -- A head that is too long stays so.
 pub long_stays : (text more : List ℕ) → head_end text ≡ TooLong → head_end (text ++ more) ≡ TooLong
 long_stays text more h =
-    let both = end_long (length text) (length_in (take 16_384 text)) h in
-    let stays = long_in 16_384 text more both.1 both.0 in
+    let both = end_long (length text) (length_in (take HEAD_LIMIT text)) h in
+    let stays = long_in HEAD_LIMIT text more both.1 both.0 in
     ap (end_of (length (text ++ more))) stays.0 ∙ ap (λ t. if t then TooLong else NotYet) stays.1
 
 not_yet_cond : (t : Bool) → cond t TooLong NotYet ≡ NotYet → t ≡ false
 not_yet_cond true h = cc
 not_yet_cond false h = refl
 
-end_not_yet : (len : ℕ) (o : Option ℕ) → end_of len o ≡ NotYet → nat_le 16_384 len ≡ false
-end_not_yet len None h = not_yet_cond (nat_le 16_384 len) h
+end_not_yet : (len : ℕ) (o : Option ℕ) → end_of len o ≡ NotYet → nat_le HEAD_LIMIT len ≡ false
+end_not_yet len None h = not_yet_cond (nat_le HEAD_LIMIT len) h
 end_not_yet len (Some m) h = cc
 
 -- A head that has not ended is short.
-pub not_yet_short : (text : List ℕ) → head_end text ≡ NotYet → length text < 16_384
+pub not_yet_short : (text : List ℕ) → head_end text ≡ NotYet → length text < HEAD_LIMIT
 not_yet_short text h =
-    let few = end_not_yet (length text) (length_in (take 16_384 text)) h in
+    let few = end_not_yet (length text) (length_in (take HEAD_LIMIT text)) h in
     grind (arith, nat_tests, few)
 
 -- It ends after what has come.
@@ -360,7 +361,7 @@ blank_in most text more n h =
 
 -- The empty lines before a whole head stay as many.
 pub blank_stays : (text more : List ℕ) (n : ℕ) → head_end text ≡ Whole n → blank_length (text ++ more) ≡ blank_length text
-blank_stays text more n h = blank_in 16_384 text more n (end_whole (length text) (length_in (take 16_384 text)) n h)
+blank_stays text more n h = blank_in HEAD_LIMIT text more n (end_whole (length text) (length_in (take HEAD_LIMIT text)) n h)
 
 -- Each prefix of an unfinished head is unfinished.
 pub prefix_not_yet : (text more : List ℕ) → head_end (text ++ more) ≡ NotYet → head_end text ≡ NotYet

@@ -14,6 +14,7 @@ use Rattle.httparse.specs.declared.spans.HeaderSpan.{HeaderSpan}
 use Rattle.httparse.specs.declared.spans.RequestSpans.{RequestSpans}
 use Rattle.httparse.proofs.GrammarLemmas.{request_unique}
 use Rattle.http_head.specs.declared.request_head.RequestHead.{RequestHead}
+use Rattle.http_head.specs.declared.head_parser.TheConstants.{HEAD_LINE_LIMIT}
 use Rattle.http_head.specs.Heads.{HasParts, HasTooManyLines, IsMalformedHead, LacksHost, ParsesTo, line_count, host_count, lines_of, head_of}
 
 either_below : (x y : Bool) (b : ℕ) → (x ≡ true → b < 128) → (y ≡ true → b < 128) → (x || y) ≡ true → b < 128
@@ -90,8 +91,8 @@ malformed_not_lacking head h s = h.never s.parts s.whole
 -- One of the four findings holds of each text.
 module _ (head : List ℕ) (not_many : HasTooManyLines head → ⊥) (not_malformed : IsMalformedHead head → ⊥) (not_lacking : LacksHost head → ⊥)
     (not_parsed : (parsed : RequestHead) → ParsesTo head parsed → ⊥) where
-  few : line_count head ≤ 66
-  few = elim (cases_lt 66 (line_count head)) [ inl many ↦ absurd (not_many many) | inr fits ↦ fits ]
+  few : line_count head ≤ HEAD_LINE_LIMIT
+  few = elim (cases_lt HEAD_LINE_LIMIT (line_count head)) [ inl many ↦ absurd (not_many many) | inr fits ↦ fits ]
 
   parses : (parts : grammar.RequestHead) → HasParts head parts → (parts.minor ≡ 1 → host_count (lines_of parts) ≡ 1) → ⊥
   parses parts whole hosts = not_parsed (head_of parts) (record { lines = few; parts = parts; whole = whole; hosts = hosts; is = refl })

@@ -3,9 +3,10 @@ use Rattle.std.proofs.Common.{◌≡◌, ℕ, suc, ◌∙◌, ◌+◌, ◌-◌, 
 use Rattle.std.specs.Option.{option_map}
 use Rattle.std.proofs.lemmas.Bool.Decides.{nat_tests}
 use Rattle.std.proofs.lemmas.List.{drop-drop, drop-append-le}
+use Rattle.http_head.specs.declared.head_ends.TheConstants.{HEAD_LIMIT}
 use Rattle.http_head.specs.HeadEnds.{blank_length, line_end_after_lf, head_length, length_in}
 use Rattle.http_head.specs.HeadScan.{ScanState, scan_state, begins_line, length_from, Passed, HasScanned, ScannedPrefixOf}
-use Rattle.http_head.proofs.HeadEndSteps.{no_end_here}
+use Rattle.http_head.proofs.HeadEndSteps.{no_more, twice_more, no_end_here}
 
 drop_one_more : (k b : ℕ) (xs : List ℕ) → drop (k + 1) (b ∷ xs) ≡ drop k xs
 drop_one_more k b xs = rw add-one refl
@@ -14,14 +15,6 @@ drop_two_more : (k b c : ℕ) (xs : List ℕ) → drop (k + 2) (b ∷ c ∷ xs) 
 drop_two_more k b c xs =
     let e : k + 2 ≡ suc (suc k) = omega arith in
     ap (λ n. drop n (b ∷ c ∷ xs)) e
-
-pub no_more : (o : Option ℕ) → o ≡ option_map (λ n. n + 0) o
-no_more None = refl
-no_more (Some n) = ap Some (omega arith)
-
-pub twice_more : (a b : ℕ) (o : Option ℕ) → option_map (λ n. n + a) (option_map (λ n. n + b) o) ≡ option_map (λ n. n + (a + b)) o
-twice_more a b None = refl
-twice_more a b (Some n) = ap Some (omega arith)
 
 one_blank : (x : Bool) (p q : ℕ) → cond x (p + 1) q ≡ cond x p (cond x (p + 1) q) + cond x 1 0
 one_blank true p q = refl
@@ -233,7 +226,7 @@ passed_prefix most search scanned more passed =
 
 -- What a search has seen it has seen of each longer text.
 pub scanned_longer : (search : ScanState) (scanned more : List ℕ) → HasScanned search scanned → HasScanned search (scanned ++ more)
-scanned_longer search scanned more scanned_it = passed_prefix 16_384 search scanned more scanned_it
+scanned_longer search scanned more scanned_it = passed_prefix HEAD_LIMIT search scanned more scanned_it
 
 pub scanned_prefix : (search : ScanState) (text : List ℕ) → ScannedPrefixOf search text → HasScanned search text
 scanned_prefix search text scanned_it = subst (HasScanned search) (sym scanned_it.is) (scanned_longer search scanned_it.scanned scanned_it.more scanned_it.scanned_it)

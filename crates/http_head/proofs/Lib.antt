@@ -3,6 +3,7 @@ pub mod HeadEndLaws
 pub mod HeadLaws
 -- internal
 pub mod HeadEndSteps
+pub mod LineFeeds
 pub mod HeadScanLemmas
 pub mod DecimalLemmas
 pub mod BodyFramingLemmas

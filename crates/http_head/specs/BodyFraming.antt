@@ -1,15 +1,17 @@
-use Rattle.std.specs.Prelude.{ℕ, Bool, ◌&&◌, ◌||◌, ◌==◌, not, if◌then◌else◌, nat_lt, List, [], ◌∷◌, map, Result, Ok, Err, codes}
+-- How the body after a head is framed (RFC 9112, section 6.3).
+use Rattle.std.specs.Prelude.{ℕ, Bool, ◌&&◌, ◌||◌, ◌==◌, not, if◌then◌else◌, nat_lt, List, [], ◌∷◌}
+use Rattle.std.specs.Prelude.{map, Result, Ok, Err, codes}
 use Rattle.std.specs.List.{list_all, join_with_byte}
 use Rattle.std.specs.Str.{str_eq_ignore_ascii_case}
 use Rattle.pod_base.specs.declared.field.Field.{Field}
 use Rattle.http_head.specs.Decimals.{is_number, number_of}
 use Rattle.http_head.specs.Fields.{fields_named, has_field}
+use Rattle.http_head.specs.declared.content_length.TheConstants.{BODY_LIMIT}
 use Rattle.http_head.specs.declared.body_form.BodyForm.{BodyForm}
 use Rattle.http_head.specs.declared.body_form.BodyForm.TheVariants.{Empty, Length, Chunked}
 use Rattle.http_head.specs.declared.body_framing.FramingFault.{FramingFault}
-use Rattle.http_head.specs.declared.body_framing.FramingFault.TheVariants.{Conflict, TooLarge, Coding}
-
--- How the body behind a head is framed (RFC 9112, section 6.3).
+use Rattle.http_head.specs.declared.body_framing.FramingFault.TheVariants.{Conflict, TooLarge}
+use Rattle.http_head.specs.declared.body_framing.FramingFault.TheVariants.{Coding}
 
 abbrev pub lengths : List Field → List Field
 lengths fields = fields_named (codes "content-length") fields
@@ -38,7 +40,8 @@ lengths_differ fields = not (list_all (λ field. number field == first_length fi
 
 -- the values, joined by commas, are `chunked` in some case
 abbrev pub is_chunked : List Field → Bool
-is_chunked fields = str_eq_ignore_ascii_case (join_with_byte 44 (map (λ f. f.value) fields)) (codes "chunked")
+is_chunked fields = str_eq_ignore_ascii_case (join_with_byte 44 (map
+    (λ f. f.value) fields)) (codes "chunked")
 
 -- the fields contradict each other or the version, or a length is no number
 abbrev pub conflicts : ℕ → List Field → Bool
@@ -49,7 +52,7 @@ conflicts minor fields =
 -- the form of a body that no coding frames
 abbrev pub length_form : List Field → Result BodyForm FramingFault
 length_form fields =
-    if nat_lt 8_388_608 (first_length (lengths fields)) then Err TooLarge else (
+    if nat_lt BODY_LIMIT (first_length (lengths fields)) then Err TooLarge else (
     if has_length fields then Ok (Length (first_length (lengths fields))) else Ok Empty)
 
 -- a row of a table: where its condition holds, its answer
@@ -75,7 +78,7 @@ framing minor fields = first_row (
     -- another coding than chunked
     (has_coding fields && not (is_chunked (codings fields)), Err Coding) ∷
     -- more bytes than a body may have
-    (nat_lt 8_388_608 (first_length (lengths fields)), Err TooLarge) ∷
+    (nat_lt BODY_LIMIT (first_length (lengths fields)), Err TooLarge) ∷
     (has_coding fields, Ok Chunked) ∷
     (has_length fields, Ok (Length (first_length (lengths fields)))) ∷ [])
     (Ok Empty)

@@ -111,7 +111,8 @@ fn check(rt: &impl Abort, alloc: Global, lines: &[u8], wanted: &str) {
     check_version(rt, alloc, b"HTTP/1.1\r\nHost: h\r\n", lines, wanted);
 }
 
-/// Heads by RFC 9112, sections 6 and 11: what several readers of one head could frame in several ways is refused.
+/// Heads by RFC 9112, sections 6 and 11: what several readers of one head could frame in several
+/// ways is refused.
 #[test]
 fn no_head_has_two_lengths(rt: HostRuntime) {
     let alloc = rt.alloc();

@@ -3,7 +3,8 @@ use Rattle.std.proofs.Common.{◌≡◌, ◌≢◌, ℕ, ◌+◌, ◌<◌, ◌�
 use Rattle.std.proofs.lemmas.Bool.{cases_eq}
 use Rattle.http_payload.specs.declared.stage.Stage.{Stage}
 use Rattle.http_payload.specs.declared.stage.Stage.TheVariants.{Rest, Line, Chunk, ChunkEnd, Trailers, Trailer, TrailerEnd, LastEnd}
-use Rattle.http_payload.specs.Chunks.{Ending, Whole, crlf, TRAILERS_LIMIT, trailer_texts, IsTrailers, InTrailer, EndsInChunks}
+use Rattle.http_payload.specs.declared.stage.TheConstants.{TRAILERS_LIMIT}
+use Rattle.http_payload.specs.Chunks.{Ending, Whole, crlf, trailer_texts, IsTrailers, InTrailer, EndsInChunks}
 use Rattle.http_payload.specs.PayloadState.{PayloadState, payload_state, Left, IsOpenLine}
 use Rattle.http_payload.specs.Steps.{Never, TakesByte}
 use Rattle.http_payload.proofs.LineFacts.{open_at_first}

@@ -9,7 +9,7 @@ use Rattle.std.proofs.lemmas.List.Elements.{All-nil, All-cons, All-append, All-w
 use Rattle.std.proofs.Math.Seq.{get_or-append_seam}
 use Rattle.httparse.specs.Grammar.{ChunkLine, IsChunkLine, print_chunk_line, print_extension, is_ows, is_extension_byte, HasNoChunkLine, IsExtension, ReadsChunkLine}
 use Rattle.httparse.proofs.ChunkLemmas.{chunk_line_unique}
-use Rattle.http_payload.specs.Chunks.{CHUNK_LINE_LIMIT}
+use Rattle.http_payload.specs.declared.chunk_line.TheConstants.{CHUNK_LINE_LIMIT}
 use Rattle.http_payload.specs.PayloadState.{IsOpenLine}
 use Rattle.http_payload.specs.ChunkLines.{CanEnd, NeverLine}
 use Rattle.http_payload.proofs.Prefixes.{prefixes, All-prefix}

@@ -8,7 +8,8 @@ use Rattle.http_payload.specs.declared.payload_fault.PayloadFault.{PayloadFault}
 use Rattle.http_payload.specs.declared.payload_fault.PayloadFault.TheVariants.{Malformed, TooLarge, NoMemory}
 use Rattle.http_payload.specs.declared.stage.Stage.{Stage}
 use Rattle.http_payload.specs.declared.stage.Stage.TheVariants.{Rest, Line, Chunk, ChunkEnd, Trailers, Trailer, TrailerEnd, LastEnd, Failed}
-use Rattle.http_payload.specs.Chunks.{BODY_LIMIT, crlf, trailer_texts, Ending, Whole, Over, EndsInChunks}
+use Rattle.http_head.specs.declared.content_length.TheConstants.{BODY_LIMIT}
+use Rattle.http_payload.specs.Chunks.{crlf, trailer_texts, Ending, Whole, Over, EndsInChunks}
 use Rattle.http_payload.specs.Bodies.{Ends, IsBody, HasNoEnd, IsFault, IsPartial}
 use Rattle.http_payload.specs.PayloadState.{PayloadState, payload_state, Left, LeftAt, IsSound, IsSoundAt, IsOpenLine, Represents, IsDone, fault_of, fault_at, first_stage}
 use Rattle.http_payload.specs.Steps.{Steps, Blocks}

@@ -2,7 +2,8 @@
 use Rattle.std.proofs.Common.{◌≡◌, ℕ, ◌≤◌, List, [], ◌∷◌, ◌++◌, length, refl, sym, ap, ◌∙◌, subst, arith, length-append, append_assoc, append-nil}
 use Rattle.std.specs.List.{AllByRecursion}
 use Rattle.httparse.specs.Grammar.{ChunkLine, print_chunk_line, chunk_size}
-use Rattle.http_payload.specs.Chunks.{BODY_LIMIT, crlf, AreLineBytes, IsTrailer, trailer_texts, IsTrailers, Chunk, chunk_text, IsChunk, chunk_texts, chunk_bytes, IsLast, IsOverLine, Ending, Whole, Over, EndsAs, EndsInChunks}
+use Rattle.http_head.specs.declared.content_length.TheConstants.{BODY_LIMIT}
+use Rattle.http_payload.specs.Chunks.{crlf, AreLineBytes, IsTrailer, trailer_texts, IsTrailers, Chunk, chunk_text, IsChunk, chunk_texts, chunk_bytes, IsLast, IsOverLine, Ending, Whole, Over, EndsAs, EndsInChunks}
 use Rattle.http_payload.proofs.Prefixes.{same_fronts}
 use Rattle.http_payload.proofs.TrailerSteps.{stays_no_cr}
 use Rattle.http_payload.proofs.ChunkSteps.{one_line, Opens, at_last, at_over, at_chunk, opened}

@@ -1,19 +1,12 @@
 use Rattle.std.specs.Prelude.{ℕ, ◌≡◌, ◌+◌, ◌<◌, ◌≤◌, ◌==◌, ◌||◌, not, Bool, IsTrue, List, [], ◌∷◌, ◌++◌, length}
 use Rattle.std.specs.List.{flat_map, AllByRecursion}
+use Rattle.http_head.specs.declared.content_length.TheConstants.{BODY_LIMIT}
+use Rattle.http_payload.specs.declared.chunk_line.TheConstants.{CHUNK_LINE_LIMIT}
+use Rattle.http_payload.specs.declared.stage.TheConstants.{TRAILERS_LIMIT}
 use Rattle.httparse.specs.Grammar.{ChunkLine, IsChunkLine, print_chunk_line, chunk_size}
 
 -- A body in chunks (RFC 9112, section 7.1). A line before a chunk is one to sixteen hexadecimal digits, then blanks, then
 -- optionally a semicolon and any bytes but CR and LF, then CR LF: `ChunkLine` is what such a line says.
-
--- the most bytes of all chunks, of one line before a chunk, and of all trailer lines, their ends counted
-abbrev pub BODY_LIMIT : ℕ
-BODY_LIMIT = 8_388_608
-
-abbrev pub CHUNK_LINE_LIMIT : ℕ
-CHUNK_LINE_LIMIT = 256
-
-abbrev pub TRAILERS_LIMIT : ℕ
-TRAILERS_LIMIT = 16_384
 
 -- CR LF
 abbrev pub crlf : List ℕ

@@ -5,7 +5,9 @@ use Rattle.http_head.specs.declared.body_form.BodyForm.TheVariants.{Empty, Lengt
 use Rattle.http_payload.specs.declared.payload_fault.PayloadFault.{PayloadFault}
 use Rattle.http_payload.specs.declared.stage.Stage.{Stage}
 use Rattle.http_payload.specs.declared.stage.Stage.TheVariants.{Rest, Line, Chunk, ChunkEnd, Trailers, Trailer, TrailerEnd, LastEnd, Failed}
-use Rattle.http_payload.specs.Chunks.{Ending, Whole, BODY_LIMIT, TRAILERS_LIMIT, IsShortLine, IsTrailers, InTrailer, InChunk, EndsInChunks}
+use Rattle.http_head.specs.declared.content_length.TheConstants.{BODY_LIMIT}
+use Rattle.http_payload.specs.declared.stage.TheConstants.{TRAILERS_LIMIT}
+use Rattle.http_payload.specs.Chunks.{Ending, Whole, IsShortLine, IsTrailers, InTrailer, InChunk, EndsInChunks}
 use Rattle.http_payload.specs.Bodies.{Ends}
 
 -- what a payload holds: where it is, what has come of the line before a chunk, and the bytes of the body so far

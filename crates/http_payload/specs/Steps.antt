@@ -2,7 +2,8 @@ use Rattle.std.specs.Prelude.{ℕ, ◌≡◌, ◌+◌, ◌<◌, ◌≤◌, List,
 use Rattle.http_payload.specs.declared.payload_fault.PayloadFault.{PayloadFault}
 use Rattle.http_payload.specs.declared.payload_fault.PayloadFault.TheVariants.{Malformed, TooLarge, NoMemory}
 use Rattle.http_payload.specs.declared.stage.Stage.TheVariants.{Trailers, Chunk}
-use Rattle.http_payload.specs.Chunks.{Ending, Over, BODY_LIMIT}
+use Rattle.http_head.specs.declared.content_length.TheConstants.{BODY_LIMIT}
+use Rattle.http_payload.specs.Chunks.{Ending, Over}
 use Rattle.http_payload.specs.declared.stage.Stage.{Stage}
 use Rattle.http_payload.specs.PayloadState.{PayloadState, payload_state, Left, IsSound, IsSoundAt, fault_of, fault_at}
 

@@ -1,3 +1,5 @@
+//! The line before a chunk (RFC 9112, section 7.1), as its bytes come in.
+
 ghost use Rattle.std.specs.Prelude.{◌≡◌, ◌<◌, ◌≤◌, ◌++◌, [], false, length, vec_len, IfOk, IfErr, IfSome, IfNone, IsTrue};
 ghost use Rattle.http_payload.specs.PayloadState.{IsOpenLine};
 ghost use Rattle.http_payload.specs.ChunkLines.{CanEnd, NeverLine, BeginsWithLine, LineContinues, LineFault};
@@ -5,10 +7,11 @@ ghost use Rattle.http_payload.specs.ChunkLines.{CanEnd, NeverLine, BeginsWithLin
 use crate::payload_fault::PayloadFault;
 use httparse::{Status, parse_chunk_size};
 
-/// The most bytes of the line before a chunk, its end counted.
-const CHUNK_LINE_LIMIT: usize = 256;
+/// The most bytes of the line before a chunk, its end included.
+pub const CHUNK_LINE_LIMIT: usize = 256;
 
-/// Whether a line that begins so can still end among its first 256 bytes: two more are its CR LF, and after a CR one.
+/// Whether a line with this prefix can still end within [`CHUNK_LINE_LIMIT`]: its CR LF takes two
+/// bytes more, and after a CR one.
 fn can_end(text: &[u8]) -> bool
     ensures yes { IsTrue result → CanEnd text.now }
     ensures no { result ≡ false → CanEnd text.now → ⊥ }
@@ -20,7 +23,8 @@ fn can_end(text: &[u8]) -> bool
     }
 }
 
-/// The line at the front: its length and its size, or none where what has come may still become a line.
+/// The line at the start of the text: its length and its size, or none where the text is a prefix of
+/// a line.
 fn line_in(text: &[u8]) -> Result<Option<(usize, u64)>, PayloadFault>
     ensures some { IfOk result (λ found. IfSome found (λ r. BeginsWithLine text.now r.0 r.1)) }
     ensures none { IfOk result (λ found. IfNone found (IsOpenLine text.now)) }
@@ -33,7 +37,7 @@ fn line_in(text: &[u8]) -> Result<Option<(usize, u64)>, PayloadFault>
     }
 }
 
-/// Reads on in a line of which nothing has come: how many bytes it takes, and its size where it ends.
+/// Reads a line of which nothing has come: how many bytes it takes, and its size where it ends.
 fn new_line(line: &mut Vec<u8>, bytes: &[u8]) -> Result<(usize, Option<u64>), PayloadFault>
     requires empty { line.old.items ≡ [] }
     requires some { 0 < length bytes.now }
@@ -50,7 +54,7 @@ fn new_line(line: &mut Vec<u8>, bytes: &[u8]) -> Result<(usize, Option<u64>), Pa
     }
 }
 
-/// Reads on in a line of which some bytes have come: how many more it takes, and its size where it ends.
+/// Continues a line of which some bytes have come: how many more it takes, and its size where it ends.
 fn kept_line(line: &mut Vec<u8>, bytes: &[u8]) -> Result<(usize, Option<u64>), PayloadFault>
     requires open { IsOpenLine line.old.items }
     requires some { 0 < length bytes.now }
@@ -70,7 +74,10 @@ fn kept_line(line: &mut Vec<u8>, bytes: &[u8]) -> Result<(usize, Option<u64>), P
     }
 }
 
-/// Reads on in the line before a chunk: how many bytes it takes, and its size where it ends.
+/// Continues the line before a chunk: how many bytes it takes, and its size where it ends.
+///
+/// At most [`CHUNK_LINE_LIMIT`] bytes are kept. They are parsed anew with each piece, so a line that
+/// comes byte by byte costs at most 256 parses of at most 256 bytes.
 pub(crate) fn read_line(
     line: &mut Vec<u8>,
     bytes: &[u8],

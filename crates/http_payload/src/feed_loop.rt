@@ -1,3 +1,5 @@
+//! Steps over the bytes of a piece.
+
 ghost use Rattle.std.specs.Prelude.{◌≡◌, ◌≢◌, ◌<◌, ◌≤◌, ◌++◌, List, ℕ, None, min, take, length, IsOk, IfOk, IfErr};
 ghost use Rattle.http_head.specs.declared.body_form.BodyForm.{BodyForm as Form};
 ghost use Rattle.http_payload.specs.Bodies.{IsFault};
@@ -7,18 +9,16 @@ ghost use Rattle.http_payload.specs.Steps.{Advances, Blocks, AfterLine};
 use crate::chunk_line::read_line;
 use crate::payload_fault::PayloadFault;
 use crate::stage::{Stage, after_byte};
+use http_head::BODY_LIMIT;
 
-/// The most bytes of all chunks.
-const BODY_LIMIT: u64 = 8_388_608;
-
-/// How many bytes were read, and where that ends.
+/// How many bytes were read, and the stage after them.
 #[derive(Clone, Copy)]
 pub(crate) struct Step {
     pub(crate) taken: usize,
     pub(crate) stage: Stage,
 }
 
-/// Appends bytes, at most so many, and tells how many.
+/// Appends bytes, at most `left`, and returns how many.
 fn append_up_to(body: &mut Vec<u8>, left: u64, bytes: &[u8]) -> Result<usize, PayloadFault>
     ensures taken { IfOk result (λ taken. taken ≡ min left (length bytes.now)) }
     ensures appended { IfOk result (λ taken. body.new.items ≡ body.old.items ++ take taken bytes.now) }
@@ -43,7 +43,7 @@ fn after_line(used: usize, size: u64) -> Result<Stage, PayloadFault>
     }
 }
 
-/// Reads on in a line before a chunk.
+/// Continues a line before a chunk.
 fn line_step(line: &mut Vec<u8>, body: &[u8], bytes: &[u8]) -> Result<Step, PayloadFault>
     requires some { 0 < length bytes.now }
     requires sound { IsSoundAt Stage.Line line.old.items body.now }
@@ -73,7 +73,7 @@ fn byte_step(stage: Stage, bytes: &[u8]) -> Result<Step, PayloadFault>
     }
 }
 
-/// Reads some bytes at the front.
+/// Reads some of the first bytes.
 fn advance(
     stage: Stage,
     line: &mut Vec<u8>,

@@ -1,3 +1,5 @@
+//! [`Payload`]: the body of one request, as far as it has come.
+
 ghost use Rattle.std.specs.Prelude.{◌≡◌, ◌≢◌, ◌≤◌, ◌-◌, ◌++◌, List, ℕ, [], true, false, Some, None, take, length, IsTrue, IfOk, IfErr, IfSome};
 ghost use Rattle.http_head.specs.declared.body_form.BodyForm.{BodyForm as Form};
 ghost use Rattle.http_payload.specs.Bodies.{IsBody, IsFault, IsPartial, IsOrOutOfMemory};
@@ -11,18 +13,20 @@ use pod_base::{Bytes, Mem, NoMemory};
 use std::alloc::Global;
 use std::marker::Model;
 
-/// What a feed read of its piece.
+/// What [`Payload::feed`] took of its piece.
 #[derive(Clone, Copy, Debug, PartialEq, Eq)]
 pub struct Fed {
-    /// How many bytes at its front: all of them, or those up to the body's end.
+    /// How many of its first bytes: all of them, or those up to the body's end.
     pub taken: usize,
-    /// Whether the body is whole.
+    /// Whether the body is complete.
     pub done: bool,
 }
 
 /// The body of one request, as far as it has come.
 ///
-/// It doesn't keep what was fed. Contracts say of which texts it holds what they spell: it stands for them (`Stands`).
+/// It doesn't keep what was fed. Contracts say which texts it represents (`Represents`): those after
+/// which the same bytes complete the body. The body grows in a block of its own, so it keeps neither
+/// the head nor the pieces alive.
 #[derive(Debug, Drop)]
 pub struct Payload {
     stage: Stage,
@@ -52,7 +56,7 @@ impl Payload {
         }
     }
 
-    /// Whether the body is whole.
+    /// Whether the body is complete.
     pub fn is_done(&self) -> bool
         ensures done { IsTrue result → IsDone self.now }
         ensures whole { IsTrue result → (form : Form) (text : List ℕ) → Represents form self.now text
@@ -62,19 +66,20 @@ impl Payload {
         self.stage.is_end()
     }
 
-    /// Reads the next piece of the body's bytes, up to the body's end. A whole body takes nothing more.
+    /// Takes the next piece of the body's bytes, up to the body's end. A complete body takes nothing
+    /// more.
     ///
     /// # Errors
     ///
-    /// [`PayloadFault::Malformed`] exactly where nothing that follows makes a body of the text that was fed, and
-    /// [`PayloadFault::TooLarge`] exactly where a line in it tells too large a size. After an error each feed answers that
-    /// error again.
+    /// [`PayloadFault::Malformed`] exactly where the text that was fed is no prefix of a body, and
+    /// [`PayloadFault::TooLarge`] exactly where a chunk line in it has too large a size, or
+    /// [`PayloadFault::NoMemory`]. After an error each feed returns that error again.
     pub fn feed(&mut self, _alloc: Global, piece: &[u8]) -> Result<Fed, PayloadFault>
         ensures within { IfOk result (λ fed. fed.taken ≤ length piece.now) }
         ensures represents { IfOk result (λ fed. (form : Form) (text : List ℕ) → Represents form self.old text
             → Represents form self.new (text ++ take fed.taken piece.now)) }
 
-        // Each answer comes only where it is right.
+        // Each result is right.
         ensures done { IfOk result (λ fed. IsTrue fed.done → IsDone self.new) }
         ensures whole { IfOk result (λ fed. IsTrue fed.done → (form : Form) (text : List ℕ) → Represents form self.old text
             → IsBody form (text ++ take fed.taken piece.now) self.new.body) }
@@ -84,7 +89,7 @@ impl Payload {
         ensures fault { IfErr result (λ fault. fault ≢ PayloadFault.NoMemory → (form : Form) (text : List ℕ)
             → Represents form self.old text → IsFault form (text ++ piece.now) fault) }
 
-        // Where it is right it comes, unless memory runs out.
+        // The right result comes, unless it is out of memory.
         ensures exact_whole { (form : Form) (text prefix rest body : List ℕ) → Represents form self.old text
             → text ++ piece.now ≡ prefix ++ rest → IsBody form prefix body
             → IsOrOutOfMemory result (Ok (record { taken = length prefix - length text; done = true })) }
@@ -93,7 +98,7 @@ impl Payload {
         ensures exact_fault { (form : Form) (text : List ℕ) (fault : _) → Represents form self.old text
             → IsFault form (text ++ piece.now) fault → IsOrOutOfMemory result (Err fault) }
 
-        // A body that is whole stays so, and a fault too.
+        // A complete body stays so, and a fault too.
         ensures ended { IsDone self.old → (self.new ≡ self.old) × (result ≡ Ok (record { taken = 0; done = true })) }
         ensures again { IfSome (fault_of self.old) (λ fault. (self.new ≡ self.old) × (result ≡ Err fault)) }
         ensures failed { IfErr result (λ fault. fault_of self.new ≡ Some fault) }
@@ -116,7 +121,8 @@ impl Payload {
         }
     }
 
-    /// The bytes of a complete body.
+    /// The bytes of a complete body, in the block in which they grew. It takes memory for their count
+    /// of owners alone.
     pub fn body(self, alloc: Global) -> Mem<Bytes>
         requires { IsDone self }
         ensures bytes { IfOk result (λ bytes. bytes ≡ self.body) }

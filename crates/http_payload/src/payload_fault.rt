@@ -1,3 +1,5 @@
+//! Why a text is no body.
+
 ghost use Rattle.std.specs.Prelude.{◌≡◌};
 ghost use Rattle.http_payload.specs.declared.payload_fault.PayloadFault.TheVariants.{NoMemory};
 
@@ -7,12 +9,14 @@ use thiserror::Error;
 /// Why a text is no body.
 #[derive(Clone, Copy, Debug, PartialEq, Eq, Error)]
 pub enum PayloadFault {
-    /// No bytes that follow make a body of the text.
+    /// Whatever follows, the text is no body.
     #[error("malformed body")]
     Malformed,
-    /// The line before a chunk tells a size by which the body passes 8,388,608 bytes.
+    /// A chunk line has a size by which the body passes
+    /// [`BODY_LIMIT`](http_head::BODY_LIMIT).
     #[error("body too large")]
     TooLarge,
+    /// Out of memory.
     #[error("out of memory")]
     NoMemory,
 }

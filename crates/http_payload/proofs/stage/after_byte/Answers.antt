@@ -7,8 +7,8 @@ use Rattle.http_payload.proofs.stage.after_byte.Goals as goal
 
 pub returns-in-ChunkEnd-clause-some : goal.returns-in-ChunkEnd-clause-some
 returns-in-ChunkEnd-clause-some c =
-    subst (λ s. IfSome c.after-in-ChunkEnd.result (TakesByte s c.args.byte)) (sym c.in-ChunkEnd.is)
-    (taken_if ChunkEnd Line c.args.byte 10 takes_chunk_lf c.after-in-ChunkEnd.result c.after-in-ChunkEnd.ensures.some)
+    subst (λ s. IfSome c.expect_byte-in-ChunkEnd.result (TakesByte s c.args.byte)) (sym c.in-ChunkEnd.is)
+    (taken_if ChunkEnd Line c.args.byte 10 takes_chunk_lf c.expect_byte-in-ChunkEnd.result c.expect_byte-in-ChunkEnd.ensures.some)
 
 pub returns-then-byte-eq13-clause-some : goal.returns-then-byte-eq13-clause-some
 returns-then-byte-eq13-clause-some c =
