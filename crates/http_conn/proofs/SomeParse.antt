@@ -29,7 +29,6 @@ use Rattle.http_conn.proofs.StepLemmas.{requests_snoc}
 -- No text is neither malformed nor partial and begins with no request.
 module _ (text : List ℕ) (not_bad : (events : List Heard) (status : ℕ) → IsBadMessage text events status → ⊥) (not_partial : (events : List Heard) → IsPartialMessage text events → ⊥)
     (not_first : (r : Request) (len : ℕ) → IsFirstRequest text r len → ⊥) where
-
   module _ (len : ℕ) (parsed : RequestHead) (form : BodyForm) (h : HasHead text len parsed form) where
     end_in : (front m : List ℕ) (ending : chunks.Ending) → drop len text ≡ front ++ m → Ends form front ending → ⊥
     end_in front m (chunks.Whole body) cut e =

@@ -236,7 +236,7 @@ awaits_body count len parsed form old_events new partial new_is is_partial stand
       there = omega arith;
       begins = subst (λ s. HasHead left (length left) s form) (sym said_is) (whole_has_head left parsed form ends says framed);
       body = subst (IsPartialBody form) (sym none) is_partial;
-      stands = subst (payload.Represents form partial.payload) (sym none) stands;
+      represents = subst (payload.Represents form partial.payload) (sym none) stands;
       rest = len_same ∙ len_is;
     }
 
@@ -326,7 +326,7 @@ body_ends partial front body old_events new next whole finishes text before s =
       begins = head_stays s.left front s.head partial.head s.form s.begins;
       size = size;
       body = body;
-      is_body = subst (λ t. IsBody s.form t body) (sym (ap (take size) cut ∙ take-length behind)) (whole s.form (drop s.head s.left) s.stands);
+      is_body = subst (λ t. IsBody s.form t body) (sym (ap (take size) cut ∙ take-length behind)) (whole s.form (drop s.head s.left) s.represents);
       there = omega (arith, all);
       ends = refl;
       is = refl;
@@ -353,8 +353,8 @@ body_waits partial new bytes old_events said_is count_is len_is is_partial stand
       form = s.form;
       there = omega (arith, s.there, length-append s.left bytes);
       begins = subst (λ h. HasHead left s.head h s.form) (sym said_is) (head_stays s.left bytes s.head partial.head s.form s.begins);
-      body = subst (IsPartialBody s.form) (sym cut) (is_partial s.form (drop s.head s.left) s.stands);
-      stands = subst (payload.Represents s.form new.payload) (sym cut) (stands s.form (drop s.head s.left) s.stands);
+      body = subst (IsPartialBody s.form) (sym cut) (is_partial s.form (drop s.head s.left) s.represents);
+      represents = subst (payload.Represents s.form new.payload) (sym cut) (stands s.form (drop s.head s.left) s.represents);
       rest = omega (arith, len_is, s.rest, blank_stays s.left bytes s.head s.begins.ends, blank_fits s.left, length-append s.left bytes);
     }
 
@@ -367,7 +367,7 @@ body_refused partial bytes old_events new fault bad new_is text before s =
     let cut : drop s.head left ≡ drop s.head s.left ++ bytes = body_grows partial text (before ++ old_events) s bytes in
     refuses partial.count left (text ++ bytes) before old_events (interim_of partial.head.minor partial.head.fields) new (status_of fault) s.requests
     (requests_stay s.requests text s.left bytes s.reads) s.stays s.is
-    (bad_body s.head partial.head s.form fault (head_stays s.left bytes s.head partial.head s.form s.begins) (subst (λ t. IsFault s.form t fault) (sym cut) (bad s.form (drop s.head s.left) s.stands)))
+    (bad_body s.head partial.head s.form fault (head_stays s.left bytes s.head partial.head s.form s.begins) (subst (λ t. IsFault s.form t fault) (sym cut) (bad s.form (drop s.head s.left) s.represents)))
     new_is
 
 -- no event follows

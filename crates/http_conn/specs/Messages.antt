@@ -112,7 +112,7 @@ pub data IsBadMessage (text : List ℕ) : List Heard → ℕ → Type 0 where
   bad_body : (len : ℕ) (parsed : RequestHead) (form : BodyForm) (fault : PayloadFault)
       → HasHead text len parsed form
       → IsFault form (drop len text) fault
-          → IsBadMessage text (interim_of parsed.minor parsed.fields) (status_of fault)
+      → IsBadMessage text (interim_of parsed.minor parsed.fields) (status_of fault)
 
 -- the statuses of refusals
 abbrev pub IsRefusalStatus : ℕ → Type 0
@@ -135,7 +135,7 @@ pub data IsPartialMessage (text : List ℕ) : List Heard → Type 0 where
   in_head : head_end text ≡ NotYet → IsPartialMessage text []
   in_body : (len : ℕ) (parsed : RequestHead) (form : BodyForm) → HasHead text len parsed form
       → IsPartialBody form (drop len text)
-          → IsPartialMessage text (interim_of parsed.minor parsed.fields)
+      → IsPartialMessage text (interim_of parsed.minor parsed.fields)
 
 -- ---- all messages
 
@@ -157,7 +157,7 @@ pub data Messages (text : List ℕ) : List Heard → ℕ → Type 0 where
   unfinished : (requests : List Request) (left : List ℕ) (events : List Heard)
       → Requests text requests left
       → IsOpen requests → IsPartialMessage left events
-          → Messages text (events_of requests ++ events) (rest_length left)
+      → Messages text (events_of requests ++ events) (rest_length left)
   refused : (requests : List Request) (left : List ℕ) (events : List Heard) (status : ℕ)
       → Requests text requests left
       → IsOpen requests → IsBadMessage left events status
@@ -165,7 +165,7 @@ pub data Messages (text : List ℕ) : List Heard → ℕ → Type 0 where
   ended : (requests : List Request) (last : Request) (left : List ℕ)
       → Requests text (requests ++ last ∷ []) left
       → IsOpen requests → IsLastRequest (length requests) last
-          → Messages text (events_of (requests ++ last ∷ [])) 0
+      → Messages text (events_of (requests ++ last ∷ [])) 0
 
 -- ---- laws
 

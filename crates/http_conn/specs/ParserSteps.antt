@@ -58,7 +58,7 @@ StepsAfter count left old_events new events =
 abbrev pub StepsAfterHead : ℕ → ℕ → RequestHead → List Heard → ParserState → List Heard → Type 0
 StepsAfterHead count len parsed old_events new events =
     (left : List ℕ) → head_end left ≡ Whole (length left) → ParsesTo left parsed
-        → len ≡ rest_length left
+    → len ≡ rest_length left
     → StepsAfter count left old_events new events
 
 -- The head of a body of that form, and nothing else, is left after requests.
@@ -74,6 +74,6 @@ abbrev pub EndsRequest : ℕ → RequestHead → List ℕ → List Heard → Par
 EndsRequest count parsed body old_events new events =
     (text : List ℕ) (before : List Heard) (requests : List Request)
     → Requests text (requests ++ with_body parsed body ∷ []) [] → IsOpen requests
-        → count ≡ length requests
+    → count ≡ length requests
     → before ++ old_events ≡ events_of requests ++ interim_of parsed.minor parsed.fields
     → Represents new text (before ++ events)

@@ -111,11 +111,7 @@ fn has_failed(state: &ParserState) -> bool
 }
 
 /// Parses a piece: returns the state after it and its events.
-fn parse_events(
-    alloc: Global,
-    state: ParserState,
-    piece: &[u8],
-) -> Mem<(ParserState, List<Heard>)>
+fn parse_events(alloc: Global, state: ParserState, piece: &[u8]) -> Mem<(ParserState, List<Heard>)>
     requires { IsSoundState state }
     ensures sound { IfOk result (λ r. IsSoundState r.0) }
     ensures represents { IfOk result (λ r. (text : Items ℕ) (events : Items Event)

@@ -66,12 +66,7 @@ fn frame_body(
 }
 
 /// The state after the bytes of a complete head.
-fn parse_head(
-    alloc: Global,
-    events: &mut List<Heard>,
-    count: u64,
-    bytes: &[u8],
-) -> Mem<ParserState>
+fn parse_head(alloc: Global, events: &mut List<Heard>, count: u64, bytes: &[u8]) -> Mem<ParserState>
     requires { head_end bytes.now ≡ end.Whole (length bytes.now) }
     ensures sound { IfOk result IsSoundState }
     ensures parses { IfOk result

@@ -16,7 +16,8 @@ pub fn one_parse()
 
 /// No text lacks a parse.
 pub fn some_parse()
-    ensures { (text : List ℕ) → ((events : List Heard) (rest : ℕ) → Messages text events rest → ⊥) → ⊥ }
+    ensures { (text : List ℕ)
+        → ((events : List Heard) (rest : ℕ) → Messages text events rest → ⊥) → ⊥ }
 {}
 
 /// No event follows a request that closes the connection, the 10,000th request, and a refusal.

@@ -100,13 +100,13 @@ after_line (f ∷ fs) rest = from_fields fs rest
 abbrev pub from_date_name : Response → List ℕ → Bool → List ℕ
 from_date_name response date close =
     codes "\r\nDate: " ++ (date ++ (codes "\r\n"
-        ++ from_fields response.fields (from_closing response close)))
+    ++ from_fields response.fields (from_closing response close)))
 
 -- the bytes after a segment
 abbrev pub text_after : Response → List ℕ → Bool → Segment → List ℕ
 text_after response date close Version =
     code_digits response.status ++ (codes " " ++ (phrase_of response.status
-        ++ from_date_name response date close))
+    ++ from_date_name response date close))
 text_after response date close Code = codes " " ++ (phrase_of response.status
     ++ from_date_name response date close)
 text_after response date close Space = phrase_of response.status

@@ -24,12 +24,7 @@ fn field_count(fields: &Fields) -> usize
 
 /// Copies bytes of the segment at the cursor, and goes to the next segment where there is room for
 /// more.
-fn copy_next(
-    response: &Response,
-    head: &HeadParts,
-    cursor: &mut Cursor,
-    into: &mut [u8],
-) -> usize
+fn copy_next(response: &Response, head: &HeadParts, cursor: &mut Cursor, into: &mut [u8]) -> usize
     requires code { head.now.code ≡ response.now.status }
     requires not_end { cursor.old.segment ≢ Segment.End }
     requires some { 0 < length into.old }

@@ -43,7 +43,7 @@ impl Segment {
         ensures after { (response : Whole) (date : List ℕ) (close : Bool)
             → length response.fields ≡ fields
             → segment_text response date close result ++ text_after response date close result
-                ≡ text_after response date close self }
+            ≡ text_after response date close self }
         ensures nearer { self ≢ Segment.End
             → segments_left fields result < segments_left fields self }
     {

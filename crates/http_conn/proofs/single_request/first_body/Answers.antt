@@ -7,10 +7,11 @@ use Rattle.http_conn.proofs.single_request.first_body.Goals as goal
 
 -- the body is complete
 pub returns-then-fed-clause-some : goal.returns-then-fed-clause-some
-returns-then-fed-clause-some c =
-    (c.in-Ok.ensures.within,
-    subst (IsBody c.args.form (take c.in-Ok.fed.taken c.args.bytes.now)) (sym c.in_ok-body-in-Ok.ensures.bytes)
-    (c.in-Ok.ensures.whole c.if-fed.true c.args.form [] c.new-payload.ensures))
+returns-then-fed-clause-some c = (
+  c.in-Ok.ensures.within,
+  subst (IsBody c.args.form (take c.in-Ok.fed.taken c.args.bytes.now)) (sym c.in_ok-body-in-Ok.ensures.bytes)
+      (c.in-Ok.ensures.whole c.if-fed.true c.args.form [] c.new-payload.ensures),
+)
 
 -- it is not, and no other one is
 pub returns-in-Ok-clause-none : goal.returns-in-Ok-clause-none

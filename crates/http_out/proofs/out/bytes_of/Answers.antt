@@ -16,10 +16,12 @@ loop-count-init c =
     let count = c.fill-count.result in
     let piece : List ℕ = c.fill-count.new.into in
     let copies = c.fill-count.ensures.copies in
-    let size = copies_length start new _ piece count copies in
-    (ap (λ (t : List ℕ). t ++ (take count piece ++ new)) c.new-text.ensures ∙ gathers start new _ piece count copies,
-    omega (arith, size), omega (arith, size, copies.room),
-    none_left start new _ piece count copies c.fill-count.ensures.count (omega arith))
+    let size = copies_length start new _ piece count copies in (
+      ap (λ (t : List ℕ). t ++ (take count piece ++ new)) c.new-text.ensures ∙ gathers start new _ piece count copies,
+      omega (arith, size),
+      omega (arith, size, copies.room),
+      none_left start new _ piece count copies c.fill-count.ensures.count (omega arith),
+    )
 
 -- one piece more
 pub loop-count-preserved : goal.loop-count-preserved
@@ -33,12 +35,14 @@ loop-count-preserved c =
     let piece : List ℕ = c.fill-count-in-loop-count.new.into in
     let copies = c.fill-count-in-loop-count.ensures.copies in
     let size = copies_length left new l.piece piece count copies in
-    let more : List ℕ = take l.count l.piece in
-    (ap (λ (t : List ℕ). t ++ (take count piece ++ new)) c.in_ok-append.ensures.appended
-    ∙ ap (λ (t : List ℕ). (l.text ++ more) ++ t) (gathers left new l.piece piece count copies)
-    ∙ append_assoc l.text more left ∙ l.invariant.0,
-    omega (arith, size, l.invariant.1), omega (arith, size, copies.room),
-    none_left left new l.piece piece count copies c.fill-count-in-loop-count.ensures.count (omega (arith, l.invariant.1)))
+    let more : List ℕ = take l.count l.piece in (
+      ap (λ (t : List ℕ). t ++ (take count piece ++ new)) c.in_ok-append.ensures.appended
+          ∙ ap (λ (t : List ℕ). (l.text ++ more) ++ t) (gathers left new l.piece piece count copies)
+          ∙ append_assoc l.text more left ∙ l.invariant.0,
+      omega (arith, size, l.invariant.1),
+      omega (arith, size, copies.room),
+      none_left left new l.piece piece count copies c.fill-count-in-loop-count.ensures.count (omega (arith, l.invariant.1)),
+    )
 
 pub loop-count-smaller : goal.loop-count-smaller
 loop-count-smaller c =
