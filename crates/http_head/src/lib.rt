@@ -37,6 +37,3 @@ pub use head_parser::{FIELD_LIMIT, HEAD_LINE_LIMIT, read_head};
 pub use head_scan::HeadSearch;
 pub use persistence::closes;
 pub use request_head::{HeadFault, RequestHead};
-
-#[cfg(test)]
-mod tests;

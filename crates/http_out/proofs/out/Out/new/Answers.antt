@@ -1,4 +1,4 @@
-use Rattle.std.proofs.Common.{◌≡◌, List, ℕ, ap, ◌∙◌}
+use Rattle.std.proofs.Common.{List, ℕ, ap, ◌∙◌}
 use Rattle.http_out.specs.declared.segment.Segment.TheVariants.{Version}
 use Rattle.http_out.specs.Segments.{left_at}
 use Rattle.http_out.proofs.SegmentLemmas.{whole_text}
