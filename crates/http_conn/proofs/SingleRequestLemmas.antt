@@ -5,15 +5,14 @@ use Rattle.std.proofs.lemmas.List.{take_all, drop_all, drop-drop, take-append-dr
 use Rattle.pod_base.specs.declared.request.Request.{Request}
 use Rattle.pod_base.specs.declared.heard.Heard.{Heard}
 use Rattle.pod_base.specs.declared.heard.Heard.TheVariants as heard
-use Rattle.http_head.specs.declared.head_ends.HeadEnd.{HeadEnd}
-use Rattle.http_head.specs.declared.head_ends.HeadEnd.TheVariants.{Whole, NotYet, TooLong}
+use Rattle.http_head.specs.declared.head_ends.HeadEnd.TheVariants.{NotYet, TooLong}
 use Rattle.http_head.specs.declared.request_head.RequestHead.{RequestHead}
 use Rattle.http_head.specs.declared.body_form.BodyForm.{BodyForm}
 use Rattle.http_head.specs.HeadEnds.{blank_length, head_length, length_in, end_of, head_end}
 use Rattle.http_head.specs.Persistence.{closes}
 use Rattle.http_head.specs.Expectation.{expects_continue}
 use Rattle.http_payload.specs.Bodies.{IsBody}
-use Rattle.http_conn.specs.Messages.{HasHead, IsFirstRequest, Requests, IsBadMessage, bad_head, too_long, IsPartialMessage, in_head, IsOpen, Messages, unfinished, refused, ended, events_of, request_events, interim_of, with_body, rest_length, closes_connection}
+use Rattle.http_conn.specs.Messages.{HasHead, IsFirstRequest, IsBadMessage, bad_head, too_long, in_head, IsOpen, Messages, unfinished, refused, ended, events_of, interim_of, with_body, rest_length, closes_connection}
 use Rattle.http_conn.specs.SingleRequest.{AreEmptyLines, IsOneRequest}
 use Rattle.std.specs.Option.{option_map}
 use Rattle.http_head.proofs.HeadEndLaws.{in_stays, whole_within}

@@ -21,7 +21,7 @@ use Rattle.http_payload.specs.Chunks as chunks
 use Rattle.http_payload.specs.Bodies.{Ends, IsBody}
 use Rattle.http_payload.proofs.Prefixes.{prefixes}
 use Rattle.http_payload.proofs.LawLemmas.{partial_before}
-use Rattle.http_conn.specs.Messages.{HasHead, IsFirstRequest, Requests, IsBadHead, too_long, too_many, malformed, host, conflict, coding, too_large, IsBadMessage, bad_head, bad_body, status_of, IsPartialMessage, in_head, in_body, IsOpen, Messages, unfinished, refused, ended, events_of, interim_of, with_body, rest_length, closes_connection}
+use Rattle.http_conn.specs.Messages.{HasHead, IsFirstRequest, Requests, IsBadHead, too_long, too_many, malformed, host, conflict, coding, too_large, IsBadMessage, bad_head, bad_body, IsPartialMessage, in_head, in_body, IsOpen, Messages, unfinished, refused, ended, events_of, interim_of, with_body, rest_length, closes_connection}
 use Rattle.http_conn.specs.declared.events.TheConstants.{REQUEST_LIMIT}
 use Rattle.http_head.proofs.HeadEndLaws.{whole_within}
 use Rattle.http_conn.proofs.StepLemmas.{requests_snoc}

@@ -1,19 +1,15 @@
 -- The states of a connection, and the texts that they represent.
-use Rattle.std.specs.Prelude.{◌≡◌, ℕ, ◌+◌, ◌-◌, ◌*◌, ◌<◌, ◌≤◌, List, [], ◌∷◌, ◌++◌, length, drop}
-use Rattle.std.specs.Prelude.{Ok}
+use Rattle.std.specs.Prelude.{◌≡◌, ℕ, ◌≤◌, List, ◌++◌, length, drop}
 use Rattle.pod_base.specs.declared.request.Request.{Request}
 use Rattle.pod_base.specs.declared.heard.Heard.{Heard}
-use Rattle.http_head.specs.declared.head_ends.HeadEnd.TheVariants.{Whole, NotYet}
-use Rattle.http_head.specs.declared.request_head.RequestHead.{RequestHead}
+use Rattle.http_head.specs.declared.head_ends.HeadEnd.TheVariants.{NotYet}
 use Rattle.http_head.specs.declared.body_form.BodyForm.{BodyForm}
 use Rattle.http_head.specs.HeadEnds.{head_end}
-use Rattle.http_head.specs.Heads.{ParsesTo}
-use Rattle.http_head.specs.BodyFraming.{framing}
 use Rattle.http_head.specs.HeadScan.{HasScanned}
 use Rattle.http_payload.specs.Bodies.{IsPartial as IsPartialBody}
 use Rattle.http_payload.specs.PayloadState as payload
 use Rattle.http_conn.specs.Messages.{HasHead, Requests, IsOpen, Messages, events_of, interim_of}
-use Rattle.http_conn.specs.Messages.{rest_length, with_body}
+use Rattle.http_conn.specs.Messages.{rest_length}
 use Rattle.http_conn.specs.declared.parser_state.ParserState.{ParserState}
 use Rattle.http_conn.specs.declared.parser_state.ParserState.TheVariants.{Head, Body, Closed}
 use Rattle.http_conn.specs.declared.parser_state.ParserState.TheVariants.{Failed}

@@ -1,25 +1,20 @@
 -- The steps of the parser, from state to state.
-use Rattle.std.specs.Prelude.{◌≡◌, ℕ, ◌+◌, ◌-◌, ◌*◌, ◌<◌, ◌≤◌, List, [], ◌∷◌, ◌++◌, length, drop}
+use Rattle.std.specs.Prelude.{◌≡◌, ℕ, ◌+◌, ◌-◌, ◌*◌, ◌<◌, ◌≤◌, List, [], ◌∷◌, ◌++◌, length}
 use Rattle.std.specs.Prelude.{Ok}
 use Rattle.pod_base.specs.declared.request.Request.{Request}
 use Rattle.pod_base.specs.declared.heard.Heard.{Heard}
-use Rattle.http_head.specs.declared.head_ends.HeadEnd.TheVariants.{Whole, NotYet}
+use Rattle.http_head.specs.declared.head_ends.HeadEnd.TheVariants.{Whole}
 use Rattle.http_head.specs.declared.request_head.RequestHead.{RequestHead}
 use Rattle.http_head.specs.declared.body_form.BodyForm.{BodyForm}
 use Rattle.http_head.specs.HeadEnds.{head_end}
 use Rattle.http_head.specs.Heads.{ParsesTo}
 use Rattle.http_head.specs.BodyFraming.{framing}
-use Rattle.http_head.specs.HeadScan.{HasScanned}
-use Rattle.http_payload.specs.Bodies.{IsPartial as IsPartialBody}
-use Rattle.http_payload.specs.PayloadState as payload
 use Rattle.http_conn.specs.Messages.{Requests, IsOpen, events_of, interim_of, rest_length}
 use Rattle.http_conn.specs.Messages.{with_body}
 use Rattle.http_conn.specs.ParserStates.{Represents}
 use Rattle.http_conn.specs.declared.parser_state.ParserState.{ParserState}
 use Rattle.http_conn.specs.declared.parser_state.ParserState.TheVariants.{Head, Body, Closed}
 use Rattle.http_conn.specs.declared.parser_state.ParserState.TheVariants.{Failed}
-use Rattle.http_conn.specs.declared.parser_state.PartialHead.{PartialHead}
-use Rattle.http_conn.specs.declared.parser_state.PartialBody.{PartialBody}
 
 -- a body that has ended needs no more bytes for a step
 abbrev pub measure : ParserState → ℕ

@@ -1,4 +1,4 @@
-use Rattle.std.proofs.Common.{◌≡◌, ◌≢◌, ℕ, List, [], ◌++◌, take, drop, sym, subst}
+use Rattle.std.proofs.Common.{◌≢◌, ℕ, List, [], take, drop, sym, subst}
 use Rattle.std.proofs.lemmas.List.{take-append-drop}
 use Rattle.http_payload.specs.declared.payload_fault.PayloadFault.TheVariants.{Malformed, TooLarge, NoMemory}
 use Rattle.http_payload.specs.Bodies.{IsBody, IsFault, IsPartial}

@@ -1,4 +1,4 @@
-use Rattle.std.proofs.Common.{◌≡◌, ℕ, List, Result, Ok, Err, length, take, refl, sym, ap, subst, ◌∙◌}
+use Rattle.std.proofs.Common.{◌≡◌, ℕ, List, Ok, Err, length, take, refl, sym, ap, subst, ◌∙◌}
 use Rattle.std.proofs.lemmas.List.{length-take-le}
 use Rattle.http_head.specs.declared.head_ends.HeadEnd.TheVariants.{Whole}
 use Rattle.http_head.specs.declared.request_head.RequestHead.{RequestHead}
@@ -7,7 +7,7 @@ use Rattle.http_head.specs.declared.body_framing.FramingFault.{FramingFault}
 use Rattle.http_head.specs.HeadEnds.{head_end}
 use Rattle.http_head.specs.Heads.{HasTooManyLines, IsMalformedHead, LacksHost, ParsesTo}
 use Rattle.http_head.specs.BodyFraming.{framing}
-use Rattle.http_conn.specs.Messages.{HasHead, IsBadHead, too_many, malformed, host}
+use Rattle.http_conn.specs.Messages.{HasHead, too_many, malformed, host}
 use Rattle.http_head.proofs.HeadEndLaws.{whole_prefix}
 use Rattle.http_conn.proofs.Parses.{framed_once, head_not_bad, same_length}
 use Rattle.http_conn.proofs.single_request.framed_head.Goals as goal
