@@ -178,7 +178,7 @@ pub never_last_end : (byte : ℕ) → byte ≢ 10 → (line body : List ℕ) →
 never_last_end byte other line body =
     never_byte (payload_state LastEnd line body) byte (λ ending h. let e = h.0 in cc) (λ more ending h. let e = h.0 in other (cc))
 
--- ---- what the calls below tell
+-- ---- from the clauses of the calls below
 
 pub taken_if : (stage next : Stage) (byte wanted : ℕ) → TakesByte stage wanted next → (r : Option Stage)
     → IfSome r (λ found. (found ≡ next) × (byte ≡ wanted)) → IfSome r (TakesByte stage byte)

@@ -12,7 +12,7 @@ use Rattle.http_payload.specs.ChunkLines.{NeverLine, IsLineOf}
 use Rattle.http_payload.specs.Steps.{Steps, Never, Passes}
 use Rattle.http_payload.proofs.Prefixes.{prefixes}
 
--- one line stands at the front of a text
+-- one line is a prefix of a text
 pub one_line : (l k : ChunkLine) (r q : List ℕ) → IsShortLine l → IsShortLine k
     → print_chunk_line l ++ r ≡ print_chunk_line k ++ q → (l ≡ k) × (r ≡ q)
 one_line l k r q is_l is_k e =
@@ -112,7 +112,7 @@ line_first {before} {text} {ending} h = by_case (opened h)
       text_is = text_is ∙ append_assoc (print_chunk_line c.line) (c.bytes ++ crlf) rest;
     }
 
--- after a line of size 0 stand the trailers
+-- after a line of size 0 come the trailers
 pub after_zero : {before rest : List ℕ} {ending : Ending} (line : ChunkLine) → IsShortLine line → chunk_size line ≡ 0
     → EndsInChunks before (print_chunk_line line ++ rest) ending → IsTrailers 0 rest × (ending ≡ Whole before)
 after_zero {before} {rest} {ending} line is_line zero h = by_case (opened h)
@@ -129,7 +129,7 @@ after_zero {before} {rest} {ending} line is_line zero h = by_case (opened h)
         (text_is ∙ append_assoc (print_chunk_line c.line) (c.bytes ++ crlf) later) in
         absurd (omega (arith, is_chunk.some, is_chunk.size, ap chunk_size same.0, zero))
 
--- after a line of another size that fits stands the chunk
+-- after a line of another size that fits comes the chunk
 pub after_size : {before rest : List ℕ} {ending : Ending} (line : ChunkLine) → IsShortLine line → 0 < chunk_size line
     → length before + chunk_size line ≤ BODY_LIMIT
     → EndsInChunks before (print_chunk_line line ++ rest) ending → InChunk (chunk_size line) before rest ending
@@ -189,7 +189,7 @@ chunk_bytes_step n line body bytes fits = record {
   };
 }
 
--- bytes of a body of a told length
+-- bytes of a body of a known length
 pub rest_step : (n : ℕ) (line body bytes : List ℕ) → length bytes ≤ n
     → Steps (payload_state (Rest n) line body) bytes (payload_state (Rest (n - length bytes)) line (body ++ bytes))
 rest_step n line body bytes fits = record {
@@ -250,7 +250,7 @@ over_line_passes line body bytes taken size l over fits = (
   closed_over (record { line = l.line; is_line = l.is_line; over = omega (arith, over, l.size_is); text_is = l.text_is }) fits,
 )
 
--- where no line goes on so, no body does
+-- where no line continues so, no body does
 pub never_line : (line body bytes : List ℕ) → NeverLine (line ++ bytes) → Never (payload_state Line line body) bytes
 never_line line body bytes never more prefix rest ending e h =
     let first = line_first h in

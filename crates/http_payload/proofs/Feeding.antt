@@ -1,4 +1,4 @@
--- What each answer of a feed says, and that no other comes.
+-- Each result of a feed is right, and no other comes.
 use Rattle.std.proofs.Common.{◌≡◌, ◌≢◌, ℕ, ◌-◌, ◌≤◌, Bool, true, false, IsTrue, List, ◌++◌, length, take, drop, refl, sym, ap, ◌∙◌, subst, arith, length-append, append_assoc, inl, inr, None, Option, Result, Ok, Err, IfSome}
 use Rattle.std.proofs.lemmas.List.{take-append-drop, length-take-le, take_all}
 use Rattle.http_head.specs.declared.body_form.BodyForm.{BodyForm}
@@ -23,7 +23,7 @@ partial_at form new text piece taken represents sound not_done all =
     subst (λ (t : List ℕ). IsPartial form (text ++ t)) (take_all taken piece (omega arith))
     (partial_of form new (text ++ take taken piece) represents sound not_done)
 
--- the front that was taken, and the rest
+-- the prefix that was taken, and the rest
 whole_piece : (text piece : List ℕ) (taken : ℕ) → (text ++ take taken piece) ++ drop taken piece ≡ text ++ piece
 whole_piece text piece taken =
     append_assoc text (take taken piece) (drop taken piece) ∙ ap (λ (t : List ℕ). text ++ t) (take-append-drop taken piece)

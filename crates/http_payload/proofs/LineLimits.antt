@@ -23,7 +23,7 @@ pub print_chunk_line-core : (l : ChunkLine) → print_chunk_line l ≡ core l ++
 unfolding print_chunk_line
 print_chunk_line-core l = simp append_assoc
 
--- a beginning of a line that has a digit is a line without its end
+-- a prefix of a line that has a digit is a line without its end
 pub record IsCore (text : List ℕ) : Type 0 where
   pub line : ChunkLine
   pub grammar : IsChunkLine line
@@ -69,8 +69,8 @@ in_pad digits pad extension text more g e =
           }
     ]
 
-pub front_is_core : (l : ChunkLine) (text more : List ℕ) → IsChunkLine l → 0 < length text → core l ≡ text ++ more → IsCore text
-front_is_core l text more g some e =
+pub prefix_is_core : (l : ChunkLine) (text more : List ℕ) → IsChunkLine l → 0 < length text → core l ≡ text ++ more → IsCore text
+prefix_is_core l text more g some e =
     elim (cases_lt (length l.digits) (length text)) [
       | inl longer ↦
           let cut = prefixes l.digits text (l.pad ++ print_extension l.extension) more e (omega arith) in
@@ -93,7 +93,7 @@ front_is_core l text more g some e =
           }
     ]
 
--- no CR stands in a line before its end
+-- no CR is in a line before its end
 extension_no_cr : (extension : Option (List ℕ)) → IsExtension extension → All (λ b. b ≢ 13) (print_extension extension)
 extension_no_cr None g = All-nil (λ b. b ≢ 13)
 extension_no_cr (Some text) g =
@@ -108,7 +108,7 @@ core_no_cr l g =
     (All-weaker (λ b. IsTrue (is_ows b)) (λ b. b ≢ 13) (λ b passes same. grind (arith, nat_tests)) l.pad g.pad)
     (extension_no_cr l.extension g.extension))
 
--- the end of a line that has become of a beginning and more
+-- the end of a line that is a prefix and more
 line_text : (text more : List ℕ) (l : ChunkLine) → ReadsChunkLine (text ++ more) l [] → text ++ more ≡ core l ++ (13 ∷ 10 ∷ [])
 line_text text more l reads = reads.1 ∙ append-nil (print_chunk_line l) ∙ print_chunk_line-core l
 
@@ -120,13 +120,13 @@ length-line_text text more l reads =
     omega (arith, ap length e, length-append text more, length-append (core l) (13 ∷ 10 ∷ [])) in
     (sum, omega (arith, sum, ap length (print_chunk_line-core l), length-append (core l) (13 ∷ 10 ∷ [])))
 
--- a beginning without its CR
+-- a prefix without its CR
 inside : (text more : List ℕ) (l : ChunkLine) → HasNoChunkLine text → IsChunkLine l → core l ≡ text ++ more → CanEnd text
     → IsOpenLine text
 inside [] more l none g e can = open_at_first
 inside (x ∷ tail) more l none g e (inl short) =
     let text : List ℕ = x ∷ tail in
-    let is_core = front_is_core l text more g (omega arith) e in
+    let is_core = prefix_is_core l text more g (omega arith) e in
     let whole : text ++ (13 ∷ 10 ∷ []) ≡ print_chunk_line is_core.line =
     ap (λ (t : List ℕ). t ++ (13 ∷ 10 ∷ [])) is_core.text_is ∙ sym (print_chunk_line-core is_core.line) in
     record {
@@ -146,7 +146,7 @@ at_most : (text : List ℕ) → CanEnd text → length text ≤ 255
 at_most text (inl short) = omega arith
 at_most text (inr full) = omega (arith, full.0)
 
--- a beginning that can end within the limit is open
+-- a prefix that can end within the limit is open
 pub open_line : (text more : List ℕ) (l : ChunkLine) → HasNoChunkLine text → ReadsChunkLine (text ++ more) l [] → CanEnd text
     → IsOpenLine text
 open_line text [] l none reads can =
@@ -165,7 +165,7 @@ open_line text (x ∷ y ∷ more) l none reads can =
     let cut = prefixes text (core l) (x ∷ y ∷ more) (13 ∷ 10 ∷ []) (line_text text (x ∷ y ∷ more) l reads) (omega (arith, lengths.0)) in
     inside text cut.0 l none reads.0 cut.1 can
 
--- a beginning that can't is never a line
+-- a prefix that can't is never a line
 pub never_open : (text : List ℕ) → HasNoChunkLine text → (CanEnd text → ⊥) → NeverLine text
 never_open text none full more rest line is_line e =
     elim (cases_lt (length text) (length (print_chunk_line line))) [

@@ -1,4 +1,4 @@
--- What a payload's answers say of the texts that it stands for.
+-- The results of a payload, for the texts that it represents.
 use Rattle.std.proofs.Common.{◌≡◌, ◌≢◌, ℕ, ◌+◌, ◌≤◌, List, [], ◌∷◌, ◌++◌, length, zero, suc, refl, sym, ap, ◌∙◌, subst, arith, length-append, append_assoc, append-nil, inl, inr, None, Some}
 use Rattle.std.proofs.lemmas.Bool.{cases_lt, cases_eq}
 use Rattle.httparse.specs.Grammar.{chunk_size}
@@ -20,7 +20,7 @@ use Rattle.http_payload.proofs.ByteSteps.{some_end}
 use Rattle.http_payload.proofs.ChunkSteps.{line_first, closed_last, closed_over, from_size}
 use Rattle.http_payload.proofs.LawLemmas.{one_outcome}
 
--- a payload that read on stands for the longer text
+-- a payload that took bytes represents the longer text
 pub represents_on : {form : BodyForm} {old new : PayloadState} {text bytes : List ℕ} → Represents form old text → Steps old bytes new
     → fault_of new ≡ None → Represents form new (text ++ bytes)
 represents_on {form} {old} {new} {text} {bytes} represents steps no_fault = record {
@@ -147,7 +147,7 @@ not_ended_at (TrailerEnd used) line body sound not_done ending h = let e = h.1 i
 not_ended_at LastEnd line body sound not_done ending h = let e = h.0 in cc
 not_ended_at (Failed fault) line body sound not_done ending h = h
 
--- no end stands in the text of what isn't done
+-- the text of what isn't done has no end
 no_end_before : (form : BodyForm) (h : PayloadState) (text : List ℕ) → Represents form h text → IsSound h
     → ((ending : Ending) → Left h [] ending → ⊥) → HasNoEnd form text
 no_end_before form h text represents sound open_now prefix rest ending text_is ends =
@@ -172,7 +172,7 @@ partial_of form h text represents sound not_done =
       continues = represents.ends on.more on.ending on.left;
     }
 
--- what is done is whole
+-- what is done is complete
 pub body_of : (form : BodyForm) (h : PayloadState) (text : List ℕ) → Represents form h text → IsDone h → IsBody form text h.body
 body_of form h text represents done =
     let left : Left h [] (Whole h.body) = subst (λ s. LeftAt s h.line h.body [] (Whole h.body)) (sym done)
@@ -199,9 +199,9 @@ fault_of_text form h text bytes TooLarge represents sound not_done passes memory
 )
 fault_of_text form h text bytes NoMemory represents sound not_done blocks memory = absurd (memory refl)
 
--- a payload at the beginning of a body
-stands_at_first : (form : BodyForm) → Represents form (payload_state (first_stage form) [] []) []
-stands_at_first Empty = record {
+-- a payload at the start of a body
+represents_at_first : (form : BodyForm) → Represents form (payload_state (first_stage form) [] []) []
+represents_at_first Empty = record {
   no_fault = refl;
   left = λ more ending h. (ap length h.0, h.1 ∙ ap Whole (sym h.0));
   ends = λ more ending h. (nothing more h.0, h.1 ∙ ap Whole (nothing more h.0));
@@ -210,11 +210,11 @@ stands_at_first Empty = record {
     nothing : (t : List ℕ) → length t ≡ 0 → t ≡ []
     nothing [] e = refl
     nothing (x ∷ t) e = absurd (omega arith)
-stands_at_first (Length n) = record { no_fault = refl; left = λ more ending h. h; ends = λ more ending h. h }
-stands_at_first Chunked = record { no_fault = refl; left = λ more ending h. h; ends = λ more ending h. h }
+represents_at_first (Length n) = record { no_fault = refl; left = λ more ending h. h; ends = λ more ending h. h }
+represents_at_first Chunked = record { no_fault = refl; left = λ more ending h. h; ends = λ more ending h. h }
 
-pub stands_first : (form : BodyForm) (h : PayloadState) → h ≡ payload_state (first_stage form) [] [] → Represents form h []
-stands_first form h e = subst (λ k. Represents form k []) (sym e) (stands_at_first form)
+pub represents_first : (form : BodyForm) (h : PayloadState) → h ≡ payload_state (first_stage form) [] [] → Represents form h []
+represents_first form h e = subst (λ k. Represents form k []) (sym e) (represents_at_first form)
 
 pub sound_first : (form : BodyForm) → IsSoundAt (first_stage form) [] []
 sound_first Empty = tt

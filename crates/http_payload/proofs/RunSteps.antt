@@ -1,4 +1,4 @@
--- The steps of a run, from what its calls tell.
+-- The steps of a feed, from the clauses of its calls.
 use Rattle.std.proofs.Common.{◌≡◌, ℕ, ◌+◌, ◌-◌, ◌<◌, ◌≤◌, List, [], ◌++◌, length, take, drop, min, refl, sym, ap, ◌∙◌, subst, arith, length-append, Ok, Err}
 use Rattle.std.proofs.lemmas.List.{take-append-drop, length-take-le, length-drop, take_all}
 use Rattle.std.proofs.Math.Seq.{take-append-add}

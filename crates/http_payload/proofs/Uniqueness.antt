@@ -4,7 +4,7 @@ use Rattle.std.specs.List.{AllByRecursion}
 use Rattle.httparse.specs.Grammar.{ChunkLine, print_chunk_line, chunk_size}
 use Rattle.http_head.specs.declared.content_length.TheConstants.{BODY_LIMIT}
 use Rattle.http_payload.specs.Chunks.{crlf, AreLineBytes, IsTrailer, trailer_texts, IsTrailers, Chunk, chunk_text, IsChunk, chunk_texts, chunk_bytes, IsLast, IsOverLine, Ending, Whole, Over, EndsAs, EndsInChunks}
-use Rattle.http_payload.proofs.Prefixes.{same_fronts}
+use Rattle.http_payload.proofs.Prefixes.{same_prefixes}
 use Rattle.http_payload.proofs.TrailerSteps.{stays_no_cr}
 use Rattle.http_payload.proofs.ChunkSteps.{one_line, Opens, at_last, at_over, at_chunk, opened}
 
@@ -42,18 +42,18 @@ one_trailers r s x y e =
     one_section x.lines y.lines r s x.each y.each
     (ap (λ (t : List ℕ). t ++ r) (sym x.text_is) ∙ e ∙ ap (λ (t : List ℕ). t ++ s) y.text_is)
 
--- the line at the front of a text, and what follows it
+-- the first line of a text, and what follows it
 abbrev pub Fronted : ChunkLine → List ℕ → List ℕ → Type 0
 Fronted line after text = text ≡ print_chunk_line line ++ after
 
 followed : (line : ChunkLine) (after text r : List ℕ) → Fronted line after text → Fronted line (after ++ r) (text ++ r)
 followed line after text r e = ap (λ (t : List ℕ). t ++ r) e ∙ append_assoc (print_chunk_line line) after r
 
-over_front : {used : ℕ} {text : List ℕ} (over : IsOverLine used text) → Fronted over.line [] text
-over_front over = over.text_is ∙ sym (append-nil (print_chunk_line over.line))
+over_prefix : {used : ℕ} {text : List ℕ} (over : IsOverLine used text) → Fronted over.line [] text
+over_prefix over = over.text_is ∙ sym (append-nil (print_chunk_line over.line))
 
-chunk_front : (c : Chunk) (after text : List ℕ) → text ≡ chunk_text c ++ after → Fronted c.line ((c.bytes ++ crlf) ++ after) text
-chunk_front c after text e = e ∙ append_assoc (print_chunk_line c.line) (c.bytes ++ crlf) after
+chunk_prefix : (c : Chunk) (after text : List ℕ) → text ≡ chunk_text c ++ after → Fronted c.line ((c.bytes ++ crlf) ++ after) text
+chunk_prefix c after text e = e ∙ append_assoc (print_chunk_line c.line) (c.bytes ++ crlf) after
 
 abbrev pub OneEnd : List ℕ → List ℕ → Ending → Ending → Type 0
 OneEnd r s e f = (r ≡ s) × (e ≡ f)
@@ -66,28 +66,28 @@ last_end before a b r s e f last whole same (at_last other other_whole fits) =
     (one_trailers r s last.trailers other.trailers lines.1, whole ∙ sym other_whole)
 last_end before a b r s e f last whole same (at_over over is_over fits) =
     let lines = one_line last.line over.line (last.after ++ r) s last.is_line over.is_line
-    (sym (followed last.line last.after a r last.text_is) ∙ same ∙ followed over.line [] b s (over_front over)) in
+    (sym (followed last.line last.after a r last.text_is) ∙ same ∙ followed over.line [] b s (over_prefix over)) in
     absurd (omega (arith, over.over, last.zero, ap chunk_size lines.0, fits))
 last_end before a b r s e f last whole same (at_chunk c after is_chunk text_is ends) =
     let lines = one_line last.line c.line (last.after ++ r) (((c.bytes ++ crlf) ++ after) ++ s) last.is_line is_chunk.line
     (sym (followed last.line last.after a r last.text_is) ∙ same
-    ∙ followed c.line ((c.bytes ++ crlf) ++ after) b s (chunk_front c after b text_is)) in
+    ∙ followed c.line ((c.bytes ++ crlf) ++ after) b s (chunk_prefix c after b text_is)) in
     absurd (omega (arith, is_chunk.some, is_chunk.size, last.zero, ap chunk_size lines.0))
 
 over_end : (before a b r s : List ℕ) (e f : Ending) → IsOverLine (length before) a → length before ≤ BODY_LIMIT → e ≡ Over
     → a ++ r ≡ b ++ s → Opens before b f → OneEnd r s e f
 over_end before a b r s e f over room is_over same (at_last last whole fits) =
     let lines = one_line over.line last.line r (last.after ++ s) over.is_line last.is_line
-    (sym (followed over.line [] a r (over_front over)) ∙ same ∙ followed last.line last.after b s last.text_is) in
+    (sym (followed over.line [] a r (over_prefix over)) ∙ same ∙ followed last.line last.after b s last.text_is) in
     absurd (omega (arith, over.over, last.zero, ap chunk_size lines.0, fits))
 over_end before a b r s e f over room is_over same (at_over other other_over fits) =
     let lines = one_line over.line other.line r s over.is_line other.is_line
-    (sym (followed over.line [] a r (over_front over)) ∙ same ∙ followed other.line [] b s (over_front other)) in
+    (sym (followed over.line [] a r (over_prefix over)) ∙ same ∙ followed other.line [] b s (over_prefix other)) in
     (lines.1, is_over ∙ sym other_over)
 over_end before a b r s e f over room is_over same (at_chunk c after is_chunk text_is ends) =
     let lines = one_line over.line c.line r (((c.bytes ++ crlf) ++ after) ++ s) over.is_line is_chunk.line
-    (sym (followed over.line [] a r (over_front over)) ∙ same
-    ∙ followed c.line ((c.bytes ++ crlf) ++ after) b s (chunk_front c after b text_is)) in
+    (sym (followed over.line [] a r (over_prefix over)) ∙ same
+    ∙ followed c.line ((c.bytes ++ crlf) ++ after) b s (chunk_prefix c after b text_is)) in
     let fits : length (before ++ c.bytes) ≤ BODY_LIMIT = chunk_fits ends in
     absurd (omega (arith, over.over, is_chunk.size, ap chunk_size lines.0, fits, length-append before c.bytes))
   where
@@ -108,9 +108,9 @@ chunk_end before a b r s tail e f c is_chunk text_is ends same next (at_over ove
 chunk_end before a b r s tail e f c is_chunk text_is ends same next (at_chunk d rest d_is_chunk d_text d_ends) =
     let lines = one_line c.line d.line (((c.bytes ++ crlf) ++ tail) ++ r) (((d.bytes ++ crlf) ++ rest) ++ s)
     is_chunk.line d_is_chunk.line
-    (sym (followed c.line ((c.bytes ++ crlf) ++ tail) a r (chunk_front c tail a text_is)) ∙ same
-    ∙ followed d.line ((d.bytes ++ crlf) ++ rest) b s (chunk_front d rest b d_text)) in
-    let bytes = same_fronts c.bytes d.bytes (crlf ++ (tail ++ r)) (crlf ++ (rest ++ s))
+    (sym (followed c.line ((c.bytes ++ crlf) ++ tail) a r (chunk_prefix c tail a text_is)) ∙ same
+    ∙ followed d.line ((d.bytes ++ crlf) ++ rest) b s (chunk_prefix d rest b d_text)) in
+    let bytes = same_prefixes c.bytes d.bytes (crlf ++ (tail ++ r)) (crlf ++ (rest ++ s))
     (sym (three c.bytes tail r) ∙ lines.1 ∙ three d.bytes rest s)
     (omega (arith, is_chunk.size, d_is_chunk.size, ap chunk_size lines.0)) in
     next rest (subst (λ (t : List ℕ). EndsInChunks (before ++ t) rest f) (sym bytes.0) d_ends) (behind_end (tail ++ r) (rest ++ s) bytes.1)
@@ -134,12 +134,12 @@ one_end [] before a b r s Over f after each fits ends text_is y same =
 one_end (c ∷ chunks) before a b r s e f after each fits ends text_is y same =
     let nested : before ++ (c.bytes ++ chunk_bytes chunks) ≡ (before ++ c.bytes) ++ chunk_bytes chunks =
     sym (append_assoc before c.bytes (chunk_bytes chunks)) in
-    let fits_behind = subst (λ (t : List ℕ). length t ≤ BODY_LIMIT) nested fits in
-    let ends_behind = subst (λ t. EndsAs t after e) nested ends in
+    let fits_after = subst (λ (t : List ℕ). length t ≤ BODY_LIMIT) nested fits in
+    let ends_after = subst (λ t. EndsAs t after e) nested ends in
     chunk_end before a b r s (chunk_texts chunks ++ after) e f c each.0
     (text_is ∙ append_assoc (chunk_text c) (chunk_texts chunks) after)
-    (record { chunks = chunks; after = after; each = each.1; fits = fits_behind; ends = ends_behind; text_is = refl })
+    (record { chunks = chunks; after = after; each = each.1; fits = fits_after; ends = ends_after; text_is = refl })
     same
     (λ rest more rests. one_end chunks (before ++ c.bytes) (chunk_texts chunks ++ after) rest r s e f after each.1
-    fits_behind ends_behind refl more rests)
+    fits_after ends_after refl more rests)
     (opened y)

@@ -13,10 +13,10 @@ returns-in_err-len-clause-fault c =
 
 line_is : (c : goal.After-clear) → KeptLine c.args.line.now.items c.args.bytes.now c.in-Some.len c.in-Some.size
 line_is c =
-    let told = rw c.in-Some.is at c.in_ok-len.ensures.some in
+    let known = rw c.in-Some.is at c.in_ok-len.ensures.some in
     let text = c.as_slice.ensures.value ∙ c.in_ok-extend_from_slice.ensures.items in
     kept_line c.args.line.now.items c.args.bytes.now c.min.result c.in-Some.len c.in-Some.size c.requires.open
-    (subst (λ t. BeginsWithLine t c.in-Some.len c.in-Some.size) text told) (omega (arith, c.min.ensures))
+    (subst (λ t. BeginsWithLine t c.in-Some.len c.in-Some.size) text known) (omega (arith, c.min.ensures))
 
 pub overflow_sub-result : goal.overflow_sub-result
 overflow_sub-result c = let l = line_is c in omega (arith, l.after, c.len-kept.ensures)

@@ -4,7 +4,7 @@ use Rattle.http_payload.specs.declared.stage.Stage.TheVariants.{Rest}
 use Rattle.http_payload.specs.PayloadState.{payload_state, IsSoundAt, Represents, fault_at}
 use Rattle.http_payload.proofs.feed_loop.feed_piece.Given as goal
 
--- What was taken so far was read: what it stood for goes on by these bytes. A whole body takes nothing.
+-- What was taken so far was read: the texts that it represented grow by these bytes. A complete body takes nothing.
 abbrev pub invariant-loop-taken : goal.invariant-loop-taken
 invariant-loop-taken l = record {
   within : l.taken ≤ length l.piece;

@@ -19,14 +19,14 @@ represents_after c form text represents =
 whole_after : (c : goal.After-is_end) (form : BodyForm) (text : List ℕ) → Represents form c.args.self.now text
     → IsTrue c.is_end.result → IsBody form (text ++ take c.in-Ok.step.taken c.args.piece.now) c.feed_piece.new.body.items
 unfolding later
-whole_after c form text represents told =
-    body_of form (later c) (text ++ take c.in-Ok.step.taken c.args.piece.now) (represents_after c form text represents) (c.is_end.ensures.yes told)
+whole_after c form text represents known =
+    body_of form (later c) (text ++ take c.in-Ok.step.taken c.args.piece.now) (represents_after c form text represents) (c.is_end.ensures.yes known)
 
 partial_after : (c : goal.After-is_end) (form : BodyForm) (text : List ℕ) → Represents form c.args.self.now text
     → c.is_end.result ≡ false → IsPartial form (text ++ c.args.piece.now)
 unfolding later
-partial_after c form text represents told =
-    let not_done = c.is_end.ensures.no told in
+partial_after c form text represents known =
+    let not_done = c.is_end.ensures.no known in
     partial_at form (later c) text c.args.piece.now c.in-Ok.step.taken (represents_after c form text represents) c.in-Ok.ensures.sound
     not_done (c.in-Ok.ensures.all not_done)
 
@@ -36,16 +36,16 @@ returns-in-Ok c = record {
   within = c.in-Ok.ensures.within;
   represents = represents_after c;
   done = c.is_end.ensures.yes;
-  whole = λ told form text represents. whole_after c form text represents told;
-  all = λ told. c.in-Ok.ensures.all (c.is_end.ensures.no told);
-  partial = λ told form text represents. partial_after c form text represents told;
+  whole = λ known form text represents. whole_after c form text represents known;
+  all = λ known. c.in-Ok.ensures.all (c.is_end.ensures.no known);
+  partial = λ known form text represents. partial_after c form text represents known;
   fault = tt;
   exact_whole = λ form text prefix rest body represents e is_body.
       whole_told form text c.args.piece.now c.in-Ok.step.taken c.is_end.result c.feed_piece.new.body.items c.in-Ok.ensures.within
       (whole_after c form text represents) (partial_after c form text represents) prefix rest body e is_body;
   exact_partial = λ form text represents partial.
       partial_told form text c.args.piece.now c.in-Ok.step.taken c.is_end.result c.feed_piece.new.body.items
-      (whole_after c form text represents) (λ told. c.in-Ok.ensures.all (c.is_end.ensures.no told)) partial;
+      (whole_after c form text represents) (λ known. c.in-Ok.ensures.all (c.is_end.ensures.no known)) partial;
   exact_fault = λ form text fault represents is_fault.
       fault_told form text c.args.piece.now c.in-Ok.step.taken c.is_end.result c.feed_piece.new.body.items fault
       (whole_after c form text represents) (partial_after c form text represents) is_fault;
@@ -53,7 +53,7 @@ returns-in-Ok c = record {
       let kept = c.in-Ok.ensures.done (ap (λ h. h.stage) c.self.view_is ∙ done) in
       let stage = kept.1 ∙ sym (ap (λ h. h.stage) c.self.view_is ∙ done) in (
         same_held stage kept.2 kept.3 ∙ c.self.view_is,
-        same_fed kept.0 (must_be_true c.is_end.result (λ told. c.is_end.ensures.no told kept.1)),
+        same_fed kept.0 (must_be_true c.is_end.result (λ known. c.is_end.ensures.no known kept.1)),
       );
   again = nothing_again _ _ (ap fault_of (sym c.self.view_is) ∙ no_fault_at c.self.inside.stage c.in_default.not-Failed);
   failed = tt;
