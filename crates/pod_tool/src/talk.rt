@@ -1,10 +1,11 @@
 ghost use Rattle.std.specs.Prelude.{◌≡◌, ◌≤◌, ◌<◌, ◌+◌, ◌^◌, ◌==◌, ◌∷◌, [], ℕ, List, length, IsTrue, IfOk, IfErr, OnOk, if◌then◌else◌};
 ghost use Rattle.std.specs.List.{AllByRecursion, list_all};
-ghost use Rattle.http_conn.specs.Messages.{EndsThere, most_requests};
+ghost use Rattle.http_conn.specs.Messages.{NothingAfterEnd};
 ghost use Rattle.http_out.specs.Dates.{Dated};
 ghost use Rattle.http_out.specs.Text.{interim_text, stays_in_line};
 ghost use Rattle.pod_base.specs.declared.heard.Heard.TheVariants as hears;
-ghost use Rattle.pod_io.specs.Counts.{Counts, Rose};
+ghost use Rattle.pod_base.specs.Counts.{CountIncreased};
+ghost use Rattle.pod_io.specs.Counts.{Counts};
 ghost use Rattle.pod_tool.specs.Fresh.{closes_after, refusal_word};
 ghost use Rattle.pod_tool.specs.Session.{requests_of};
 ghost use Rattle.pod_tool.specs.Talks.{CountsWrites, IsOver, IsRefused, IsSound, RefusedAs, Turns, TurnsIn};
@@ -37,7 +38,7 @@ fn closes_after(request: &Request, number: u64) -> bool
 
 /// The end behind the last request of a connection, by its number.
 fn end_behind(number: u64) -> PipeEnd
-    ensures { result ≡ (if number == most_requests then PipeEnd.Limit else PipeEnd.Closed) }
+    ensures { result ≡ (if number == REQUEST_LIMIT then PipeEnd.Limit else PipeEnd.Closed) }
 {
     if number == REQUEST_LIMIT {
         PipeEnd::Limit
@@ -96,7 +97,7 @@ fn refuse<K: Sink, C: Clock>(alloc: Global, status: u16, output: &mut K, clock: 
     requires { (200 ≤ status) × (status < 600) }
     ensures refused { RefusedAs (C.may_give clock.now) status result (K.taken output.old) (K.taken output.new) }
     ensures no_fewer { K.faults output.old ≤ K.faults output.new }
-    ensures failed { result ≡ PipeEnd.WriteFault → Rose (K.faults output.old) (K.faults output.new) }
+    ensures failed { result ≡ PipeEnd.WriteFault → CountIncreased (K.faults output.old) (K.faults output.new) }
 {
     let Ok(out) = refusal_out(alloc, status, clock) else {
         return PipeEnd::NoMemory;
@@ -192,7 +193,7 @@ impl Talk {
         clock: &C,
     ) -> Result<(), PipeEnd>
         requires sound { IsSound self.old }
-        requires ends { EndsThere self.old.number heard.now }
+        requires ends { NothingAfterEnd self.old.number heard.now }
         requires statuses { AllByRecursion IsRefused heard.now }
         ensures sound { OnOk result (IsSound self.new) }
         ensures turns { (text : List ℕ) × Adds text (K.taken output.old) (K.taken output.new)
