@@ -17,11 +17,12 @@ abbrev pub NextFails : Script → Type 0
 NextFails script = Contains script.failing (next_call script)
 
 -- a source in memory: the bytes that are left, at most how many a read gives, how many reads
--- succeeded, and its calls
+-- succeeded and how many of these found the end, and its calls
 pub record SourceState : Type 0 where
   pub rest : List ℕ
   pub piece : ℕ
   pub reads : ℕ
+  pub ends : ℕ
   pub calls : Script
 
 -- a sink in memory: the bytes that it has taken, at most how many a write takes, and its calls

@@ -1,6 +1,6 @@
 //! [`MemSource`]: a source in memory.
 ghost use Rattle.std.specs.Prelude.{◌≡◌, ◌<◌, ◌≤◌, ◌↔◌, Some, length, IsErr, IfOk};
-ghost use Rattle.pod_io.specs.Counts.{Counts, CountsReads};
+ghost use Rattle.pod_io.specs.Counts.{Counts, CountsReads, CountsEnds};
 ghost use Rattle.pod_io.specs.Told.{IfTold, IsRead, Consumes};
 ghost use Rattle.pod_io.specs.Memory.{NextFails};
 
@@ -15,6 +15,7 @@ pub struct MemSource {
     at: usize,
     piece: usize,
     reads: u64,
+    ends: u64,
     calls: Calls,
 }
 
@@ -28,6 +29,7 @@ impl Model for MemSource {
       rest = drop s.at s.bytes.items;
       piece = s.piece;
       reads = s.reads;
+      ends = s.ends;
       calls = s.calls;
     } };
 
@@ -41,6 +43,7 @@ impl MemSource {
         requires { 0 < piece }
         ensures rest { result.rest ≡ bytes.items }
         ensures reads { result.reads ≡ 0 }
+        ensures ends { result.ends ≡ 0 }
         ensures made { result.calls.made ≡ 0 }
         ensures failing { result.calls.failing ≡ failing.items }
         ensures faults { result.calls.faults ≡ 0 }
@@ -50,6 +53,7 @@ impl MemSource {
             at: 0,
             piece,
             reads: 0,
+            ends: 0,
             calls: Calls::new(failing),
         }
     }
@@ -69,6 +73,8 @@ impl Source for MemSource {
 
     ghost reads = { λ s. s.reads };
 
+    ghost ends = { λ s. s.ends };
+
     fn read(&mut self, into: &mut [u8]) -> Result<usize, Failed>
         requires { 0 < length into.old }
         ensures len { IfOk result (λ count. count ≤ length into.old) }
@@ -77,6 +83,7 @@ impl Source for MemSource {
         ensures rest { Consumes result (Some self.old.rest) (Some self.new.rest) }
         ensures faults { Counts result self.old.calls.faults self.new.calls.faults }
         ensures reads { CountsReads result self.old.reads self.new.reads }
+        ensures ends { CountsEnds result self.old.ends self.new.ends }
         ensures fails { IsErr result ↔ NextFails self.old.calls }
     {
         if self.calls.next_fails() {
@@ -87,6 +94,9 @@ impl Source for MemSource {
         into[..count].copy_from_slice(&rest[..count]);
         self.at += count;
         self.reads = self.reads.saturating_add(1);
+        if count == 0 {
+            self.ends = self.ends.saturating_add(1);
+        }
         Ok(count)
     }
 }

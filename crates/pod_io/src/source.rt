@@ -1,6 +1,6 @@
 //! [`Source`]: where bytes come from.
 ghost use Rattle.std.specs.Prelude.{◌≡◌, ◌<◌, ◌≤◌, ℕ, List, Option, length, IfOk};
-ghost use Rattle.pod_io.specs.Counts.{Counts, CountsReads};
+ghost use Rattle.pod_io.specs.Counts.{Counts, CountsReads, CountsEnds};
 ghost use Rattle.pod_io.specs.Told.{IfTold, IsRead, Consumes};
 
 /// A call that failed. The object that was called has counted it.
@@ -20,6 +20,9 @@ pub trait Source {
     /// How many reads succeeded: those that gave bytes, and those that found the end.
     ghost reads: { Self → ℕ };
 
+    /// How many reads found the end: they succeeded, and gave no byte.
+    ghost ends: { Self → ℕ };
+
     /// Reads some bytes to the start of `into`, which is not empty, and returns how many. Where
     /// there are none, the source is at its end.
     fn read(&mut self, into: &mut [u8]) -> Result<usize, Failed>
@@ -29,5 +32,6 @@ pub trait Source {
             (λ rest. IsRead rest count into.old into.new)) }
         ensures rest { Consumes result (rest self.old) (rest self.new) }
         ensures faults { Counts result (faults self.old) (faults self.new) }
-        ensures reads { CountsReads result (reads self.old) (reads self.new) };
+        ensures reads { CountsReads result (reads self.old) (reads self.new) }
+        ensures ends { CountsEnds result (ends self.old) (ends self.new) };
 }

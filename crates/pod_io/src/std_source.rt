@@ -10,6 +10,7 @@ pub struct StdSource<R: Drop> {
     reader: R,
     faults: u64,
     reads: u64,
+    ends: u64,
 }
 
 impl<R: Drop> StdSource<R> {
@@ -19,6 +20,7 @@ impl<R: Drop> StdSource<R> {
             reader,
             faults: 0,
             reads: 0,
+            ends: 0,
         }
     }
 }
@@ -30,10 +32,15 @@ impl<R: Read + Drop> Source for StdSource<R> {
 
     ghost reads = { λ s. s.reads };
 
+    ghost ends = { λ s. s.ends };
+
     fn read(&mut self, into: &mut [u8]) -> Result<usize, Failed> {
         match self.reader.read(into) {
             Ok(count) => {
                 self.reads = self.reads.saturating_add(1);
+                if count == 0 {
+                    self.ends = self.ends.saturating_add(1);
+                }
                 Ok(count)
             }
             Err(_error) => {

@@ -45,7 +45,7 @@ on_fresh may_give owner requests items history p hears refusal same r = record {
   history = history;
   entries = p.entries;
   session = record {
-    requests = record { behind = []; is = append-nil _ ∙ p.asked ∙ sym same };
+    requests = ([], append-nil _ ∙ p.asked ∙ sym same);
     numbers = p.numbers;
     upgraded = plain_last items p.plain;
     places = p.places;
@@ -62,7 +62,7 @@ begins may_give owner hears written items refusal session front text behind is w
   items = items;
   refusal = refusal;
   session = session;
-  output = record { behind = behind; is = ap (λ w. w ++ behind) is ∙ append_assoc front text behind ∙ whole };
+  output = (behind, ap (λ w. w ++ behind) is ∙ append_assoc front text behind ∙ whole);
 }
 
 -- a whole session is one that stopped
@@ -71,7 +71,7 @@ served_stops may_give owner hears written s = record {
   items = s.items;
   refusal = s.refusal;
   session = s.session;
-  output = record { behind = []; is = append-nil _ ∙ s.output };
+  output = ([], append-nil _ ∙ s.output);
 }
 
 -- all requests have an item, and nothing was refused

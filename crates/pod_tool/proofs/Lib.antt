@@ -1,5 +1,6 @@
 pub mod EndingsLemmas
 pub mod HeardLemmas
+pub mod LongerSessions
 pub mod ProgressLemmas
 pub mod ReadsLemmas
 pub mod RefusedLemmas

@@ -1,10 +1,12 @@
 -- A read behind another.
-use Rattle.std.proofs.Common.{◌≡◌, ℕ, ◌≤◌, ◌<◌, List, [], ◌++◌, length, take, drop, Option, Some, None, refl, sym, ap, subst, append_assoc, ◌∙◌, arith}
+use Rattle.std.proofs.Common.{◌≡◌, ℕ, ◌+◌, ◌-◌, ◌^◌, ◌==◌, true, false, if◌then◌else◌, ◌≤◌, ◌<◌, List, [], ◌++◌, length, take, drop, Option, Some, None, refl, sym, ap, subst, append_assoc, ◌∙◌, arith}
 use Rattle.std.specs.Option.{option_map}
 use Rattle.std.proofs.Math.Seq.{take-append_seam, length-take-le}
 use Rattle.std.proofs.lemmas.List.{append-nil, take-append-drop}
+use Rattle.std.proofs.lemmas.Bool.Decides.{nat_tests}
+use Rattle.pod_io.specs.Counts.{next_count}
 use Rattle.pod_io.specs.Told.{IfTold, IsRead}
-use Rattle.pod_tool.specs.Reads.{Reads, AtEnd}
+use Rattle.pod_tool.specs.Streams.{Reads, AtEnd}
 
 -- the front of the slice has that many bytes of the rest
 front_is : (rest old piece : List ℕ) (count : ℕ) → IsRead rest count old piece → take count piece ≡ take count rest
@@ -37,3 +39,20 @@ reads_none text old piece count first middle last none reads told is =
 
 pub some_read : (piece : List ℕ) (count : ℕ) → count ≤ length piece → (count ≡ 0 → ⊥) → 0 < length (take count piece)
 some_read piece count within some = omega (arith, some, length-take-le count piece within)
+
+-- a read without a byte found the end, and any other did not
+pub met_end : (old new count : ℕ) → count ≡ 0 → new ≡ (if count == 0 then next_count old else old) → new ≡ next_count old
+met_end old new count none is = is ∙ ap (λ n. if n == 0 then next_count old else old) none
+
+pub met_no_end : (old new count : ℕ) → (count ≡ 0 → ⊥) → new ≡ (if count == 0 then next_count old else old) → new ≡ old
+met_no_end old new count some is =
+    is ∙ (elim (count == 0) as (λ b. (count == 0) ≡ b → (if b then next_count old else old) ≡ old) [
+      | true ↦ λ e. absurd (some (grind (arith, nat_tests)))
+      | false ↦ λ e. refl
+    ] refl)
+
+-- one read more
+pub one_more : (first old new pieces : ℕ) → (old < 2 ^ 64 - 1 → first + pieces ≤ old) → new ≡ next_count old → new < 2 ^ 64 - 1 → first + (pieces + 1) ≤ new
+one_more first old new pieces so_far is below =
+    let before : old < 2 ^ 64 - 1 = omega (arith, is, below) in
+    omega (arith, is, below, so_far before)

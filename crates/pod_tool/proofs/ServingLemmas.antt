@@ -1,5 +1,5 @@
 -- The pieces of an input, one after the other.
-use Rattle.std.proofs.Common.{◌≡◌, inl, inr, ℕ, ◌+◌, ◌<◌, ◌≤◌, ◌^◌, ◌==◌, true, false, if◌then◌else◌, List, [], ◌++◌, length, Option, Some, None, Ok, Err, refl, sym, ap, subst, append_assoc, length-append, ◌∙◌, arith}
+use Rattle.std.proofs.Common.{◌≡◌, inl, inr, ℕ, ◌+◌, ◌<◌, ◌≤◌, ◌^◌, ◌==◌, true, false, if◌then◌else◌, List, [], ◌++◌, length, ◌⊎◌, Option, Some, None, Ok, Err, refl, sym, ap, subst, append_assoc, length-append, ◌∙◌, arith}
 use Rattle.std.specs.List.{AllByRecursion, list_all}
 use Rattle.std.proofs.lemmas.Bool.Decides.{nat_tests}
 use Rattle.std.proofs.lemmas.List.{append-nil}
@@ -12,15 +12,16 @@ use Rattle.http_conn.proofs.StepLemmas.{represents_messages}
 use Rattle.http_out.specs.Text.{stays_in_line}
 use Rattle.pod_base.specs.declared.heard.Heard.{Heard}
 use Rattle.pod_core.specs.State.{State}
-use Rattle.pod_tool.specs.Reads.{Reads, AtEnd}
+use Rattle.pod_io.specs.Counts.{next_count}
+use Rattle.pod_tool.specs.Streams.{Reads, AtEnd, MeetsEnd, CountsInput}
 use Rattle.pod_tool.specs.Served.{IsNew, IsStopped}
 use Rattle.pod_tool.specs.Session.{requests_of}
 use Rattle.pod_tool.specs.Statuses.{HearsFirst, IsHeard, IsWritten, IsTold, Pipes, ComesOf}
 use Rattle.pod_tool.specs.Talks.{Talks, IsSound, IsRefused, Ends, IsAll, TurnsIn}
-use Rattle.pod_tool.specs.Turns.{Adds}
+use Rattle.pod_tool.specs.Streams.{ExtendsBy}
 use Rattle.pod_tool.specs.declared.keeper.Keeper.{Keeper}
 use Rattle.pod_tool.specs.declared.status.PipeEnd.{PipeEnd}
-use Rattle.pod_tool.specs.declared.status.PipeEnd.TheVariants.{Peer, Cut, Closed, Limit, Bad, ReadFault, WriteFault, NoMemory, Bounded}
+use Rattle.pod_tool.specs.declared.status.PipeEnd.TheVariants.{Peer, Cut, Closed, Limit, Bad, ReadFault, WriteFault, NoMemory, ReadLimit}
 use Rattle.pod_tool.specs.declared.talk.Talk.{Talk}
 use Rattle.pod_tool.proofs.EndingsLemmas.{serves, served_stops, all_have_items}
 use Rattle.pod_tool.proofs.HeardLemmas.{ends_behind, refused_behind, not_bad}
@@ -37,7 +38,7 @@ pub record Serving (may_give : ℕ → Type 0) (owner : List ℕ) (stage : Parse
   pub stands : Represents stage text heard
   pub talks : Talks may_give owner talk heard written
   pub sound : IsSound talk
-  pub writes : Adds written old_output new_output
+  pub writes : ExtendsBy written old_output new_output
   pub many : pieces ≤ length text
 
 pub nothing_read : (rest : Option (List ℕ)) → Reads [] rest rest
@@ -67,7 +68,7 @@ begins may_give stage keeper input output new stands = record {
 }
 
 -- what is heard in a front is heard first in the whole
-hears_first : (text : List ℕ) (hears : List Heard) → AreFirstEvents text hears → HearsFirst text hears
+pub hears_first : (text : List ℕ) (hears : List Heard) → AreFirstEvents text hears → HearsFirst text hears
 hears_first text hears f = record {
   front = f;
   whole = λ all rest m.
@@ -79,7 +80,7 @@ hears_first text hears f = record {
 first_heard : (text more : List ℕ) (hears those : List Heard) (rest : ℕ) → Messages text (hears ++ those) rest → HearsFirst (text ++ more) hears
 first_heard text more hears those rest m = hears_first (text ++ more) hears (record { prefix = text; is_prefix = (more, refl); all = hears ++ those; rest = rest; messages = m; first = (those, sym (refl)) })
 
-all_first : (text : List ℕ) (hears : List Heard) (rest : ℕ) → Messages text hears rest → HearsFirst text hears
+pub all_first : (text : List ℕ) (hears : List Heard) (rest : ℕ) → Messages text hears rest → HearsFirst text hears
 all_first text hears rest m = hears_first text hears (record { prefix = text; is_prefix = ([], append-nil text); all = hears; rest = rest; messages = m; first = ([], sym (sym (append-nil hears))) })
 
 module _ (may_give : ℕ → Type 0) (owner : List ℕ) (stage : ParserState) (talk : Talk) (old_input new_input old_output new_output : Option (List ℕ)) (pieces : ℕ) (s : Serving may_give owner stage talk old_input new_input old_output new_output pieces) where
@@ -99,7 +100,7 @@ module _ (may_give : ℕ → Type 0) (owner : List ℕ) (stage : ParserState) (t
   }
 
   -- the bound on reads was reached
-  pub bounded : 2 ^ 40 ≤ pieces → Pipes may_give owner Bounded old_input new_input old_output new_output
+  pub bounded : 2 ^ 40 ≤ pieces → Pipes may_give owner ReadLimit old_input new_input old_output new_output
   bounded all = record {
     read = s.text;
     heard = s.heard;
@@ -170,7 +171,7 @@ module _ (may_give : ℕ → Type 0) (owner : List ℕ) (stage : ParserState) (t
       statuses = refused_behind s.heard those (are_refused (s.text ++ piece) (s.heard ++ those) rest m)
 
       -- all of it was answered
-      pub goes_on : Represents next (s.text ++ piece) (s.heard ++ those) → (after : Talk) (text : List ℕ) (output : Option (List ℕ)) → Adds text new_output output
+      pub goes_on : Represents next (s.text ++ piece) (s.heard ++ those) → (after : Talk) (text : List ℕ) (output : Option (List ℕ)) → ExtendsBy text new_output output
           → TurnsIn may_give talk after those text (Ok tt) → IsSound after → 0 < length piece → Serving may_give owner next after old_input last_input old_output output (pieces + 1)
       goes_on stands after text output adds t sound some =
           let whole : t.front ≡ those = sym (append-nil t.front) ∙ ap (λ b. t.front ++ b) (sym t.over) ∙ t.cut in
@@ -187,7 +188,7 @@ module _ (may_give : ℕ → Type 0) (owner : List ℕ) (stage : ParserState) (t
           }
 
       -- the connection ended in it
-      pub ended : (after : Talk) (end : PipeEnd) (text : List ℕ) (output : Option (List ℕ)) → Adds text new_output output → TurnsIn may_give talk after those text (Err end)
+      pub ended : (after : Talk) (end : PipeEnd) (text : List ℕ) (output : Option (List ℕ)) → ExtendsBy text new_output output → TurnsIn may_give talk after those text (Err end)
           → Pipes may_give owner end old_input last_input old_output output
       ended after end text output adds t = record {
         read = s.text ++ piece;
@@ -233,7 +234,7 @@ module _ (may_give : ℕ → Type 0) (owner : List ℕ) (stage : ParserState) (t
           heard_so Peer front behind cut over e = absurd e
           heard_so (Cut left) front behind cut over e = absurd e
           heard_so ReadFault front behind cut over e = absurd e
-          heard_so Bounded front behind cut over e = absurd e
+          heard_so ReadLimit front behind cut over e = absurd e
 
           written_so : (end : PipeEnd) (front : List Heard) → Ends may_give owner end (s.heard ++ front) (s.written ++ text) → IsWritten may_give owner end (s.heard ++ front) (s.written ++ text)
           written_so Closed front e = e.0
@@ -244,7 +245,50 @@ module _ (may_give : ℕ → Type 0) (owner : List ℕ) (stage : ParserState) (t
           written_so Peer front e = absurd e
           written_so (Cut left) front e = absurd e
           written_so ReadFault front e = absurd e
-          written_so Bounded front e = absurd e
+          written_so ReadLimit front e = absurd e
+
+-- a piece that was heard ended the connection: neither the end of the input nor the limit on reads did
+pub counts_heard : (may_give : ℕ → Type 0) (owner : List ℕ) (end : PipeEnd) (events : List Heard) (written : List ℕ) (old_reads new_reads old_ends new_ends : ℕ)
+    → Ends may_give owner end events written → old_reads ≤ new_reads → new_ends ≡ old_ends → CountsInput end old_reads new_reads old_ends new_ends
+counts_heard may_give owner Closed events written old_reads new_reads old_ends new_ends e le same = record { reads = le; limit = λ is. absurd cc; ends = same }
+counts_heard may_give owner Limit events written old_reads new_reads old_ends new_ends e le same = record { reads = le; limit = λ is. absurd cc; ends = same }
+counts_heard may_give owner (Bad status) events written old_reads new_reads old_ends new_ends e le same = record { reads = le; limit = λ is. absurd cc; ends = same }
+counts_heard may_give owner WriteFault events written old_reads new_reads old_ends new_ends e le same = record { reads = le; limit = λ is. absurd cc; ends = inl same }
+counts_heard may_give owner NoMemory events written old_reads new_reads old_ends new_ends e le same = record { reads = le; limit = λ is. absurd cc; ends = inl same }
+counts_heard may_give owner Peer events written old_reads new_reads old_ends new_ends e le same = absurd e
+counts_heard may_give owner (Cut left) events written old_reads new_reads old_ends new_ends e le same = absurd e
+counts_heard may_give owner ReadFault events written old_reads new_reads old_ends new_ends e le same = absurd e
+counts_heard may_give owner ReadLimit events written old_reads new_reads old_ends new_ends e le same = absurd e
+
+-- the end of the input
+pub counts_end : (rest : ℕ) (end : PipeEnd) (old_reads new_reads old_ends new_ends : ℕ) → end ≡ (if rest == 0 then Peer else Cut rest) → old_reads ≤ new_reads
+    → new_ends ≡ next_count old_ends → CountsInput end old_reads new_reads old_ends new_ends
+counts_end rest end old_reads new_reads old_ends new_ends is le met =
+    subst (λ e. CountsInput e old_reads new_reads old_ends new_ends) (sym is)
+    (elim (rest == 0) as (λ b. CountsInput (if b then Peer else Cut rest) old_reads new_reads old_ends new_ends) [
+      | true ↦ record { reads = le; limit = λ e. absurd cc; ends = met }
+      | false ↦ record { reads = le; limit = λ e. absurd cc; ends = met }
+    ])
+
+-- the counts at an end of which a line tells, where that line fails
+told_ends : (end : PipeEnd) (old new : ℕ) → IsTold end → MeetsEnd end old new → (new ≡ old) ⊎ (new ≡ next_count old)
+told_ends Peer old new t m = inr m
+told_ends (Cut rest) old new t m = inr m
+told_ends Closed old new t m = inl m
+told_ends Limit old new t m = inl m
+told_ends (Bad status) old new t m = inl m
+told_ends ReadFault old new t m = absurd t
+told_ends WriteFault old new t m = absurd t
+told_ends NoMemory old new t m = absurd t
+told_ends ReadLimit old new t m = absurd t
+
+pub counts_come_to : (end told : PipeEnd) (old_reads new_reads old_ends new_ends : ℕ) → ComesOf end told → CountsInput end old_reads new_reads old_ends new_ends
+    → CountsInput told old_reads new_reads old_ends new_ends
+counts_come_to end told old_reads new_reads old_ends new_ends (inl same) c = subst (λ e. CountsInput e old_reads new_reads old_ends new_ends) (sym same) c
+counts_come_to end told old_reads new_reads old_ends new_ends (inr (t, inl fault)) c =
+    subst (λ e. CountsInput e old_reads new_reads old_ends new_ends) (sym fault) (record { reads = c.reads; limit = λ e. absurd cc; ends = told_ends end old_ends new_ends t c.ends })
+counts_come_to end told old_reads new_reads old_ends new_ends (inr (t, inr none)) c =
+    subst (λ e. CountsInput e old_reads new_reads old_ends new_ends) (sym none) (record { reads = c.reads; limit = λ e. absurd cc; ends = told_ends end old_ends new_ends t c.ends })
 
 -- ---- the last line
 
@@ -258,7 +302,7 @@ told_reading (Bad status) read heard left t h = (0, h.0)
 told_reading ReadFault read heard left t h = absurd t
 told_reading WriteFault read heard left t h = absurd t
 told_reading NoMemory read heard left t h = absurd t
-told_reading Bounded read heard left t h = absurd t
+told_reading ReadLimit read heard left t h = absurd t
 
 told_stops : (may_give : ℕ → Type 0) (owner : List ℕ) (end : PipeEnd) (heard : List Heard) (written : List ℕ) → IsTold end → IsWritten may_give owner end heard written → IsStopped may_give owner heard written
 told_stops may_give owner Peer heard written t w = served_stops may_give owner heard written w
@@ -269,7 +313,7 @@ told_stops may_give owner (Bad status) heard written t w = served_stops may_give
 told_stops may_give owner ReadFault heard written t w = absurd t
 told_stops may_give owner WriteFault heard written t w = absurd t
 told_stops may_give owner NoMemory heard written t w = absurd t
-told_stops may_give owner Bounded heard written t w = absurd t
+told_stops may_give owner ReadLimit heard written t w = absurd t
 
 -- an end is told of, or its line is a write fault or want of memory
 pub comes_to : (may_give : ℕ → Type 0) (owner : List ℕ) (end told : PipeEnd) (old_input new_input old_output new_output : Option (List ℕ)) → ComesOf end told

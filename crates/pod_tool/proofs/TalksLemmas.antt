@@ -19,20 +19,21 @@ use Rattle.pod_tool.specs.Output.{item_text, output_of}
 use Rattle.pod_tool.specs.Served.{IsServed, IsStopped}
 use Rattle.pod_tool.specs.Session.{Item, requests_of, bad_status}
 use Rattle.pod_tool.specs.Talks.{IsPlain, Progress, Talks, IsSound, Ends, IsAll, IsOver, Turns, RefusedAs}
-use Rattle.pod_tool.specs.Turns.{Turned, Adds, Writes, Refuses, reply_now, refusal_bytes}
+use Rattle.pod_tool.specs.Streams.{ExtendsBy}
+use Rattle.pod_tool.specs.Turns.{Turned, Writes, Refuses, reply_now, refusal_bytes}
 use Rattle.pod_tool.specs.declared.keeper.Keeper.{Keeper}
 use Rattle.pod_tool.specs.declared.status.PipeEnd.{PipeEnd}
-use Rattle.pod_tool.specs.declared.status.PipeEnd.TheVariants.{Peer, Cut, Closed, Limit, Bad, ReadFault, WriteFault, NoMemory, Bounded}
+use Rattle.pod_tool.specs.declared.status.PipeEnd.TheVariants.{Peer, Cut, Closed, Limit, Bad, ReadFault, WriteFault, NoMemory, ReadLimit}
 use Rattle.pod_tool.specs.declared.talk.Talk.{Talk}
 use Rattle.pod_tool.proofs.ProgressLemmas.{Next, turned}
 use Rattle.pod_tool.proofs.HeardLemmas.{not_upgraded, requests_append, bad_behind, stays_append, last_ends, output_grows}
 use Rattle.pod_tool.proofs.EndingsLemmas.{all_have_items, on_fresh, begins, serves, serves_refused, stops_refused}
 
-pub nothing_added : (old : Option (List ℕ)) → Adds [] old old
+pub nothing_added : (old : Option (List ℕ)) → ExtendsBy [] old old
 nothing_added None = refl
 nothing_added (Some bytes) = ap Some (sym (append-nil bytes))
 
-pub adds_more : (old middle new : Option (List ℕ)) (xs ys : List ℕ) → Adds xs old middle → Adds ys middle new → Adds (xs ++ ys) old new
+pub adds_more : (old middle new : Option (List ℕ)) (xs ys : List ℕ) → ExtendsBy xs old middle → ExtendsBy ys middle new → ExtendsBy (xs ++ ys) old new
 adds_more None middle new xs ys h k = k ∙ ap (option_map (λ taken. taken ++ ys)) h
 adds_more (Some bytes) middle new xs ys h k = k ∙ ap (option_map (λ taken. taken ++ ys)) h ∙ ap Some (append_assoc bytes xs ys)
 
@@ -93,7 +94,7 @@ module _ (may_give : ℕ → Type 0) (owner : List ℕ) (talk : Talk) (before : 
     items = t.items;
     refusal = None;
     session = on_fresh may_give owner (requests_of before) t.items t.history t.progress before None refl tt;
-    output = record { behind = []; is = append-nil _ ∙ t.output };
+    output = ([], append-nil _ ∙ t.output);
   }
 
   pub serves_before : IsServed may_give owner before written
@@ -234,7 +235,7 @@ module _ (may_give : ℕ → Type 0) (owner : List ℕ) (talk : Talk) (before : 
 
 -- how the refusal of bytes that are no message ends, behind whatever was heard
 pub refused_ends : (may_give : ℕ → Type 0) (talk after : Talk) (status : ℕ) (end : PipeEnd) (old new : Option (List ℕ)) → RefusedAs may_give status end old new
-    → (text : List ℕ) × Adds text old new × Turns may_give talk after (heard.Bad status ∷ []) text (Err end)
+    → (text : List ℕ) × ExtendsBy text old new × Turns may_give talk after (heard.Bad status ∷ []) text (Err end)
 refused_ends may_give talk after status (Bad told) old new r =
     let moment = r.1.0 in
     let is : told ≡ status = r.0 in (
@@ -243,7 +244,7 @@ refused_ends may_give talk after status (Bad told) old new r =
       λ owner before written t. subst (λ n. Ends may_give owner (Bad n) (before ++ heard.Bad status ∷ []) (written ++ refusal_bytes status moment)) (sym is) (ends_refused may_give owner talk before written t status moment r.1.1),
     )
 refused_ends may_give talk after status NoMemory old new r =
-    ([], subst (Adds [] old) (sym r) (nothing_added old), λ owner before written t. stops_unrefused may_give owner talk before written t status)
+    ([], subst (ExtendsBy [] old) (sym r) (nothing_added old), λ owner before written t. stops_unrefused may_give owner talk before written t status)
 refused_ends may_give talk after status WriteFault old new r =
     (take r.2.0 (refusal_bytes status r.0), r.2.1, λ owner before written t. stops_refusing may_give owner talk before written t status r.0 r.1 r.2.0)
 refused_ends may_give talk after status Peer old new r = absurd r
@@ -251,7 +252,7 @@ refused_ends may_give talk after status (Cut rest) old new r = absurd r
 refused_ends may_give talk after status Closed old new r = absurd r
 refused_ends may_give talk after status Limit old new r = absurd r
 refused_ends may_give talk after status ReadFault old new r = absurd r
-refused_ends may_give talk after status Bounded old new r = absurd r
+refused_ends may_give talk after status ReadLimit old new r = absurd r
 
 -- behind a last request comes nothing
 pub over_last : (count : ℕ) (request : Request) (end : PipeEnd) → end ≡ (if count + 1 == REQUEST_LIMIT then Limit else Closed) → IsLastRequest count request → IsOver count (heard.Request request) end
@@ -260,7 +261,7 @@ over_last count request end is h = subst (IsOver count (heard.Request request)) 
 
 -- how an invitation ends, behind whatever was heard
 pub invited_turns : (may_give : ℕ → Type 0) (talk : Talk) (result : Result (Unit {0}) PipeEnd) (old new : Option (List ℕ)) → Writes result interim_text old new → IfErr result (λ end. end ≡ WriteFault)
-    → (text : List ℕ) × Adds text old new × Turns may_give talk talk (heard.Interim ∷ []) text result
+    → (text : List ℕ) × ExtendsBy text old new × Turns may_give talk talk (heard.Interim ∷ []) text result
 invited_turns may_give talk (Ok done) old new w e = (interim_text, w.whole, λ owner before written t. goes_invited may_give owner talk before written t interim_text refl)
 invited_turns may_give talk (Err end) old new w e =
     let part = w.part in (
@@ -293,7 +294,7 @@ none_behind count (heard.Request r) more (Bad told) e o = absurd o
 none_behind count (heard.Request r) more Peer e o = absurd o
 none_behind count (heard.Request r) more (Cut rest) e o = absurd o
 none_behind count (heard.Request r) more ReadFault e o = absurd o
-none_behind count (heard.Request r) more Bounded e o = absurd o
+none_behind count (heard.Request r) more ReadLimit e o = absurd o
 none_behind count (heard.Bad status) more (Bad told) e o = e
 none_behind count (heard.Bad status) more WriteFault e o = tt
 none_behind count (heard.Bad status) more NoMemory e o = tt
@@ -302,7 +303,7 @@ none_behind count (heard.Bad status) more Limit e o = absurd o
 none_behind count (heard.Bad status) more Peer e o = absurd o
 none_behind count (heard.Bad status) more (Cut rest) e o = absurd o
 none_behind count (heard.Bad status) more ReadFault e o = absurd o
-none_behind count (heard.Bad status) more Bounded e o = absurd o
+none_behind count (heard.Bad status) more ReadLimit e o = absurd o
 none_behind count heard.Interim more WriteFault e o = tt
 none_behind count heard.Interim more NoMemory e o = tt
 none_behind count heard.Interim more Closed e o = absurd o
@@ -311,4 +312,4 @@ none_behind count heard.Interim more (Bad told) e o = absurd o
 none_behind count heard.Interim more Peer e o = absurd o
 none_behind count heard.Interim more (Cut rest) e o = absurd o
 none_behind count heard.Interim more ReadFault e o = absurd o
-none_behind count heard.Interim more Bounded e o = absurd o
+none_behind count heard.Interim more ReadLimit e o = absurd o

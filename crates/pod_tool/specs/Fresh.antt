@@ -1,3 +1,4 @@
+-- A new pod in memory.
 use Rattle.std.specs.Prelude.{ℕ, Bool, ◌==◌, ◌||◌, if◌then◌else◌, List, codes}
 use Rattle.http_conn.specs.Messages.{closes_connection}
 use Rattle.http_conn.specs.declared.events.TheConstants.{REQUEST_LIMIT}
@@ -29,7 +30,8 @@ refusal_word status =
 abbrev pub refusal_of : ℕ → Response
 refusal_of status = refusal status (refusal_word status)
 
--- whether the connection closes behind a request of that number: it asks for that, or it is the last that is heard
+-- whether the connection closes behind a request of that number: it asks for that, or it is the
+-- last that is heard
 abbrev pub closes_after : Request → ℕ → Bool
 closes_after request number = closes_connection request || number == REQUEST_LIMIT
 

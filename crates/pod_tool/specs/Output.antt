@@ -1,9 +1,11 @@
+-- The bytes of a session.
 use Rattle.std.specs.Prelude.{ℕ, true, if◌then◌else◌, List, [], ◌∷◌, ◌++◌, Option, Some, None}
 use Rattle.http_out.specs.Dates.{Dated}
 use Rattle.http_out.specs.Text.{response_text, interim_text, memory_text, disk_text}
 use Rattle.pod_base.specs.declared.heard.Heard.{Heard}
 use Rattle.pod_base.specs.declared.heard.Heard as heard
-use Rattle.pod_tool.specs.Session.{Service, Outcome, answered, no_memory, disk_fault, Item, upgrades}
+use Rattle.pod_tool.specs.Session.{Service, Outcome, answered, no_memory, disk_fault, Item}
+use Rattle.pod_tool.specs.Session.{upgrades}
 
 -- The bytes that a session writes.
 
@@ -22,8 +24,9 @@ module _ {Pod Entry : Type 0} (service : Service Pod Entry) where
   refusal_text status (Some moment) = response_text (service.refusal status) moment.date true
   refusal_text status None = []
 
-  -- In the order of what is heard: the interims up to the first request without an item, and for each request the
-  -- bytes of its item. Behind all items comes the refusal, where there is one. Nothing follows an upgrade.
+  -- In the order of what is heard: the interims up to the first request without an item, and for
+  -- each request the bytes of its item. Behind all items comes the refusal, where there is one.
+  -- Nothing follows an upgrade.
   abbrev pub output_of : List Heard → List Item → Option Dated → List ℕ
   output_of [] items refusal = []
   output_of (heard.TheVariants.Interim ∷ others) items refusal = interim_text ++ output_of others items refusal

@@ -1,4 +1,8 @@
-use Rattle.std.specs.Prelude.{◌≡◌, ◌⊎◌, ℕ, ◌+◌, ◌-◌, ◌≤◌, Bool, true, false, ◌==◌, if◌then◌else◌, IsTrue, List, [], ◌∷◌, ◌++◌, length, take, map, fold, min, max, slice_get, Option, Some, None, is_some, IfSome}
+-- A session: what one connection requests and is answered, at places of one history.
+use Rattle.std.specs.Prelude.{◌≡◌, ◌⊎◌, ℕ, ◌+◌, ◌-◌, ◌≤◌, Bool, true, false, ◌==◌, if◌then◌else◌}
+use Rattle.std.specs.Prelude.{IsTrue, List, [], ◌∷◌, ◌++◌, length, take, map, fold, min, max}
+use Rattle.std.specs.Prelude.{slice_get, Option, Some, None, is_some, IfSome}
+use mathlib.Core.List.{IsPrefix}
 use Rattle.std.specs.Option.{option_map_or, option_to_list}
 use Rattle.std.specs.List.{AllByRecursion, flat_map, range_with_len}
 use Rattle.http_out.specs.Dates.{Dated, IsDated}
@@ -27,14 +31,15 @@ pub record Service (Pod Entry : Type 0) : Type 0 where
   -- whether the connection closes after a request of that number
   pub closes : Request → ℕ → Bool
 
--- How a request ended: it was answered at a place; or no memory was left for it; or, for a change, its commit
--- met a disk fault.
+-- How a request ended: it was answered at a place; or no memory was left for it; or, for a change,
+-- its commit met a disk fault.
 pub data Outcome : Type 0 where
   answered : (place : ℕ) (response : Response) → Outcome
   no_memory : Outcome
   disk_fault : Outcome
 
--- one request of a connection, with its number from 1, the moment at which it was taken up, and its outcome
+-- one request of a connection, with its number from 1, the moment at which it was taken up, and its
+-- outcome
 pub record Item : Type 0 where
   pub request : Request
   pub number : ℕ
@@ -81,11 +86,6 @@ abbrev pub NeverFalls : ℕ → List ℕ → ℕ → Type 0
 NeverFalls before [] after = before ≤ after
 NeverFalls before (place ∷ places) after = (before ≤ place) × NeverFalls place places after
 
--- the front of a list
-pub record Begins {A : Type 0} (front whole : List A) : Type 0 where
-  pub behind : List A
-  pub is : front ++ behind ≡ whole
-
 -- what marks an item's change
 abbrev pub stamp_of : ℕ → Item → Stamp
 stamp_of conn item = record { conn = conn; number = item.number; moment = record { 0 = item.moment.seconds } }
@@ -107,15 +107,15 @@ module _ {Pod Entry : Type 0} (service : Service Pod Entry) (first : Pod) (histo
   abbrev pub moment_before : ℕ → ℕ
   moment_before place = if place == 0 then 0 else option_map_or service.seconds (slice_get history (place - 1)) 0
 
-  -- the place lies in the history, and the reply there is this response; its entry, where it has one, is the one
-  -- that stands there
+  -- the place lies in the history, and the reply there is this response; its entry, where it has
+  -- one, is the one that stands there
   pub record IsAnswered (item : Item) (place : ℕ) (response : Response) : Type 0 where
     pub there : place ≤ length history
     pub reply : (reply_at item place).0 ≡ response
     pub entry : IfSome (reply_at item place).1 (λ entry. slice_get history place ≡ Some entry)
 
-  -- The moment of an answered change is the greater of the clock's and that of the entry before it. That of every
-  -- other answered item is the clock's.
+  -- The moment of an answered change is the greater of the clock's and that of the entry before it.
+  -- That of every other answered item is the clock's.
   abbrev pub IsMoment : Item → ℕ → Type 0
   IsMoment item place =
       (clock : ℕ) × IsClockMoment may_give clock
@@ -152,7 +152,8 @@ module _ {Pod Entry : Type 0} (service : Service Pod Entry) (first : Pod) (histo
   abbrev pub entries_of : Item → List Entry
   entries_of item = entries_on item item.outcome
 
-  -- bytes that are no message were refused, at a moment of the clock: all requests had an item, and none was upgraded
+  -- bytes that are no message were refused, at a moment of the clock: all requests had an item, and
+  -- none was upgraded
   pub record IsRefused (heard : List Heard) (items : List Item) (moment : Dated) : Type 0 where
     pub bad : has_bad heard ≡ true
     pub all : length items ≡ length (requests_of heard)
@@ -160,10 +161,11 @@ module _ {Pod Entry : Type 0} (service : Service Pod Entry) (first : Pod) (histo
     pub date : IsDated moment
     pub clock : IsClockMoment may_give moment.seconds
 
-  -- A session over what was heard, from a place to a place. It may end before each request has an item.
+  -- A session over what was heard, from a place to a place. It may end before each request has an
+  -- item.
   pub record Session (heard : List Heard) (before : ℕ) (items : List Item) (refusal : Option Dated) (after : ℕ) : Type 0 where
     -- the items are those of the first requests, in order, none skipped
-    pub requests : Begins (map (λ item. item.request) items) (requests_of heard)
+    pub requests : IsPrefix (map (λ item. item.request) items) (requests_of heard)
     pub numbers : map (λ item. item.number) items ≡ range_with_len 1 (length items)
     pub upgraded : UpgradesLast items
     -- places never fall, and each place behind an entry is greater than the entry's
@@ -171,8 +173,8 @@ module _ {Pod Entry : Type 0} (service : Service Pod Entry) (first : Pod) (histo
     pub answers : AllByRecursion IsItem items
     pub refused : IfSome refusal (IsRefused heard items)
 
--- A session is whole where it was upgraded, or where each request has an item, and bytes that are no message
--- were refused.
+-- A session is whole where it was upgraded, or where each request has an item, and bytes that are
+-- no message were refused.
 abbrev pub IsWhole : List Heard → List Item → Option Dated → Type 0
 IsWhole heard items refusal =
     (ends_upgraded items ≡ true) ⊎ ((length items ≡ length (requests_of heard)) × (is_some refusal ≡ has_bad heard))

@@ -1,14 +1,18 @@
-use Rattle.std.specs.Prelude.{◌≡◌, ◌⊎◌, ℕ, ◌^◌, ◌<◌, ◌≤◌, List, [], ◌++◌, length, take, Option, Some, None, codes, decimal}
+-- How a run ends, and what it has read, written and reported then.
+use Rattle.std.specs.Prelude.{◌≡◌, ◌⊎◌, ℕ, ◌^◌, ◌<◌, ◌≤◌, List, [], ◌++◌, length, take, Option}
+use Rattle.std.specs.Prelude.{Some, None, codes, decimal}
 use Rattle.http_conn.specs.Messages.{Messages, AreFirstEvents, StaysOpen}
 use Rattle.http_conn.specs.declared.events.TheConstants.{REQUEST_LIMIT}
 use Rattle.pod_base.specs.declared.heard.Heard.{Heard}
 use Rattle.pod_base.specs.Counts.{CountIncreased}
-use Rattle.pod_tool.specs.Reads.{Reads, AtEnd}
+use Rattle.pod_tool.specs.Streams.{Reads, AtEnd}
 use Rattle.pod_tool.specs.Served.{IsServed, IsStopped}
 use Rattle.pod_tool.specs.Session.{requests_of, bad_status}
-use Rattle.pod_tool.specs.Turns.{Adds}
+use Rattle.pod_tool.specs.Streams.{ExtendsBy}
 use Rattle.pod_tool.specs.declared.status.PipeEnd.{PipeEnd}
-use Rattle.pod_tool.specs.declared.status.PipeEnd.TheVariants.{Peer, Cut, Closed, Limit, Bad, ReadFault, WriteFault, NoMemory, Bounded}
+use Rattle.pod_tool.specs.declared.status.PipeEnd.TheVariants.{Peer, Cut, Closed, Limit, Bad}
+use Rattle.pod_tool.specs.declared.status.PipeEnd.TheVariants.{ReadFault, WriteFault, NoMemory}
+use Rattle.pod_tool.specs.declared.status.PipeEnd.TheVariants.{ReadLimit}
 
 -- the status of each end
 abbrev pub status_of : PipeEnd → ℕ
@@ -20,7 +24,7 @@ status_of WriteFault = 4
 status_of NoMemory = 7
 status_of (Cut rest) = 12
 status_of (Bad status) = 13
-status_of Bounded = 14
+status_of ReadLimit = 14
 
 -- a last request ended the connection: it asks for that, or it is the 10,000th
 abbrev pub IsLastHeard : List Heard → Type 0
@@ -35,8 +39,8 @@ pub record HearsFirst (read : List ℕ) (heard : List Heard) : Type 0 where
   pub front : AreFirstEvents read heard
   pub whole : (all : List Heard) (rest : ℕ) → Messages read all rest → (more : List Heard) × (all ≡ heard ++ more)
 
--- What was heard in the bytes that were read, and what is left of them, by how the connection ended. For want of memory the
--- last of these bytes may not have been heard.
+-- What was heard in the bytes that were read, and what is left of them, by how the connection
+-- ended. For want of memory the last of these bytes may not have been heard.
 abbrev pub IsHeard : PipeEnd → List ℕ → List Heard → Option (List ℕ) → Type 0
 IsHeard Peer read heard left = Messages read heard 0 × StaysOpen 0 heard × AtEnd left
 IsHeard (Cut rest) read heard left = Messages read heard rest × (0 < rest) × StaysOpen 0 heard × AtEnd left
@@ -44,17 +48,19 @@ IsHeard Closed read heard left = Messages read heard 0 × IsLastHeard heard × (
 IsHeard Limit read heard left = Messages read heard 0 × IsLastHeard heard × (length (requests_of heard) ≡ REQUEST_LIMIT)
 IsHeard (Bad status) read heard left = Messages read heard 0 × (bad_status heard ≡ Some status)
 IsHeard ReadFault read heard left = (rest : ℕ) × Messages read heard rest × StaysOpen 0 heard
-IsHeard Bounded read heard left = (rest : ℕ) × Messages read heard rest × StaysOpen 0 heard × (2 ^ 40 ≤ length read)
+IsHeard ReadLimit read heard left = (rest : ℕ) × Messages read heard rest × StaysOpen 0 heard × (2 ^ 40 ≤ length read)
 IsHeard WriteFault read heard left = Hears read heard
 IsHeard NoMemory read heard left = HearsFirst read heard
 
--- What was written of it. All was served; where a write failed or no memory was left, the bytes begin those of a session.
+-- What was written of it. All was served; where a write failed or no memory was left, the bytes
+-- begin those of a session.
 abbrev pub IsWritten : (ℕ → Type 0) → List ℕ → PipeEnd → List Heard → List ℕ → Type 0
 IsWritten may_give owner WriteFault heard written = IsStopped may_give owner heard written
 IsWritten may_give owner NoMemory heard written = IsStopped may_give owner heard written
 IsWritten may_give owner _ heard written = IsServed may_give owner heard written
 
--- The input gave the bytes that were read, and the output took those that were written: those of a session over what was heard.
+-- The input gave the bytes that were read, and the output took those that were written: those of a
+-- session over what was heard.
 pub record Pipes (may_give : ℕ → Type 0) (owner : List ℕ) (end : PipeEnd) (old_input new_input old_output new_output : Option (List ℕ)) : Type 0 where
   pub read : List ℕ
   pub heard : List Heard
@@ -62,7 +68,7 @@ pub record Pipes (may_give : ℕ → Type 0) (owner : List ℕ) (end : PipeEnd) 
   pub reads : Reads read old_input new_input
   pub hears : IsHeard end read heard new_input
   pub serves : IsWritten may_give owner end heard written
-  pub writes : Adds written old_output new_output
+  pub writes : ExtendsBy written old_output new_output
 
 -- the last line on the error sink
 abbrev pub end_line : PipeEnd → List ℕ
@@ -75,30 +81,31 @@ end_line _ = []
 
 -- the sink has the line too, or a front of it where its count rose
 abbrev pub AddsOrPart : List ℕ → Option (List ℕ) → Option (List ℕ) → ℕ → ℕ → Type 0
-AddsOrPart line old new before after = Adds line old new ⊎ (CountIncreased before after × ((count : ℕ) × Adds (take count line) old new))
+AddsOrPart line old new before after = ExtendsBy line old new ⊎ (CountIncreased before after × ((count : ℕ) × ExtendsBy (take count line) old new))
 
--- What the error sink has then: the line of the end, or a front of it where its count rose. A line of status 0 that fails makes
--- the end a write fault; another that fails changes nothing.
+-- What the error sink has then: the line of the end, or a front of it where its count rose. A line
+-- of status 0 that fails makes the end a write fault; another that fails changes nothing.
 abbrev pub Tells : PipeEnd → Option (List ℕ) → Option (List ℕ) → ℕ → ℕ → Type 0
-Tells Peer old new before after = Adds (end_line Peer) old new
-Tells Closed old new before after = Adds (end_line Closed) old new
-Tells Limit old new before after = Adds (end_line Limit) old new
+Tells Peer old new before after = ExtendsBy (end_line Peer) old new
+Tells Closed old new before after = ExtendsBy (end_line Closed) old new
+Tells Limit old new before after = ExtendsBy (end_line Limit) old new
 Tells (Cut rest) old new before after = AddsOrPart (end_line (Cut rest)) old new before after
 Tells (Bad status) old new before after = AddsOrPart (end_line (Bad status)) old new before after
-Tells WriteFault old new before after = (end : PipeEnd) × (status_of end ≡ 0) × (count : ℕ) × Adds (take count (end_line end)) old new
+Tells WriteFault old new before after = (end : PipeEnd) × (status_of end ≡ 0) × (count : ℕ) × ExtendsBy (take count (end_line end)) old new
 Tells NoMemory old new before after = new ≡ old
 Tells ReadFault old new before after = new ≡ old
-Tells Bounded old new before after = new ≡ old
+Tells ReadLimit old new before after = new ≡ old
 
 -- whether a line tells of the end
 abbrev pub IsTold : PipeEnd → Type 0
 IsTold ReadFault = ⊥
 IsTold WriteFault = ⊥
 IsTold NoMemory = ⊥
-IsTold Bounded = ⊥
+IsTold ReadLimit = ⊥
 IsTold _ = Unit {0}
 
--- How a connection ends that ended so: a line that can't be written or made is a write fault or want of memory.
+-- How a connection ends that ended so: a line that can't be written or made is a write fault or
+-- want of memory.
 abbrev pub ComesOf : PipeEnd → PipeEnd → Type 0
 ComesOf end told = (told ≡ end) ⊎ (IsTold end × ((told ≡ WriteFault) ⊎ (told ≡ NoMemory)))
 

@@ -1,4 +1,6 @@
-use Rattle.std.specs.Prelude.{◌≡◌, ◌==◌, ℕ, ◌≤◌, ◌<◌, IsTrue, false, List, [], ◌++◌, length, map, fold, take, Option, Some, None, Result, Ok, Err}
+-- A connection between two events.
+use Rattle.std.specs.Prelude.{◌≡◌, ◌==◌, ℕ, ◌≤◌, ◌<◌, IsTrue, false, List, [], ◌++◌, length, map}
+use Rattle.std.specs.Prelude.{fold, take, Option, Some, None, Result, Ok, Err}
 use Rattle.std.specs.List.{AllByRecursion, flat_map, range_with_len, list_all}
 use Rattle.http_conn.specs.Messages.{IsLastRequest, StaysOpen}
 use Rattle.http_conn.specs.declared.events.TheConstants.{REQUEST_LIMIT}
@@ -13,11 +15,16 @@ use Rattle.pod_base.specs.Counts.{CountIncreased}
 use Rattle.pod_tool.specs.Fresh.{fresh_pod, fresh_service}
 use Rattle.pod_tool.specs.Output.{output_of}
 use Rattle.pod_tool.specs.Served.{IsServed, IsStopped}
-use Rattle.pod_tool.specs.Session.{Outcome, answered, no_memory, disk_fault, Item, NeverFalls, IsItem, places_of, entries_of, moment_before, requests_of, bad_status}
-use Rattle.pod_tool.specs.Turns.{Adds, Refuses, refusal_bytes}
+use Rattle.pod_tool.specs.Session.{Outcome, answered, no_memory, disk_fault, Item, NeverFalls}
+use Rattle.pod_tool.specs.Session.{IsItem, places_of, entries_of, moment_before, requests_of}
+use Rattle.pod_tool.specs.Session.{bad_status}
+use Rattle.pod_tool.specs.Streams.{ExtendsBy}
+use Rattle.pod_tool.specs.Turns.{Refuses, refusal_bytes}
 use Rattle.pod_tool.specs.declared.keeper.Keeper.{Keeper}
 use Rattle.pod_tool.specs.declared.status.PipeEnd.{PipeEnd}
-use Rattle.pod_tool.specs.declared.status.PipeEnd.TheVariants.{Peer, Cut, Closed, Limit, Bad, ReadFault, WriteFault, NoMemory, Bounded}
+use Rattle.pod_tool.specs.declared.status.PipeEnd.TheVariants.{Peer, Cut, Closed, Limit, Bad}
+use Rattle.pod_tool.specs.declared.status.PipeEnd.TheVariants.{ReadFault, WriteFault, NoMemory}
+use Rattle.pod_tool.specs.declared.status.PipeEnd.TheVariants.{ReadLimit}
 use Rattle.pod_tool.specs.declared.talk.Talk.{Talk}
 
 -- A connection to a new pod, between two things that are heard.
@@ -72,7 +79,7 @@ Ends may_give owner NoMemory heard written = IsStopped may_give owner heard writ
 Ends may_give owner Peer heard written = ⊥
 Ends may_give owner (Cut rest) heard written = ⊥
 Ends may_give owner ReadFault heard written = ⊥
-Ends may_give owner Bounded heard written = ⊥
+Ends may_give owner ReadLimit heard written = ⊥
 
 -- the status of a refusal is one that a response may have
 abbrev pub IsRefused : Heard → Type 0
@@ -83,13 +90,14 @@ IsRefused heard.Interim = Unit {0}
 -- how the refusal of bytes that are no message ended, and what a sink has then
 abbrev pub RefusedAs : (ℕ → Type 0) → ℕ → PipeEnd → Option (List ℕ) → Option (List ℕ) → Type 0
 RefusedAs may_give status (Bad told) old new =
-    (told ≡ status) × ((moment : Dated) × Refuses may_give moment × Adds (refusal_bytes status moment) old new)
+    (told ≡ status) × ((moment : Dated) × Refuses may_give moment × ExtendsBy (refusal_bytes status moment) old new)
 RefusedAs may_give status NoMemory old new = new ≡ old
 RefusedAs may_give status WriteFault old new =
-    (moment : Dated) × Refuses may_give moment × ((count : ℕ) × Adds (take count (refusal_bytes status moment)) old new)
+    (moment : Dated) × Refuses may_give moment × ((count : ℕ) × ExtendsBy (take count (refusal_bytes status moment)) old new)
 RefusedAs may_give status _ old new = ⊥
 
--- Nothing is heard behind this: a request that is the last, or a refusal. A fault may come anywhere.
+-- Nothing is heard behind this: a request that is the last, or a refusal. A fault may come
+-- anywhere.
 abbrev pub IsOver : ℕ → Heard → PipeEnd → Type 0
 IsOver count (heard.Request request) Closed = IsLastRequest count request
 IsOver count (heard.Request request) Limit = IsLastRequest count request
@@ -98,8 +106,8 @@ IsOver count one WriteFault = Unit {0}
 IsOver count one NoMemory = Unit {0}
 IsOver count _ _ = ⊥
 
--- After these were heard the connection goes on, or has ended: so it is behind whatever was heard before, with these bytes
--- behind those that were written.
+-- After these were heard the connection goes on, or has ended: so it is behind whatever was heard
+-- before, with these bytes behind those that were written.
 abbrev pub Turns : (ℕ → Type 0) → Talk → Talk → List Heard → List ℕ → Result (Unit {0}) PipeEnd → Type 0
 Turns may_give old new hears text (Ok _) =
     (owner : List ℕ) (before : List Heard) (written : List ℕ) → Talks may_give owner old before written → Talks may_give owner new (before ++ hears) (written ++ text)

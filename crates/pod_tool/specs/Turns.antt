@@ -1,4 +1,6 @@
-use Rattle.std.specs.Prelude.{◌≡◌, ◌⊎◌, ℕ, ◌+◌, true, if◌then◌else◌, max, List, length, take, ◌++◌, Option, is_some, Result, OnOk, OnErr}
+-- One request of a connection.
+use Rattle.std.specs.Prelude.{◌≡◌, ◌⊎◌, ℕ, ◌+◌, true, if◌then◌else◌, max, List, length, take, ◌++◌}
+use Rattle.std.specs.Prelude.{Option, is_some, Result, OnOk, OnErr}
 use Rattle.std.specs.Option.{option_map, option_map_or, option_to_list}
 use Rattle.http_out.specs.Dates.{Dated, IsDated}
 use Rattle.http_out.specs.Text.{response_text, memory_text}
@@ -8,6 +10,7 @@ use Rattle.pod_core.specs.State.{apply}
 use Rattle.pod_core.specs.Reply.{reply_of, is_change}
 use Rattle.pod_core.specs.declared.reply.Replied.{Replied}
 use Rattle.pod_tool.specs.Session.{IsClockMoment}
+use Rattle.pod_tool.specs.Streams.{ExtendsBy}
 use Rattle.pod_tool.specs.Fresh.{refusal_of, closes_after}
 use Rattle.pod_tool.specs.declared.keeper.Keeper.{Keeper}
 
@@ -36,14 +39,10 @@ pub record IsTaken (may_give : ℕ → Type 0) (old new : Keeper) (request : Req
 abbrev pub Turned : (ℕ → Type 0) → Keeper → Keeper → Request → ℕ → List ℕ → Type 0
 Turned may_give old new request number bytes = IsTaken may_give old new request number bytes ⊎ ((new ≡ old) × (bytes ≡ memory_text))
 
--- a sink has these bytes too
-abbrev pub Adds : List ℕ → Option (List ℕ) → Option (List ℕ) → Type 0
-Adds bytes old new = new ≡ option_map (λ taken. taken ++ bytes) old
-
 -- a sink has the text too, or a front of it where a write failed
 pub record Writes {E : Type 0} (result : Result (Unit {0}) E) (text : List ℕ) (old new : Option (List ℕ)) : Type 0 where
-  pub whole : OnOk result (Adds text old new)
-  pub part : OnErr result ((count : ℕ) × Adds (take count text) old new)
+  pub whole : OnOk result (ExtendsBy text old new)
+  pub part : OnErr result ((count : ℕ) × ExtendsBy (take count text) old new)
 
 -- bytes that are no message were refused at this moment
 pub record Refuses (may_give : ℕ → Type 0) (moment : Dated) : Type 0 where

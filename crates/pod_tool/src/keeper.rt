@@ -1,4 +1,6 @@
-ghost use Rattle.std.specs.Prelude.{◌≡◌, ◌<◌, ◌+◌, ◌^◌, max, if◌then◌else◌, length, is_some, IfOk, OnOk, OnErr, IsTrue};
+//! [`Keeper`]: a pod in memory, its next number and the moment of its last entry.
+ghost use Rattle.std.specs.Prelude.{◌≡◌, ◌<◌, ◌+◌, ◌^◌, max, if◌then◌else◌, length, is_some, IfOk};
+ghost use Rattle.std.specs.Prelude.{OnOk, OnErr, IsTrue};
 ghost use Rattle.std.specs.List.{list_all};
 ghost use Rattle.http_out.specs.Text.{stays_in_line};
 ghost use Rattle.std.specs.Option.{option_map_or, option_to_list};
@@ -30,7 +32,8 @@ pub fn clock_moment<C: Clock>(clock: &C) -> Moment
     moment_of(clock.now())
 }
 
-/// The moment of a request at a clock's moment: that of a change is no earlier than that of the last entry.
+/// The moment of a request at a clock's moment: that of a change is no earlier than that of the
+/// last entry.
 fn moment_at(now: Moment, change: bool, last: Moment) -> Moment
     ensures { result.0 ≡ (if change then max now.0 last.0 else now.0) }
 {
@@ -59,8 +62,8 @@ impl Keeper {
         Ok(())
     }
 
-    /// Answers a request of connection 1, behind which the connection may close, and carries its entry out. For want of memory
-    /// nothing changes.
+    /// Answers a request of connection 1, behind which the connection may close, and carries its
+    /// entry out. For want of memory nothing changes.
     pub fn take<C: Clock>(
         &mut self,
         alloc: Global,

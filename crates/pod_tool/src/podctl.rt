@@ -1,14 +1,16 @@
+//! The command `podctl`.
 ghost use Rattle.std.specs.Prelude.{◌≡◌, ◌≢◌, ◌≤◌, ◌⊎◌, ◌↔◌, None, IfSome, IfOk, map};
 ghost use Rattle.std.specs.String.{string_bytes};
 ghost use Rattle.pod_base.specs.Counts.{CountIncreased};
 ghost use Rattle.pod_tool.specs.Statuses.{Pipes, Tells, status_of, Untouched};
-ghost use Rattle.pod_tool.specs.Served.{IsNew};
+ghost use Rattle.pod_tool.specs.Served.{IsNew, WritesSession};
+ghost use Rattle.pod_tool.specs.Streams.{CountsInput};
 ghost use Rattle.pod_tool.specs.Words.{owner_of};
 
 use crate::keeper::Keeper;
+use crate::report_end::write_end_line;
 use crate::serve::serve;
 use crate::status::{PipeEnd, Status};
-use crate::tell::tell;
 use crate::words::owner_of;
 use pod_base::{Mem, Moment, Text};
 use pod_core::Pod;
@@ -45,7 +47,8 @@ fn pipe<S: Source, K: Sink, E: Sink, C: Clock>(
     ensures pipes { Pipes (C.may_give clock.now) keeper.pod.owner result (S.rest input.old) (S.rest input.new)
         (K.taken output.old) (K.taken output.new) }
     ensures told { Tells result (E.taken errors.old) (E.taken errors.new) (E.faults errors.old) (E.faults errors.new) }
-    ensures reads { S.faults input.old ≤ S.faults input.new }
+    ensures counts { CountsInput result (S.reads input.old) (S.reads input.new) (S.ends input.old) (S.ends input.new) }
+    ensures faults { S.faults input.old ≤ S.faults input.new }
     ensures writes { K.faults output.old ≤ K.faults output.new }
     ensures tells { E.faults errors.old ≤ E.faults errors.new }
     ensures read_fault { result ≡ PipeEnd.ReadFault → CountIncreased (S.faults input.old) (S.faults input.new) }
@@ -53,7 +56,7 @@ fn pipe<S: Source, K: Sink, E: Sink, C: Clock>(
         → CountIncreased (K.faults output.old) (K.faults output.new) ⊎ CountIncreased (E.faults errors.old) (E.faults errors.new) }
 {
     let end = serve(alloc, keeper, input, output, clock);
-    tell(alloc, end, errors)
+    write_end_line(alloc, end, errors)
 }
 
 /// Runs the command `pipe --fresh` with that owner.
@@ -68,10 +71,13 @@ fn run_pipe<S: Source, K: Sink, E: Sink, C: Clock>(
     ensures not_words { result.0 ≢ 2 }
     ensures runs { (end : PipeEnd) × (result.0 ≡ status_of end)
         × Pipes (C.may_give clock.now) owner.now end (S.rest input.old) (S.rest input.new) (K.taken output.old) (K.taken output.new)
-        × Tells end (E.taken errors.old) (E.taken errors.new) (E.faults errors.old) (E.faults errors.new) }
+        × Tells end (E.taken errors.old) (E.taken errors.new) (E.faults errors.old) (E.faults errors.new)
+        × CountsInput end (S.reads input.old) (S.reads input.new) (S.ends input.old) (S.ends input.new) }
+    ensures session { WritesSession (C.may_give clock.now) owner.now (S.rest input.old) (S.rest input.new)
+        (K.taken output.old) (K.taken output.new) }
     ensures read_fault { result.0 ≡ 3 → CountIncreased (S.faults input.old) (S.faults input.new) }
     ensures write_fault { result.0 ≡ 4 → CountIncreased (K.faults output.old) (K.faults output.new) ⊎ CountIncreased (E.faults errors.old) (E.faults errors.new) }
-    ensures reads { S.faults input.old ≤ S.faults input.new }
+    ensures faults { S.faults input.old ≤ S.faults input.new }
     ensures writes { K.faults output.old ≤ K.faults output.new }
     ensures tells { E.faults errors.old ≤ E.faults errors.new }
 {
@@ -81,13 +87,13 @@ fn run_pipe<S: Source, K: Sink, E: Sink, C: Clock>(
     pipe(alloc, keeper, input, output, errors, clock).status()
 }
 
-/// Runs `podctl` with the words after its name: `pipe --fresh OWNER` serves the input as one connection of a new pod
-/// in memory, whose base is `http://127.0.0.1:8080/`, and writes the responses to the output and the line of its end
-/// to the error sink.
+/// Runs `podctl` with the words after its name: `pipe --fresh OWNER` serves the input as one
+/// connection of a new pod in memory, whose base is `http://127.0.0.1:8080/`, and writes the
+/// responses to the output and the line of its end to the error sink.
 ///
-/// The status is 2 where the words have no reading. Else it is 0 where the input ended between messages or a request was the
-/// last, 12 where it ended inside a message, 13 where it had bytes that are no message, 3 where a read failed, 4 where a write
-/// failed, 7 where no memory was left, and 14 after 2^40 reads.
+/// The status is 2 with any other words. Else it is 0 where the input ended between messages or a
+/// request was the last, 12 where it ended inside a message, 13 where a message was malformed, 3
+/// where a read failed, 4 where a write failed, 7 out of memory, and 14 after 2^40 reads.
 pub fn run_podctl<S: Source, K: Sink, E: Sink, C: Clock>(
     alloc: Global,
     words: &[String],
@@ -96,20 +102,26 @@ pub fn run_podctl<S: Source, K: Sink, E: Sink, C: Clock>(
     errors: &mut E,
     clock: &mut C,
 ) -> Status
-    // Where the words have no reading nothing is read and nothing is written.
+    // With other words nothing is read and nothing is written.
     ensures words { (result.0 ≡ 2) ↔ (owner_of (map string_bytes words.now) ≡ None) }
     ensures untouched { result.0 ≡ 2 → Untouched (S.rest input.old) (S.rest input.new) (K.taken output.old) (K.taken output.new)
         (E.taken errors.old) (E.taken errors.new) }
+    ensures unread { result.0 ≡ 2 → S.reads input.new ≡ S.reads input.old }
 
     // What was read and written is a session of a new pod, and the status is that of its end.
     ensures runs { IfSome (owner_of (map string_bytes words.now)) (λ owner. (end : PipeEnd) × (result.0 ≡ status_of end)
         × Pipes (C.may_give clock.old) owner end (S.rest input.old) (S.rest input.new) (K.taken output.old) (K.taken output.new)
-        × Tells end (E.taken errors.old) (E.taken errors.new) (E.faults errors.old) (E.faults errors.new)) }
+        × Tells end (E.taken errors.old) (E.taken errors.new) (E.faults errors.old) (E.faults errors.new)
+        × CountsInput end (S.reads input.old) (S.reads input.new) (S.ends input.old) (S.ends input.new)) }
+
+    // Whatever the end, what was written begins the output of a session over what was read.
+    ensures session { IfSome (owner_of (map string_bytes words.now)) (λ owner. WritesSession (C.may_give clock.old) owner
+        (S.rest input.old) (S.rest input.new) (K.taken output.old) (K.taken output.new)) }
 
     // A fault is answered only where a count rose.
     ensures read_fault { result.0 ≡ 3 → CountIncreased (S.faults input.old) (S.faults input.new) }
     ensures write_fault { result.0 ≡ 4 → CountIncreased (K.faults output.old) (K.faults output.new) ⊎ CountIncreased (E.faults errors.old) (E.faults errors.new) }
-    ensures reads { S.faults input.old ≤ S.faults input.new }
+    ensures faults { S.faults input.old ≤ S.faults input.new }
     ensures writes { K.faults output.old ≤ K.faults output.new }
     ensures tells { E.faults errors.old ≤ E.faults errors.new }
 {

@@ -1,3 +1,4 @@
+//! Statuses, and how connections end.
 ghost use Rattle.std.specs.Prelude.{◌≡◌};
 ghost use Rattle.pod_tool.specs.Statuses.{status_of};
 
@@ -25,7 +26,7 @@ pub enum PipeEnd {
     /// No memory was left to go on.
     NoMemory,
     /// The bound on reads was reached.
-    Bounded,
+    ReadLimit,
 }
 
 impl PipeEnd {
@@ -40,7 +41,7 @@ impl PipeEnd {
             PipeEnd::NoMemory => Status(7),
             PipeEnd::Cut { rest: _ } => Status(12),
             PipeEnd::Bad { status: _ } => Status(13),
-            PipeEnd::Bounded => Status(14),
+            PipeEnd::ReadLimit => Status(14),
         }
     }
 }

@@ -1,4 +1,6 @@
-ghost use Rattle.std.specs.Prelude.{◌≡◌, ◌≤◌, ◌<◌, ◌+◌, ◌^◌, ◌==◌, ◌∷◌, [], ℕ, List, length, IsTrue, IfOk, IfErr, OnOk, if◌then◌else◌};
+//! Answers the events of a connection.
+ghost use Rattle.std.specs.Prelude.{◌≡◌, ◌≤◌, ◌<◌, ◌+◌, ◌^◌, ◌==◌, ◌∷◌, [], ℕ, List, length};
+ghost use Rattle.std.specs.Prelude.{IsTrue, IfOk, IfErr, OnOk, if◌then◌else◌};
 ghost use Rattle.std.specs.List.{AllByRecursion, list_all};
 ghost use Rattle.http_conn.specs.Messages.{NothingAfterEnd};
 ghost use Rattle.http_out.specs.Dates.{Dated};
@@ -8,8 +10,10 @@ ghost use Rattle.pod_base.specs.Counts.{CountIncreased};
 ghost use Rattle.pod_io.specs.Counts.{Counts};
 ghost use Rattle.pod_tool.specs.Fresh.{closes_after, refusal_word};
 ghost use Rattle.pod_tool.specs.Session.{requests_of};
-ghost use Rattle.pod_tool.specs.Talks.{CountsWrites, IsOver, IsRefused, IsSound, RefusedAs, Turns, TurnsIn};
-ghost use Rattle.pod_tool.specs.Turns.{Adds, Refuses, Turned, Writes, refusal_bytes};
+ghost use Rattle.pod_tool.specs.Talks.{CountsWrites, IsOver, IsRefused, IsSound, RefusedAs, Turns};
+ghost use Rattle.pod_tool.specs.Talks.{TurnsIn};
+ghost use Rattle.pod_tool.specs.Streams.{ExtendsBy};
+ghost use Rattle.pod_tool.specs.Turns.{Refuses, Turned, Writes, refusal_bytes};
 
 use crate::keeper::{Keeper, clock_moment};
 use crate::status::PipeEnd;
@@ -109,7 +113,7 @@ fn refuse<K: Sink, C: Clock>(alloc: Global, status: u16, output: &mut K, clock: 
 }
 
 /// Invites a request to send its body.
-fn invite<K: Sink>(output: &mut K) -> Result<(), PipeEnd>
+fn write_continue<K: Sink>(output: &mut K) -> Result<(), PipeEnd>
     ensures writes { Writes result interim_text (K.taken output.old) (K.taken output.new) }
     ensures end { IfErr result (λ end. end ≡ PipeEnd.WriteFault) }
     ensures faults { CountsWrites result (K.faults output.old) (K.faults output.new) }
@@ -132,7 +136,7 @@ impl Talk {
         requires { IsSound self.old }
         ensures sound { OnOk result (IsSound self.new) }
         ensures number { OnOk result (self.new.number ≡ self.old.number + 1) }
-        ensures turns { (text : List ℕ) × Adds text (K.taken output.old) (K.taken output.new)
+        ensures turns { (text : List ℕ) × ExtendsBy text (K.taken output.old) (K.taken output.new)
             × Turns (C.may_give clock.now) self.old self.new (hears.Request request.now ∷ []) text result }
         ensures over { IfErr result (IsOver self.old.number (hears.Request request.now)) }
         ensures faults { CountsWrites result (K.faults output.old) (K.faults output.new) }
@@ -172,14 +176,14 @@ impl Talk {
         requires status { IsRefused one.now }
         ensures sound { OnOk result (IsSound self.new) }
         ensures number { OnOk result (self.new.number ≡ self.old.number + length (requests_of (one.now ∷ []))) }
-        ensures turns { (text : List ℕ) × Adds text (K.taken output.old) (K.taken output.new)
+        ensures turns { (text : List ℕ) × ExtendsBy text (K.taken output.old) (K.taken output.new)
             × Turns (C.may_give clock.now) self.old self.new (one.now ∷ []) text result }
         ensures over { IfErr result (IsOver self.old.number one.now) }
         ensures faults { CountsWrites result (K.faults output.old) (K.faults output.new) }
     {
         match one {
             Heard::Request(request) => self.answer(alloc, request, output, clock),
-            Heard::Interim => invite(output),
+            Heard::Interim => write_continue(output),
             Heard::Bad(status) => Err(refuse(alloc, *status, output, clock)),
         }
     }
@@ -196,7 +200,7 @@ impl Talk {
         requires ends { NothingAfterEnd self.old.number heard.now }
         requires statuses { AllByRecursion IsRefused heard.now }
         ensures sound { OnOk result (IsSound self.new) }
-        ensures turns { (text : List ℕ) × Adds text (K.taken output.old) (K.taken output.new)
+        ensures turns { (text : List ℕ) × ExtendsBy text (K.taken output.old) (K.taken output.new)
             × TurnsIn (C.may_give clock.now) self.old self.new heard.now text result }
         ensures faults { CountsWrites result (K.faults output.old) (K.faults output.new) }
     {

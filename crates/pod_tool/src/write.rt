@@ -1,3 +1,4 @@
+//! Writes whole texts and responses to a sink.
 ghost use Rattle.std.specs.Prelude.{◌≡◌};
 ghost use Rattle.pod_io.specs.Counts.{Counts};
 ghost use Rattle.pod_tool.specs.Turns.{Writes};

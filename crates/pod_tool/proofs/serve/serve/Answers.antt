@@ -1,9 +1,10 @@
-use Rattle.std.proofs.Common.{rules, take, Ok, Err, sym, subst, arith}
+use Rattle.std.proofs.Common.{rules, take, ◌++◌, inl, Ok, Err, sym, ap, subst, ◌∙◌, arith}
+use Rattle.pod_io.specs.Counts.{next_count}
 use Rattle.std.specs.List.{AllByRecursion}
 use Rattle.http_conn.specs.Messages.{NothingAfterEnd}
 use Rattle.pod_tool.specs.Talks.{IsRefused, TurnsIn}
-use Rattle.pod_tool.proofs.ServingLemmas.{read_fault, bounded, at_end, no_memory, ends, statuses, goes_on, ended, never_reads}
-use Rattle.pod_tool.proofs.ReadsLemmas.{reads_more, reads_none, ended_at, some_read}
+use Rattle.pod_tool.proofs.ServingLemmas.{read_fault, bounded, at_end, no_memory, ends, statuses, goes_on, ended, never_reads, counts_end, counts_heard}
+use Rattle.pod_tool.proofs.ReadsLemmas.{reads_more, reads_none, ended_at, some_read, met_end, met_no_end, one_more}
 use Rattle.pod_tool.proofs.serve.serve.Goals as goal
 
 -- a read failed
@@ -72,8 +73,54 @@ reads-preserved g c =
           c.in-Ok-hear.ensures.sound (some_read c.read.new.into c.in-Ok.count (search rules) c.if-count-eq0.false),
       omega (arith, c.reads.invariant.1, read.faults.no_fewer),
       omega (arith, c.reads.invariant.2, c.in-Ok-hear.ensures.faults.no_fewer),
+      omega (arith, c.reads.invariant.3, read.reads.no_fewer),
+      one_more (g.S.Source.reads c.args.input.now) (g.S.Source.reads c.reads.input) (g.S.Source.reads c.read.new.self) c.reads.counter c.reads.invariant.4 read.reads.read,
+      met_no_end (g.S.Source.ends c.reads.input) (g.S.Source.ends c.read.new.self) c.in-Ok.count c.if-count-eq0.false read.ends.read ∙ c.reads.invariant.5,
     )
 
 -- each read gave a byte
 pub returns-clause-pipes : goal.returns-clause-pipes
 returns-clause-pipes g c = bounded _ _ _ _ _ _ _ _ _ c.reads.invariant.0 (omega (arith, c.reads-test.false))
+
+-- ---- the counts of the input
+
+pub returns-in_default-clause-counts : goal.returns-in_default-clause-counts
+returns-in_default-clause-counts g c = record {
+  reads = omega (arith, c.reads.invariant.3, c.in_default.ensures.reads.no_fewer);
+  limit = λ e. absurd cc;
+  ends = c.in_default.ensures.ends.failed ∙ c.reads.invariant.5;
+}
+
+pub returns-then-count-eq0-clause-counts : goal.returns-then-count-eq0-clause-counts
+returns-then-count-eq0-clause-counts g c =
+    let read = c.in-Ok.ensures in
+    counts_end c.rest.result c.at_end.result (g.S.Source.reads c.args.input.now) (g.S.Source.reads c.read.new.self) (g.S.Source.ends c.args.input.now) (g.S.Source.ends c.read.new.self)
+    c.at_end.ensures (omega (arith, c.reads.invariant.3, read.reads.no_fewer))
+    (met_end (g.S.Source.ends c.reads.input) (g.S.Source.ends c.read.new.self) c.in-Ok.count c.if-count-eq0.true read.ends.read ∙ ap next_count c.reads.invariant.5)
+
+pub returns-in_default-feed-clause-counts : goal.returns-in_default-feed-clause-counts
+returns-in_default-feed-clause-counts g c =
+    let read = c.in-Ok.ensures in
+    record {
+      reads = omega (arith, c.reads.invariant.3, read.reads.no_fewer);
+      limit = λ e. absurd cc;
+      ends = inl (met_no_end (g.S.Source.ends c.reads.input) (g.S.Source.ends c.read.new.self) c.in-Ok.count c.if-count-eq0.false read.ends.read ∙ c.reads.invariant.5);
+    }
+
+pub returns-in-Err-clause-counts : goal.returns-in-Err-clause-counts
+returns-in-Err-clause-counts g c =
+    let s = c.reads.invariant.0 in
+    let read = c.in-Ok.ensures in
+    let told = c.in-Err.ensures.turns in
+    let t = told.2 in
+    counts_heard (g.C.Clock.may_give c.args.clock.now) c.args.keeper.pod.owner c.in-Err.end (s.heard ++ t.front) (s.written ++ told.0)
+    (g.S.Source.reads c.args.input.now) (g.S.Source.reads c.read.new.self) (g.S.Source.ends c.args.input.now) (g.S.Source.ends c.read.new.self)
+    (t.turns c.args.keeper.pod.owner s.heard s.written s.talks) (omega (arith, c.reads.invariant.3, read.reads.no_fewer))
+    (met_no_end (g.S.Source.ends c.reads.input) (g.S.Source.ends c.read.new.self) c.in-Ok.count c.if-count-eq0.false read.ends.read ∙ c.reads.invariant.5)
+
+pub returns-clause-counts : goal.returns-clause-counts
+returns-clause-counts g c = record {
+  reads = c.reads.invariant.3;
+  limit = λ e below. omega (arith, c.reads-test.false, c.reads.invariant.4 below);
+  ends = c.reads.invariant.5;
+}

@@ -1,5 +1,5 @@
 use Rattle.std.proofs.Common.{◌≡◌, ◌++◌, length, take, drop, sym, subst, arith}
-use Rattle.pod_tool.specs.Turns.{Adds}
+use Rattle.pod_tool.specs.Streams.{ExtendsBy}
 use Rattle.pod_tool.proofs.TalksLemmas.{adds_more}
 use Rattle.pod_tool.proofs.WritesLemmas.{given_is, still_whole, part_is}
 use Rattle.pod_tool.proofs.write.write_out.Goals as goal
@@ -32,7 +32,7 @@ returns-in-Err-clause-writes g c =
       whole = tt;
       part = (
         length front,
-        subst (λ text. Adds text (g.K.Sink.taken c.args.output.now) (g.K.Sink.taken c.write_all.new.output))
+        subst (λ text. ExtendsBy text (g.K.Sink.taken c.args.output.now) (g.K.Sink.taken c.write_all.new.output))
             (part_is i.0 given (drop count c.pieces.out) c.args.out part.0 (still_whole i.0 given c.pieces.out (drop count c.pieces.out) c.args.out i.1 whole))
             (adds_more (g.K.Sink.taken c.args.output.now) (g.K.Sink.taken c.pieces.output) (g.K.Sink.taken c.write_all.new.output) i.0 (take part.0 given) i.2 part.1),
       );

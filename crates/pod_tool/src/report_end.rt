@@ -1,3 +1,4 @@
+//! The last line of a connection, on the error sink.
 ghost use Rattle.std.specs.Prelude.{◌≡◌, ◌≤◌, ◌⊎◌, ◌++◌, IfOk, codes, decimal};
 ghost use Rattle.pod_base.specs.Counts.{CountIncreased};
 ghost use Rattle.pod_tool.specs.Statuses.{ComesOf, Tells, end_line, status_of};
@@ -21,7 +22,7 @@ fn number_line(alloc: Global, word: &[u8], number: u64) -> Mem<Bytes>
 }
 
 /// Tells that the input ended inside a message.
-fn tell_cut<E: Sink>(alloc: Global, rest: usize, errors: &mut E) -> PipeEnd
+fn write_cut<E: Sink>(alloc: Global, rest: usize, errors: &mut E) -> PipeEnd
     ensures end { (result ≡ PipeEnd.Cut rest) ⊎ (result ≡ PipeEnd.NoMemory) }
     ensures told { Tells result (E.taken errors.old) (E.taken errors.new) (E.faults errors.old) (E.faults errors.new) }
     ensures no_fewer { E.faults errors.old ≤ E.faults errors.new }
@@ -36,7 +37,7 @@ fn tell_cut<E: Sink>(alloc: Global, rest: usize, errors: &mut E) -> PipeEnd
 }
 
 /// Tells that bytes that are no message were refused.
-fn tell_bad<E: Sink>(alloc: Global, status: u16, errors: &mut E) -> PipeEnd
+fn write_bad<E: Sink>(alloc: Global, status: u16, errors: &mut E) -> PipeEnd
     ensures end { (result ≡ PipeEnd.Bad status) ⊎ (result ≡ PipeEnd.NoMemory) }
     ensures told { Tells result (E.taken errors.old) (E.taken errors.new) (E.faults errors.old) (E.faults errors.new) }
     ensures no_fewer { E.faults errors.old ≤ E.faults errors.new }
@@ -51,7 +52,7 @@ fn tell_bad<E: Sink>(alloc: Global, status: u16, errors: &mut E) -> PipeEnd
 }
 
 /// Tells of an end of status 0 by this line. It is the one line whose failure is a write fault.
-fn tell_done<E: Sink>(end: PipeEnd, line: &[u8], errors: &mut E) -> PipeEnd
+fn write_done<E: Sink>(end: PipeEnd, line: &[u8], errors: &mut E) -> PipeEnd
     requires line { line.now ≡ end_line end }
     requires done { status_of end ≡ 0 }
     ensures end { (result ≡ end) ⊎ (result ≡ PipeEnd.WriteFault) }
@@ -65,22 +66,23 @@ fn tell_done<E: Sink>(end: PipeEnd, line: &[u8], errors: &mut E) -> PipeEnd
     }
 }
 
-/// Tells by a last line how a connection ended, unless a fault, want of memory or the bound on reads ended it.
-pub fn tell<E: Sink>(alloc: Global, end: PipeEnd, errors: &mut E) -> PipeEnd
+/// Tells by a last line how a connection ended, unless a fault, want of memory or the bound on
+/// reads ended it.
+pub fn write_end_line<E: Sink>(alloc: Global, end: PipeEnd, errors: &mut E) -> PipeEnd
     ensures end { ComesOf end result }
     ensures told { Tells result (E.taken errors.old) (E.taken errors.new) (E.faults errors.old) (E.faults errors.new) }
     ensures no_fewer { E.faults errors.old ≤ E.faults errors.new }
     ensures failed { result ≡ PipeEnd.WriteFault → (end ≡ PipeEnd.WriteFault) ⊎ CountIncreased (E.faults errors.old) (E.faults errors.new) }
 {
     match end {
-        PipeEnd::Peer => tell_done(end, b"end: peer\n", errors),
-        PipeEnd::Closed => tell_done(end, b"end: closed\n", errors),
-        PipeEnd::Limit => tell_done(end, b"end: limit\n", errors),
-        PipeEnd::Cut { rest } => tell_cut(alloc, rest, errors),
-        PipeEnd::Bad { status } => tell_bad(alloc, status, errors),
+        PipeEnd::Peer => write_done(end, b"end: peer\n", errors),
+        PipeEnd::Closed => write_done(end, b"end: closed\n", errors),
+        PipeEnd::Limit => write_done(end, b"end: limit\n", errors),
+        PipeEnd::Cut { rest } => write_cut(alloc, rest, errors),
+        PipeEnd::Bad { status } => write_bad(alloc, status, errors),
         PipeEnd::WriteFault => PipeEnd::WriteFault,
         PipeEnd::ReadFault => PipeEnd::ReadFault,
         PipeEnd::NoMemory => PipeEnd::NoMemory,
-        PipeEnd::Bounded => PipeEnd::Bounded,
+        PipeEnd::ReadLimit => PipeEnd::ReadLimit,
     }
 }

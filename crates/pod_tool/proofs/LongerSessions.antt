@@ -1,0 +1,116 @@
+-- A session over the first events of a text is one over all of them.
+use Rattle.std.proofs.Common.{◌≡◌, inl, inr, ℕ, ◌+◌, Bool, true, false, if◌then◌else◌, List, [], ◌∷◌, ◌++◌, Option, Some, None, refl, sym, ap, subst, ◌∙◌}
+use Rattle.std.proofs.lemmas.List.{append-nil}
+use mathlib.Core.List.{IsPrefix}
+use Rattle.http_out.specs.Dates.{Dated}
+use Rattle.http_out.specs.Text.{interim_text}
+use Rattle.http_conn.specs.Messages.{Messages, NothingAfterEnd}
+use Rattle.http_conn.proofs.EndLemmas.{ends_there}
+use Rattle.pod_base.proofs.Prefixes.{prefix_of_append, prefix_trans, prefix_after}
+use Rattle.pod_base.specs.declared.heard.Heard.{Heard}
+use Rattle.pod_base.specs.declared.heard.Heard.TheVariants as heard
+use Rattle.pod_tool.specs.Fresh.{fresh_service}
+use Rattle.pod_tool.specs.Output.{item_text, output_of}
+use Rattle.pod_tool.specs.Served.{OnFresh, IsServed, IsStopped, WritesSession}
+use Rattle.pod_tool.specs.Session.{Item, upgrades, requests_of, has_bad}
+use Rattle.pod_tool.specs.Statuses.{HearsFirst, IsHeard, IsWritten, Pipes}
+use Rattle.pod_tool.specs.declared.status.PipeEnd.{PipeEnd}
+use Rattle.pod_tool.specs.declared.status.PipeEnd.TheVariants.{Peer, Cut, Closed, Limit, Bad, ReadFault, WriteFault, NoMemory, ReadLimit}
+use Rattle.pod_tool.proofs.EndingsLemmas.{served_stops}
+use Rattle.pod_tool.proofs.HeardLemmas.{requests_append}
+use Rattle.pod_tool.proofs.ServingLemmas.{hears_first, all_first}
+
+-- no event follows a malformed message
+nothing_more : (count : ℕ) (events more : List Heard) → has_bad events ≡ true → NothingAfterEnd count (events ++ more) → more ≡ []
+nothing_more count [] more bad ends = absurd cc
+nothing_more count (heard.Interim ∷ events) more bad ends = nothing_more count events more bad ends
+nothing_more count (heard.Request r ∷ events) more bad ends = nothing_more (count + 1) events more bad ends.1
+nothing_more count (heard.Bad status ∷ []) more bad ends = ends
+nothing_more count (heard.Bad status ∷ (one ∷ events)) more bad ends = absurd cc
+
+-- the output over more events begins with that over the first ones
+output_longer : (events more : List Heard) (items : List Item) → IsPrefix (output_of fresh_service events items None) (output_of fresh_service (events ++ more) items None)
+output_longer [] more items = (output_of fresh_service more items None, refl)
+output_longer (heard.Interim ∷ events) more items =
+    prefix_after interim_text (output_of fresh_service events items None) (output_of fresh_service (events ++ more) items None) (output_longer events more items)
+output_longer (heard.Request r ∷ events) more [] = ([], refl)
+output_longer (heard.Request r ∷ events) more (item ∷ items) =
+    let short = output_of fresh_service events items None in
+    let long = output_of fresh_service (events ++ more) items None in
+    prefix_after (item_text fresh_service item) (if upgrades item.outcome then [] else short) (if upgrades item.outcome then [] else long)
+    (elim (upgrades item.outcome) as (λ b. IsPrefix (if b then [] else short) (if b then [] else long)) [
+      | true ↦ ([], refl)
+      | false ↦ output_longer events more items
+    ])
+output_longer (heard.Bad status ∷ events) more items = ([], refl)
+
+module _ (may_give : ℕ → Type 0) (owner : List ℕ) (events more : List Heard) (written : List ℕ) (ends : NothingAfterEnd 0 (events ++ more)) where
+  open_session : (items : List Item) → OnFresh may_give owner events items None → IsPrefix written (output_of fresh_service events items None) → IsStopped may_give owner (events ++ more) written
+  open_session items s output = record {
+    items = items;
+    refusal = None;
+    session = record {
+      history = s.history;
+      entries = s.entries;
+      session = record {
+        requests = prefix_trans _ (requests_of events) (requests_of (events ++ more)) s.session.requests
+            (subst (IsPrefix (requests_of events)) (sym (requests_append events more)) (prefix_of_append (requests_of events) (requests_of more)));
+        numbers = s.session.numbers;
+        upgraded = s.session.upgraded;
+        places = s.session.places;
+        answers = s.session.answers;
+        refused = tt;
+      };
+      no_disk = s.no_disk;
+    };
+    output = prefix_trans written (output_of fresh_service events items None) (output_of fresh_service (events ++ more) items None) output (output_longer events more items);
+  }
+
+  by_refusal : (items : List Item) (refusal : Option Dated) → OnFresh may_give owner events items refusal → IsPrefix written (output_of fresh_service events items refusal) → IsStopped may_give owner (events ++ more) written
+  by_refusal items None s output = open_session items s output
+  by_refusal items (Some moment) s output =
+      let none : more ≡ [] = nothing_more 0 events more s.session.refused.bad ends in
+      subst (λ all. IsStopped may_give owner all written) (sym (ap (λ rest. events ++ rest) none ∙ append-nil events))
+      (record { items = items; refusal = Some moment; session = s; output = output })
+
+  stops_longer : IsStopped may_give owner events written → IsStopped may_give owner (events ++ more) written
+  stops_longer s = by_refusal s.items s.refusal s.session s.output
+
+-- what was heard are the first events of what was read
+first_of_end : (end : PipeEnd) (read : List ℕ) (events : List Heard) (left : Option (List ℕ)) → IsHeard end read events left → HearsFirst read events
+first_of_end Peer read events left h = all_first read events 0 h.0
+first_of_end (Cut rest) read events left h = all_first read events rest h.0
+first_of_end Closed read events left h = all_first read events 0 h.0
+first_of_end Limit read events left h = all_first read events 0 h.0
+first_of_end (Bad status) read events left h = all_first read events 0 h.0
+first_of_end ReadFault read events left h = all_first read events h.0 h.1
+first_of_end ReadLimit read events left h = all_first read events h.0 h.1
+first_of_end WriteFault read events left h =
+    hears_first read events (record { prefix = read; is_prefix = ([], append-nil read); all = h.0; rest = h.1; messages = h.2; first = (h.3.0, sym h.3.1) })
+first_of_end NoMemory read events left h = h
+
+stops_of_end : (may_give : ℕ → Type 0) (owner : List ℕ) (end : PipeEnd) (events : List Heard) (written : List ℕ) → IsWritten may_give owner end events written → IsStopped may_give owner events written
+stops_of_end may_give owner Peer events written w = served_stops may_give owner events written w
+stops_of_end may_give owner (Cut rest) events written w = served_stops may_give owner events written w
+stops_of_end may_give owner Closed events written w = served_stops may_give owner events written w
+stops_of_end may_give owner Limit events written w = served_stops may_give owner events written w
+stops_of_end may_give owner (Bad status) events written w = served_stops may_give owner events written w
+stops_of_end may_give owner ReadFault events written w = served_stops may_give owner events written w
+stops_of_end may_give owner ReadLimit events written w = served_stops may_give owner events written w
+stops_of_end may_give owner WriteFault events written w = w
+stops_of_end may_give owner NoMemory events written w = w
+
+-- whatever the end, the bytes written begin those of a session over the bytes read
+pub writes_session : (may_give : ℕ → Type 0) (owner : List ℕ) (end : PipeEnd) (old_input new_input old_output new_output : Option (List ℕ))
+    → Pipes may_give owner end old_input new_input old_output new_output → WritesSession may_give owner old_input new_input old_output new_output
+writes_session may_give owner end old_input new_input old_output new_output p = record {
+  read = p.read;
+  written = p.written;
+  reads = p.reads;
+  writes = p.writes;
+  session = λ all rest m.
+      let more = (first_of_end end p.read p.heard new_input p.hears).whole all rest m in
+      subst (λ events. IsStopped may_give owner events p.written) (sym more.1)
+      (stops_longer may_give owner p.heard more.0 p.written (subst (NothingAfterEnd 0) more.1 (ends_there p.read all rest m))
+      (stops_of_end may_give owner end p.heard p.written p.serves));
+}
