@@ -85,8 +85,8 @@ fn is_same_in_all_sizes(
     Ok(true)
 }
 
-/// What feeding the text ends with, the same in pieces of 1, 2, 3, 5, 7, 64 and 100,000 bytes. After
-/// a fault comes the offset of the byte at which pieces of one byte met it.
+/// What feeding the text ends with, the same in pieces of 1, 2, 3, 5, 7, 64 and 100,000 bytes.
+/// After a fault comes the offset of the byte at which pieces of one byte met it.
 pub(crate) fn in_pieces(alloc: Global, form: &str, field: &str) -> Result<String, AllocError> {
     let form = form_of(form);
     let text = bytes(alloc, field)?;

@@ -48,8 +48,8 @@ fn begins_line(bytes: &[u8]) -> bool
     }
 }
 
-/// Passes the bytes of the window that no head's end can include any more: how many bytes are passed
-/// then, and how long the head is.
+/// Passes the bytes of the window that no head's end can include any more: how many bytes are
+/// passed then, and how long the head is.
 fn skip_header_lines(at: usize, window: &[u8]) -> (usize, Option<usize>)
     requires { Passed (scan_state at true) window.now }
     ensures passed { Passed (scan_state result.0 true) window.now }
