@@ -6,9 +6,10 @@ pub mod WriteRuns
 pub mod Records
 pub mod AppendRuns
 pub mod HeadBytes
-pub mod QuietRuns
+pub mod ReadRuns
 pub mod WindowReads
 pub mod FrameReads
 pub mod WalkSteps
 pub mod OpenRuns
 pub mod RenewRuns
+pub mod Classifying

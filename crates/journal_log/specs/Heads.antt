@@ -16,6 +16,6 @@ pub record IsKnown (format epoch : ℕ) : Type 0 where
   pub most : epoch ≤ 2 ^ 63
   pub old : format ≡ 1 → epoch < 2 ^ 63
 
--- no right head stands at the front
+-- no right head stands at the prefix
 abbrev pub NoHead : List ℕ → Type 0
 NoHead bytes = (format epoch : ℕ) (rest : List ℕ) → IsKnown format epoch → bytes ≡ head_of format epoch ++ rest → ⊥

@@ -2,9 +2,9 @@ ghost use Rattle.std.specs.Prelude.{◌≡◌, ◌≢◌, ◌⊎◌, ◌+◌, �
 ghost use Rattle.pod_io.specs.Counts.{Counts};
 ghost use Rattle.pod_disk.specs.Disk.{LeavesOnly};
 ghost use Rattle.journal_log.specs.Heads.{IsKnown};
-ghost use Rattle.journal_log.specs.Walking.{held_at};
+ghost use Rattle.journal_log.specs.Walking.{state_at};
 ghost use Rattle.journal_log.specs.Images.{IsEither};
-ghost use Rattle.journal_log.specs.Resting.{Rests, Doubts, RestsOrDoubts};
+ghost use Rattle.journal_log.specs.CleanJournal.{IsClean, IsInDoubt, IsCleanOrInDoubt};
 
 use crate::fault::DiskFault;
 use crate::framed::Framed;
@@ -16,8 +16,8 @@ use std::marker::Model;
 /// The place of a journal on its disk: where its last gate stands, and whether that gate is in doubt. The disk is
 /// passed to each call.
 ///
-/// Contracts see the offset of its last gate, whether that gate is in doubt, the format and the epoch (`Held`), and
-/// say by `Rests` and `Doubts` how these fit the images of a disk.
+/// Contracts see the offset of its last gate, whether that gate is in doubt, the format and the epoch (`JournalState`), and
+/// say by `IsClean` and `IsInDoubt` how these fit the images of a disk.
 #[derive(Drop)]
 pub struct Journal {
     // The offset of the last gate.
@@ -29,10 +29,10 @@ pub struct Journal {
 
 impl Model for Journal {
     ghost use Rattle.std.specs.Prelude.{◌<◌, ◌^◌};
-    ghost use Rattle.journal_log.specs.Held.{Held};
+    ghost use Rattle.journal_log.specs.JournalState.{JournalState};
     ghost use Rattle.journal_log.specs.Heads.{IsKnown};
 
-    ghost Value = { Held };
+    ghost Value = { JournalState };
 
     ghost view = { λ j. record { end = j.end; doubt = j.doubt; format = j.format; epoch = j.epoch } };
 
@@ -41,10 +41,10 @@ impl Model for Journal {
 
 impl Journal {
     // The journal with this head whose last gate, at this offset, is closed.
-    pub(crate) fn at_rest(head: Head, end: u64) -> Journal
+    pub(crate) fn new_clean(head: Head, end: u64) -> Journal
         requires known { IsKnown head.format head.epoch }
         requires room { end < 2 ^ 63 }
-        ensures { result ≡ held_at head end }
+        ensures { result ≡ state_at head end }
     {
         Journal {
             end,
@@ -91,13 +91,13 @@ impl Journal {
     /// without, and at `Ok` for those with the new one. After an `Err` the journal is at rest as before, or its last gate
     /// is in doubt; [`needs_repair`](Journal::needs_repair) says which. The journal is at rest before the call.
     pub fn append<D: Disk>(&mut self, disk: &mut D, framed: &Framed) -> Result<(), DiskFault>
-        requires { (bodies : List (List ℕ)) × Rests (D.image disk.old) self.old bodies }
-        ensures moments { (bodies : List (List ℕ)) → Rests (D.image disk.old) self.old bodies
+        requires { (bodies : List (List ℕ)) × IsClean (D.image disk.old) self.old bodies }
+        ensures moments { (bodies : List (List ℕ)) → IsClean (D.image disk.old) self.old bodies
             → LeavesOnly D.moment D.left_since disk.old disk.new (IsEither self.old.format self.old.epoch bodies framed.now) }
-        ensures appended { OnOk result ((bodies : List (List ℕ)) → Rests (D.image disk.old) self.old bodies
-            → Rests (D.image disk.new) self.new (bodies ++ framed.now ∷ [])) }
-        ensures fault { OnErr result ((bodies : List (List ℕ)) → Rests (D.image disk.old) self.old bodies
-            → RestsOrDoubts (D.image disk.new) self.new bodies framed.now) }
+        ensures appended { OnOk result ((bodies : List (List ℕ)) → IsClean (D.image disk.old) self.old bodies
+            → IsClean (D.image disk.new) self.new (bodies ++ framed.now ∷ [])) }
+        ensures fault { OnErr result ((bodies : List (List ℕ)) → IsClean (D.image disk.old) self.old bodies
+            → IsCleanOrInDoubt (D.image disk.new) self.new bodies framed.now) }
         ensures faults { Counts result (D.faults disk.old) (D.faults disk.new) }
     {
         write_through(disk, self.end + 1, framed.bytes())?;
@@ -111,13 +111,13 @@ impl Journal {
     /// Closes the gate that is in doubt: writes 0 there, and syncs. At each moment every image of the disk stands for the
     /// records of the journal, with the one behind that gate or without, and at `Ok` for those without.
     pub fn repair<D: Disk>(&mut self, disk: &mut D) -> Result<(), DiskFault>
-        requires { (bodies : List (List ℕ)) × (body : List ℕ) × Doubts (D.image disk.old) self.old bodies body }
-        ensures moments { (bodies : List (List ℕ)) (body : List ℕ) → Doubts (D.image disk.old) self.old bodies body
+        requires { (bodies : List (List ℕ)) × (body : List ℕ) × IsInDoubt (D.image disk.old) self.old bodies body }
+        ensures moments { (bodies : List (List ℕ)) (body : List ℕ) → IsInDoubt (D.image disk.old) self.old bodies body
             → LeavesOnly D.moment D.left_since disk.old disk.new (IsEither self.old.format self.old.epoch bodies body) }
-        ensures repaired { OnOk result ((bodies : List (List ℕ)) (body : List ℕ) → Doubts (D.image disk.old) self.old bodies body
-            → Rests (D.image disk.new) self.new bodies) }
-        ensures fault { OnErr result ((bodies : List (List ℕ)) (body : List ℕ) → Doubts (D.image disk.old) self.old bodies body
-            → Doubts (D.image disk.new) self.new bodies body) }
+        ensures repaired { OnOk result ((bodies : List (List ℕ)) (body : List ℕ) → IsInDoubt (D.image disk.old) self.old bodies body
+            → IsClean (D.image disk.new) self.new bodies) }
+        ensures fault { OnErr result ((bodies : List (List ℕ)) (body : List ℕ) → IsInDoubt (D.image disk.old) self.old bodies body
+            → IsInDoubt (D.image disk.new) self.new bodies body) }
         ensures faults { Counts result (D.faults disk.old) (D.faults disk.new) }
     {
         write_through(disk, self.end, &[0])?;

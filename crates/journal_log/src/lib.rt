@@ -5,6 +5,7 @@
 #![tactic(auto)]
 
 mod buffered;
+mod class;
 mod fault;
 mod framed;
 mod head;
@@ -16,13 +17,10 @@ mod scan;
 mod walk;
 mod window;
 mod writes;
-mod written;
 
+pub use class::DiskClass;
 pub use fault::{DiskFault, OpenFault, RenewFault, Side};
 pub use framed::{Framed, frame};
-pub use head::{Head, head_and_gate};
+pub use head::EPOCH_LIMIT;
 pub use journal::Journal;
 pub use laws::{damaged_once, stands_once, stands_or_damaged};
-
-#[cfg(test)]
-mod tests;

@@ -1,12 +1,12 @@
 ghost use Rattle.std.specs.Prelude.{◌≡◌, ◌≤◌, ◌<◌, ◌^◌, ◌++◌, ℕ, drop, length, IfOk, IfErr, IfSome, IfNone, OnOk, Some};
 ghost use Rattle.pod_io.specs.Counts.{Counts};
 ghost use Rattle.pod_io.specs.Told.{IfTold};
-ghost use Rattle.pod_disk.specs.Disk.{Each, LeavesOnly};
+ghost use Rattle.pod_disk.specs.Disk.{EachImage, LeavesOnly};
 ghost use Rattle.journal_log.specs.Heads.{head_of, IsKnown, NoHead};
 ghost use Rattle.journal_log.specs.Images.{Stands};
-ghost use Rattle.journal_log.specs.Resting.{Rests};
-ghost use Rattle.journal_log.specs.Reading.{Quiet, IsShown, Keeps};
-ghost use Rattle.journal_log.specs.Walking.{IsFound, held_at};
+ghost use Rattle.journal_log.specs.CleanJournal.{IsClean};
+ghost use Rattle.journal_log.specs.Reading.{OnlyReads, WindowShows, ReadKeeps};
+ghost use Rattle.journal_log.specs.Walking.{IsFound, state_at};
 ghost use Rattle.journal_log.specs.Opening.{IsWhileOpened};
 ghost use Rattle.journal_log.specs.Causes.{HasCause};
 
@@ -34,21 +34,21 @@ impl Journal {
         side: Side,
     ) -> Result<(Journal, List<Bytes>), OpenFault>
         ensures moments { LeavesOnly D.moment D.left_since disk.old disk.new (IsWhileOpened (D.image disk.old)) }
-        ensures rests { IfOk result (λ opened. Rests (D.image disk.new) opened.0 opened.1.items) }
+        ensures clean { IfOk result (λ opened. IsClean (D.image disk.new) opened.0 opened.1.items) }
         ensures records { IfOk result (λ opened. IfTold (D.content disk.old) (Stands opened.0.format opened.0.epoch opened.1.items)) }
         ensures no_fewer { D.faults disk.old ≤ D.faults disk.new }
         ensures cause { IfErr result (HasCause (D.content disk.old) side (D.faults disk.old) (D.faults disk.new)) }
     {
         let found = read_all(alloc, disk, side)?;
-        settle(disk, &found)?;
-        Ok((Journal::at_rest(found.head, found.end), found.records))
+        normalize_gate(disk, &found)?;
+        Ok((Journal::new_clean(found.head, found.end), found.records))
     }
 }
 
 /// Waits until all is on the disk, and gives its length.
-pub fn measure<D: Disk>(disk: &mut D) -> Result<u64, Failed>
-    ensures quiet { Quiet D.image D.moment D.left_since disk.old disk.new }
-    ensures durable { OnOk result (Each (D.image disk.new) (λ c. D.content disk.new ≡ Some c)) }
+pub fn synced_len<D: Disk>(disk: &mut D) -> Result<u64, Failed>
+    ensures only_reads { OnlyReads D.image D.moment D.left_since disk.old disk.new }
+    ensures durable { OnOk result (EachImage (D.image disk.new) (λ c. D.content disk.new ≡ Some c)) }
     ensures content { OnOk result (D.content disk.new ≡ D.content disk.old) }
     ensures len { IfOk result (λ size. IfTold (D.content disk.old) (λ b. length b ≡ size)) }
     ensures below { IfOk result (λ size. size < 2 ^ 63) }
@@ -58,11 +58,11 @@ pub fn measure<D: Disk>(disk: &mut D) -> Result<u64, Failed>
     disk.len()
 }
 
-// The right head at the front of a disk.
+// The right head at the prefix of a disk.
 fn head_at<D: Disk>(window: &mut Window, disk: &mut D) -> Result<Option<Head>, Failed>
-    requires { IfTold (D.content disk.old) (IsShown window.old) }
-    ensures quiet { Quiet D.image D.moment D.left_since disk.old disk.new }
-    ensures kept { OnOk result (Keeps (D.content disk.old) (D.content disk.new) window.old window.new) }
+    requires { IfTold (D.content disk.old) (WindowShows window.old) }
+    ensures only_reads { OnlyReads D.image D.moment D.left_since disk.old disk.new }
+    ensures kept { OnOk result (ReadKeeps (D.content disk.old) (D.content disk.new) window.old window.new) }
     ensures found { IfOk result (λ found. IfSome found (λ head. IfTold (D.content disk.old) (λ b. b ≡ head_of head.format head.epoch ++ drop 16 b))) }
     ensures known { IfOk result (λ found. IfSome found (λ head. IsKnown head.format head.epoch)) }
     ensures size { IfOk result (λ found. IfSome found (λ _. 16 ≤ window.old.size)) }
@@ -86,7 +86,7 @@ fn read_from<D: Disk>(
 ) -> Result<Found, OpenFault>
     requires small { size < 2 ^ 63 }
     requires size { IfTold (D.content disk.old) (λ b. length b ≡ size) }
-    ensures quiet { Quiet D.image D.moment D.left_since disk.old disk.new }
+    ensures only_reads { OnlyReads D.image D.moment D.left_since disk.old disk.new }
     ensures content { OnOk result (D.content disk.new ≡ D.content disk.old) }
     ensures found { IfOk result (IsFound (D.content disk.old)) }
     ensures no_fewer { D.faults disk.old ≤ D.faults disk.new }
@@ -107,26 +107,26 @@ fn read_from<D: Disk>(
 
 // Reads the records of a disk.
 fn read_all<D: Disk>(alloc: Global, disk: &mut D, side: Side) -> Result<Found, OpenFault>
-    ensures quiet { Quiet D.image D.moment D.left_since disk.old disk.new }
-    ensures durable { OnOk result (Each (D.image disk.new) (λ c. D.content disk.new ≡ Some c)) }
+    ensures only_reads { OnlyReads D.image D.moment D.left_since disk.old disk.new }
+    ensures durable { OnOk result (EachImage (D.image disk.new) (λ c. D.content disk.new ≡ Some c)) }
     ensures content { OnOk result (D.content disk.new ≡ D.content disk.old) }
     ensures found { IfOk result (IsFound (D.content disk.old)) }
     ensures no_fewer { D.faults disk.old ≤ D.faults disk.new }
     ensures cause { IfErr result (HasCause (D.content disk.old) side (D.faults disk.old) (D.faults disk.new)) }
 {
-    let size = measure(disk)?;
+    let size = synced_len(disk)?;
     read_from(alloc, disk, size, side)
 }
 
 // Writes 1 to the last record's gate where it is another byte.
-fn settle<D: Disk>(disk: &mut D, found: &Found) -> Result<(), Failed>
-    requires durable { Each (D.image disk.old) (λ c. D.content disk.old ≡ Some c) }
+fn normalize_gate<D: Disk>(disk: &mut D, found: &Found) -> Result<(), Failed>
+    requires durable { EachImage (D.image disk.old) (λ c. D.content disk.old ≡ Some c) }
     requires found { IsFound (D.content disk.old) found.now }
     ensures moments { LeavesOnly D.moment D.left_since disk.old disk.new (IsWhileOpened (D.image disk.old)) }
-    ensures rests { OnOk result (Rests (D.image disk.new) (held_at found.now.head found.now.end) found.now.records.items) }
+    ensures clean { OnOk result (IsClean (D.image disk.new) (state_at found.now.head found.now.end) found.now.records.items) }
     ensures faults { Counts result (D.faults disk.old) (D.faults disk.new) }
 {
-    match found.mend {
+    match found.torn_gate {
         Some(at) => write_through(disk, at, &[1]),
         None => Ok(()),
     }

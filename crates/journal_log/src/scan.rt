@@ -4,7 +4,7 @@ ghost use Rattle.std.specs.Prelude.{◌≡◌, ◌≢◌, ◌+◌, ◌≤◌, �
 ghost use Rattle.std.specs.Int.{to_be_bytes, w64};
 ghost use Rattle.pod_io.specs.Counts.{Counts};
 ghost use Rattle.pod_io.specs.Told.{IfTold};
-ghost use Rattle.journal_log.specs.Reading.{Quiet, IsShown, Keeps};
+ghost use Rattle.journal_log.specs.Reading.{OnlyReads, WindowShows, ReadKeeps};
 ghost use Rattle.journal_log.specs.Scanning.{IsByteAt, IsStart, StartFits, IsSeen, FrameFits};
 ghost use Rattle.journal_log.specs.Causes.{IsOfReading};
 
@@ -38,9 +38,9 @@ pub enum Start {
 // The byte at this offset.
 fn byte_at<D: Disk>(window: &mut Window, disk: &mut D, at: u64) -> Result<u8, Failed>
     requires within { at < window.old.size }
-    requires shown { IfTold (D.content disk.old) (IsShown window.old) }
-    ensures quiet { Quiet D.image D.moment D.left_since disk.old disk.new }
-    ensures kept { OnOk result (Keeps (D.content disk.old) (D.content disk.new) window.old window.new) }
+    requires shown { IfTold (D.content disk.old) (WindowShows window.old) }
+    ensures only_reads { OnlyReads D.image D.moment D.left_since disk.old disk.new }
+    ensures kept { OnOk result (ReadKeeps (D.content disk.old) (D.content disk.new) window.old window.new) }
     ensures byte { IfOk result (λ byte. IfTold (D.content disk.old) (λ b. IsByteAt at b byte)) }
     ensures faults { Counts result (D.faults disk.old) (D.faults disk.new) }
 {
@@ -52,9 +52,9 @@ fn byte_at<D: Disk>(window: &mut Window, disk: &mut D, at: u64) -> Result<u8, Fa
 // The number that the eight bytes from this offset on spell.
 fn number_at<D: Disk>(window: &mut Window, disk: &mut D, at: u64) -> Result<u64, Failed>
     requires within { at + 8 ≤ window.old.size }
-    requires shown { IfTold (D.content disk.old) (IsShown window.old) }
-    ensures quiet { Quiet D.image D.moment D.left_since disk.old disk.new }
-    ensures kept { OnOk result (Keeps (D.content disk.old) (D.content disk.new) window.old window.new) }
+    requires shown { IfTold (D.content disk.old) (WindowShows window.old) }
+    ensures only_reads { OnlyReads D.image D.moment D.left_since disk.old disk.new }
+    ensures kept { OnOk result (ReadKeeps (D.content disk.old) (D.content disk.new) window.old window.new) }
     ensures small { IfOk result (λ n. n < 2 ^ 64) }
     ensures number { IfOk result (λ n. IfTold (D.content disk.old) (λ b. to_be_bytes w64 n ≡ take 8 (drop at b))) }
     ensures faults { Counts result (D.faults disk.old) (D.faults disk.new) }
@@ -68,9 +68,9 @@ fn number_at<D: Disk>(window: &mut Window, disk: &mut D, at: u64) -> Result<u64,
 fn start_at<D: Disk>(window: &mut Window, disk: &mut D, at: u64) -> Result<Start, Failed>
     requires within { at ≤ window.old.size }
     requires small { window.old.size < 2 ^ 63 }
-    requires shown { IfTold (D.content disk.old) (IsShown window.old) }
-    ensures quiet { Quiet D.image D.moment D.left_since disk.old disk.new }
-    ensures kept { OnOk result (Keeps (D.content disk.old) (D.content disk.new) window.old window.new) }
+    requires shown { IfTold (D.content disk.old) (WindowShows window.old) }
+    ensures only_reads { OnlyReads D.image D.moment D.left_since disk.old disk.new }
+    ensures kept { OnOk result (ReadKeeps (D.content disk.old) (D.content disk.new) window.old window.new) }
     ensures is { IfOk result (λ start. IfTold (D.content disk.old) (λ b. IsStart start (drop at b))) }
     ensures fits { IfOk result (StartFits at window.old.size) }
     ensures faults { Counts result (D.faults disk.old) (D.faults disk.new) }
@@ -101,9 +101,9 @@ fn body_at<D: Disk>(
     len: u64,
 ) -> Result<Bytes, OpenFault>
     requires within { at + len ≤ window.old.size }
-    requires shown { IfTold (D.content disk.old) (IsShown window.old) }
-    ensures quiet { Quiet D.image D.moment D.left_since disk.old disk.new }
-    ensures kept { OnOk result (Keeps (D.content disk.old) (D.content disk.new) window.old window.new) }
+    requires shown { IfTold (D.content disk.old) (WindowShows window.old) }
+    ensures only_reads { OnlyReads D.image D.moment D.left_since disk.old disk.new }
+    ensures kept { OnOk result (ReadKeeps (D.content disk.old) (D.content disk.new) window.old window.new) }
     ensures len { IfOk result (λ body. length body ≡ len) }
     ensures body { IfOk result (λ body. IfTold (D.content disk.old) (λ b. body ≡ take len (drop at b))) }
     ensures no_fewer { D.faults disk.old ≤ D.faults disk.new }
@@ -126,10 +126,10 @@ fn record_at<D: Disk>(
     requires is_open { gate ≢ 0 }
     requires within { at + len + 10 ≤ window.old.size }
     requires small { window.old.size < 2 ^ 63 }
-    requires shown { IfTold (D.content disk.old) (IsShown window.old) }
+    requires shown { IfTold (D.content disk.old) (WindowShows window.old) }
     requires start { IfTold (D.content disk.old) (λ b. drop at b ≡ gate ∷ (to_be_bytes w64 len ++ drop 9 (drop at b))) }
-    ensures quiet { Quiet D.image D.moment D.left_since disk.old disk.new }
-    ensures kept { OnOk result (Keeps (D.content disk.old) (D.content disk.new) window.old window.new) }
+    ensures only_reads { OnlyReads D.image D.moment D.left_since disk.old disk.new }
+    ensures kept { OnOk result (ReadKeeps (D.content disk.old) (D.content disk.new) window.old window.new) }
     ensures is { IfOk result (λ frame. IfTold (D.content disk.old) (λ b. IsSeen frame (drop at b))) }
     ensures fits { IfOk result (FrameFits at window.old.size) }
     ensures no_fewer { D.faults disk.old ≤ D.faults disk.new }
@@ -155,9 +155,9 @@ pub fn frame_at<D: Disk>(
 ) -> Result<Frame, OpenFault>
     requires within { at ≤ window.old.size }
     requires small { window.old.size < 2 ^ 63 }
-    requires shown { IfTold (D.content disk.old) (IsShown window.old) }
-    ensures quiet { Quiet D.image D.moment D.left_since disk.old disk.new }
-    ensures kept { OnOk result (Keeps (D.content disk.old) (D.content disk.new) window.old window.new) }
+    requires shown { IfTold (D.content disk.old) (WindowShows window.old) }
+    ensures only_reads { OnlyReads D.image D.moment D.left_since disk.old disk.new }
+    ensures kept { OnOk result (ReadKeeps (D.content disk.old) (D.content disk.new) window.old window.new) }
     ensures is { IfOk result (λ frame. IfTold (D.content disk.old) (λ b. IsSeen frame (drop at b))) }
     ensures fits { IfOk result (FrameFits at window.old.size) }
     ensures no_fewer { D.faults disk.old ≤ D.faults disk.new }

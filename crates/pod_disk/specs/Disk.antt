@@ -14,20 +14,22 @@ pub record Torn (at count : ℕ) (old new : List ℕ) : Type 0 where
   pub no_shorter : length old ≤ length new
   pub no_longer : length new ≤ max (length old) (at + count)
 
--- a cut to that length which a crash may undo: a front of the file, of some length between
-pub record Cut (len : ℕ) (old new : List ℕ) : Type 0 where
+-- A cut to that length which a crash may undo in part: some length between the two, and the same bytes
+-- below both. Past the lesser of them any bytes may stand.
+pub record TornCut (len : ℕ) (old new : List ℕ) : Type 0 where
   pub no_shorter : min len (length old) ≤ length new
-  pub front : take (length new) old ≡ new
+  pub no_longer : length new ≤ max len (length old)
+  pub below : take (min len (length old)) new ≡ take len old
 
 -- a call that changes nothing
-abbrev pub Same : List ℕ → List ℕ → Type 0
-Same old new = old ≡ new
+abbrev pub Unchanged : List ℕ → List ℕ → Type 0
+Unchanged old new = old ≡ new
 
 -- each of these images has P
-abbrev pub Each : (List ℕ → Type 0) → (List ℕ → Type 0) → Type 0
-Each images P = (c : List ℕ) → images c → P c
+abbrev pub EachImage : (List ℕ → Type 0) → (List ℕ → Type 0) → Type 0
+EachImage images P = (c : List ℕ) → images c → P c
 
--- One call. Each image after it is one from before it after this step. A crash since an earlier moment may
+-- One call. EachImage image after it is one from before it after this step. A crash since an earlier moment may
 -- have left what it might have left before, or one of the images now, and nothing else.
 pub record Passes {D : Type 0} (image : D → List ℕ → Type 0) (moment : D → ℕ) (left_since : D → ℕ → List ℕ → Type 0) (Step : List ℕ → List ℕ → Type 0) (old new : D) : Type 0 where
   pub images : (c : List ℕ) → image new c → (d : List ℕ) × image old d × Step d c

@@ -12,7 +12,7 @@ pub enum Call {
 
 /// A call that a disk in memory has noted, and whether it succeeded.
 #[derive(Debug, Drop)]
-pub struct Noted {
+pub struct NotedCall {
     pub call: Call,
     pub done: bool,
 }

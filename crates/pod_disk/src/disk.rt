@@ -2,7 +2,7 @@ ghost use Rattle.std.specs.Prelude.{◌≡◌, ◌+◌, ◌<◌, ◌≤◌, ◌^
 ghost use Rattle.std.specs.Option.{option_map};
 ghost use Rattle.pod_io.specs.Counts.{Counts};
 ghost use Rattle.pod_io.specs.Told.{IfTold};
-ghost use Rattle.pod_disk.specs.Disk.{overwritten, Torn, Cut, Same, Passes};
+ghost use Rattle.pod_disk.specs.Disk.{overwritten, Torn, TornCut, Unchanged, Passes};
 
 use pod_io::Failed;
 
@@ -43,7 +43,7 @@ pub trait Disk: Drop {
         ensures below { IfOk result (λ n. n < 2 ^ 63) }
         ensures content { OnOk result (content self.new ≡ content self.old) }
         ensures told { is_some (content self.new) ≡ is_some (content self.old) }
-        ensures passes { Passes image moment left_since Same self.old self.new }
+        ensures passes { Passes image moment left_since Unchanged self.old self.new }
         ensures faults { Counts result (faults self.old) (faults self.new) };
 
     /// Reads as many bytes as `into` has from the offset `at` on. They lie within the length.
@@ -52,7 +52,7 @@ pub trait Disk: Drop {
         ensures bytes { OnOk result (IfTold (content self.old) (λ b. into.new ≡ take (length into.old) (drop at b))) }
         ensures content { OnOk result (content self.new ≡ content self.old) }
         ensures told { is_some (content self.new) ≡ is_some (content self.old) }
-        ensures passes { Passes image moment left_since Same self.old self.new }
+        ensures passes { Passes image moment left_since Unchanged self.old self.new }
         ensures faults { Counts result (faults self.old) (faults self.new) };
 
     /// Writes the bytes over those from the offset `at` on, which is no greater than the length. A write that
@@ -72,7 +72,7 @@ pub trait Disk: Drop {
         requires { IfTold (content self.old) (λ b. len ≤ length b) }
         ensures content { OnOk result (content self.new ≡ option_map (take len) (content self.old)) }
         ensures told { is_some (content self.new) ≡ is_some (content self.old) }
-        ensures passes { Passes image moment left_since (Cut len) self.old self.new }
+        ensures passes { Passes image moment left_since (TornCut len) self.old self.new }
         ensures faults { Counts result (faults self.old) (faults self.new) };
 
     /// Waits until all is on the disk: from then on a crash leaves what reads give. Where it fails, reads may
@@ -81,6 +81,6 @@ pub trait Disk: Drop {
         ensures durable { OnOk result ((c : List ℕ) → image self.new c → content self.new ≡ Some c) }
         ensures content { OnOk result (content self.new ≡ content self.old) }
         ensures told { is_some (content self.new) ≡ is_some (content self.old) }
-        ensures passes { Passes image moment left_since Same self.old self.new }
+        ensures passes { Passes image moment left_since Unchanged self.old self.new }
         ensures faults { Counts result (faults self.old) (faults self.new) };
 }

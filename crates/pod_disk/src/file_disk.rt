@@ -1,3 +1,5 @@
+//! The disk over a file of the host.
+
 ghost use Rattle.std.specs.Prelude.{◌≡◌, ◌≤◌, None};
 ghost use Rattle.pod_io.specs.Counts.{Rose};
 ghost use Rattle.pod_disk.specs.Laws.{none_told};
@@ -6,18 +8,20 @@ use crate::disk::Disk;
 use crate::lazy_file::LazyFile;
 use pod_base::Text;
 use pod_io::Failed;
-use std::fs::Files;
+use std::fs::{File, Files};
 use std::marker::Model;
 
-/// A disk over a file of the host. It tells nothing of what it holds, and counts its errors. It is opened at
-/// its first use, and a missing file is made: it is an empty disk. Contracts see its count of errors.
+/// A disk over a file of the host. It tells contracts nothing of what it holds; they see its count of errors.
+///
+/// The file is opened at the first use and locked until the disk is dropped, so that another disk over the same file
+/// gives a counted fault at each call. A missing file is an empty disk; it is made, for its owner alone, by the first write.
 #[derive(Drop)]
-pub struct FileDisk<R: Files + Drop> {
+pub struct FileDisk<R: Files<File = File> + Drop> {
     file: LazyFile<R>,
     faults: u64,
 }
 
-impl<R: Files + Drop> Model for FileDisk<R> {
+impl<R: Files<File = File> + Drop> Model for FileDisk<R> {
     ghost use Rattle.std.specs.Prelude.{ℕ};
 
     ghost Value = { ℕ };
@@ -27,7 +31,7 @@ impl<R: Files + Drop> Model for FileDisk<R> {
 
 const END: u64 = 1 << 63;
 
-impl<R: Files + Drop> FileDisk<R> {
+impl<R: Files<File = File> + Drop> FileDisk<R> {
     /// The disk in the file of that path.
     pub fn new(host: R, path: Text) -> FileDisk<R>
         ensures { result ≡ 0 }
@@ -55,7 +59,7 @@ impl<R: Files + Drop> FileDisk<R> {
     }
 }
 
-impl<R: Files + Drop> Disk for FileDisk<R> {
+impl<R: Files<File = File> + Drop> Disk for FileDisk<R> {
     ghost content = { λ _. None };
 
     ghost image = { λ _ _. ⊥ };

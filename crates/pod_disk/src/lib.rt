@@ -13,7 +13,7 @@ mod mem_disk;
 mod place;
 mod write;
 
-pub use call::{Call, Noted};
+pub use call::{Call, NotedCall};
 pub use crash::Tear;
 pub use disk::Disk;
 pub use file_disk::FileDisk;
