@@ -1,12 +1,14 @@
+-- kept for the crates above: laws of bodies, and prefixes of one text
+pub mod LawLemmas
+pub mod Prefixes
+-- internal
 pub mod ByteSteps
 pub mod ChunkSteps
 pub mod Feeding
-pub mod Fronts
-pub mod LawLemmas
 pub mod LineFacts
 pub mod LineLimits
 pub mod LineSteps
 pub mod RunSteps
-pub mod Standing
+pub mod Representation
 pub mod TrailerSteps
 pub mod Uniqueness
