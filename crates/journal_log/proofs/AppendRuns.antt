@@ -7,7 +7,7 @@ use Rattle.journal_log.specs.Gates.{IsClosed, IsOpening}
 use Rattle.journal_log.specs.Writes.{IsTornFrom}
 use Rattle.journal_log.specs.Images.{IsEither}
 use Rattle.journal_log.specs.JournalState.{JournalState}
-use Rattle.journal_log.specs.CleanJournal.{IsShort, IsJournalPrefix, IsClean, IsInDoubt, IsCleanOrInDoubt}
+use Rattle.journal_log.specs.CleanJournal.{IsShort, IsJournalPrefix, IsClean, IsInDoubt}
 use Rattle.journal_log.proofs.GateWrites.{closed_behind, torn_opening}
 use Rattle.journal_log.proofs.WriteRuns.{torn_run}
 use Rattle.journal_log.proofs.Records.{stands_closed, stands_opening}
@@ -46,14 +46,3 @@ module _ {D : Type 0} (moment : D → ℕ) (image : D → List ℕ → Type 0) (
   pub gate_run : (old new : D) → IsShort body → LeavesOnly moment left_since old new (IsOpening prefix (framed_of body)) → LeavesOnly moment left_since old new (IsEither journal.format journal.epoch bodies body)
   gate_run old new short run =
       weaker image moment left_since old new (IsOpening prefix (framed_of body)) _ (λ c opening. stands_opening journal bodies prefix is body c short opening) run
-
-pub true_is_false : true ≡ false → ⊥
-true_is_false is = cc
-
--- where the flag says so, the gate is in doubt
-pub in_doubt : (images : List ℕ → Type 0) (journal : JournalState) (bodies : List (List ℕ)) (body : List ℕ) → journal.doubt ≡ true → IsCleanOrInDoubt images journal bodies body → IsInDoubt images journal bodies body
-in_doubt images journal bodies body is either = ⊎_elim (λ clean. absurd (true_is_false (sym is ∙ clean.certain))) (λ doubts. doubts) either
-
--- and where it doesn't, the journal is at rest
-pub not_in_doubt : (images : List ℕ → Type 0) (journal : JournalState) (bodies : List (List ℕ)) (body : List ℕ) → journal.doubt ≡ false → IsCleanOrInDoubt images journal bodies body → IsClean images journal bodies
-not_in_doubt images journal bodies body is either = ⊎_elim (λ clean. clean) (λ doubts. absurd (true_is_false (sym doubts.doubtful ∙ is))) either

@@ -4,7 +4,7 @@ use Rattle.std.proofs.lemmas.List.{drop_at, take_all}
 use Rattle.std.proofs.lemmas.Bool.{cases_lt}
 use Rattle.pod_disk.specs.Disk.{Torn, overwritten}
 use Rattle.journal_log.specs.Gates.{IsFirstGateClosed, IsClosed, IsGated, IsOpening}
-use Rattle.pod_disk.proofs.Torn.{torn_before, torn_inside, overwritten_at}
+use Rattle.pod_disk.proofs.TornWrites.{torn_before, torn_inside, overwritten_at}
 
 length-gate : (prefix : List ℕ) → length (prefix ++ 0 ∷ []) ≡ length prefix + 1
 length-gate prefix = length-append prefix (0 ∷ [])

@@ -4,7 +4,7 @@ use Rattle.std.proofs.lemmas.List.{take_at, drop_at, drop_more, drop-drop, appen
 use Rattle.pod_io.specs.Told.{IfTold}
 use Rattle.pod_disk.specs.Disk.{EachImage, Torn, LeavesOnly, overwritten}
 use Rattle.pod_disk.proofs.Moments.{both, weaker, joined, holds_now}
-use Rattle.pod_disk.proofs.Torn.{torn_inside}
+use Rattle.pod_disk.proofs.TornWrites.{torn_inside}
 use Rattle.journal_log.specs.Frames.{framed_of}
 use Rattle.journal_log.specs.Heads.{head_of, IsKnown}
 use Rattle.journal_log.specs.Gates.{IsFirstGateClosed, IsGated}

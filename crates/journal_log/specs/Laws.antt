@@ -18,7 +18,8 @@ DamagedOnce = (at at_2 : ℕ) (image : List ℕ) → IsDamaged at image → IsDa
 
 -- and one that stands for records isn't damaged
 abbrev pub StandsOrDamaged : Type 0
-StandsOrDamaged = (format epoch at : ℕ) (bodies : List (List ℕ)) (image : List ℕ) → Stands format epoch bodies image → IsDamaged at image → ⊥
+StandsOrDamaged = (format epoch at : ℕ) (bodies : List (List ℕ)) (image : List ℕ)
+    → Stands format epoch bodies image → IsDamaged at image → ⊥
 
 -- an image has one class at most
 abbrev pub OneClass : Type 0
@@ -28,8 +29,9 @@ OneClass = (a b : DiskClass) (image : List ℕ) → HasClass a image → HasClas
 abbrev pub HasSomeClass : Type 0
 HasSomeClass = (image : List ℕ) → (class : DiskClass) × HasClass class image
 
--- A new head and the new record after any first gate: the disk is closed, or open with that epoch, and stands for that record
--- alone.
+-- A new head and the new record after any first gate: the disk is closed, or open with that epoch,
+-- and stands for that record alone.
 abbrev pub NewIsClosedOrOpen : Type 0
-NewIsClosedOrOpen = (epoch : ℕ) (body image : List ℕ) → epoch ≤ 2 ^ 63 → length body < 2 ^ 64 → IsNew epoch body image
+NewIsClosedOrOpen = (epoch : ℕ) (body image : List ℕ) → epoch ≤ 2 ^ 63 → length body < 2 ^ 64
+    → IsNew epoch body image
     → HasClass Closed image ⊎ (HasClass (Open epoch) image × Stands 2 epoch (body ∷ []) image)

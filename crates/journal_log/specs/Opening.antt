@@ -5,8 +5,9 @@ use Rattle.journal_log.specs.Heads.{head_of}
 use Rattle.journal_log.specs.Gates.{IsGated}
 use Rattle.journal_log.specs.Images.{Stands, IsEither}
 
--- One of these crash images stands for some records and one more, whose gate is torn: neither 0 nor 1. This image stands for
--- the same, with that record or without: the torn gate is being written. No other gate is.
+-- One of these crash images stands for some records and one more, whose gate is torn: neither 0 nor
+-- 1. This image stands for the same, with that record or without: the torn gate is being written.
+-- No other gate is.
 pub record IsNormalizing (images : List ℕ → Type 0) (image : List ℕ) : Type 0 where
   pub from : List ℕ
   pub was : images from

@@ -4,9 +4,10 @@ use Rattle.pod_io.specs.Told.{IfTold}
 use Rattle.pod_disk.specs.Disk.{EachImage}
 use Rattle.journal_log.specs.declared.window.Window.{Window}
 
--- A run of calls that change nothing: what a crash may leave afterwards, and might have left at a moment inside, it might
--- have left before.
-pub record OnlyReads {D : Type 0} (image : D → List ℕ → Type 0) (moment : D → ℕ) (left_since : D → ℕ → List ℕ → Type 0) (old new : D) : Type 0 where
+-- A run of calls that change nothing: what a crash may leave afterwards, and might have left at a
+-- moment inside, it might have left before.
+pub record OnlyReads {D : Type 0} (image : D → List ℕ → Type 0) (moment : D → ℕ) (left_since : D → ℕ
+    → List ℕ → Type 0) (old new : D) : Type 0 where
   pub images : EachImage (image new) (image old)
   pub later : moment old ≤ moment new
   pub nothing_else : (t : ℕ) (c : List ℕ) → t ≤ moment old → left_since new t c → left_since old t c

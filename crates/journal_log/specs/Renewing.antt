@@ -14,15 +14,18 @@ pub record IsGateChanged (from image : List ℕ) : Type 0 where
   pub was : from ≡ head ++ (before ∷ rest)
   pub is : image ≡ head ++ (after ∷ rest)
 
--- one of these crash images whose first gate isn't 0, with any byte there: that gate is being closed
+-- one of these crash images whose first gate isn't 0, with any byte there: that gate is being
+-- closed
 abbrev pub IsClosing : (List ℕ → Type 0) → List ℕ → Type 0
-IsClosing images image = (from : List ℕ) × images from × (IsFirstGateClosed from → ⊥) × IsGateChanged from image
+IsClosing images image = (from : List ℕ) × images from × (IsFirstGateClosed from → ⊥)
+    × IsGateChanged from image
 
--- before the first gate is opened: one of these images, or one whose first gate is being closed, or one whose first gate is 0
+-- before the first gate is opened: one of these images, or one whose first gate is being closed, or
+-- one whose first gate is 0
 abbrev pub IsBeforeOpening : (List ℕ → Type 0) → List ℕ → Type 0
 IsBeforeOpening images image = images image ⊎ (IsClosing images image ⊎ IsFirstGateClosed image)
 
--- the new head, any first gate, and behind it the new record with a closed gate
+-- the new head, any first gate, and after it the new record with a closed gate
 abbrev pub IsNew : ℕ → List ℕ → List ℕ → Type 0
 IsNew epoch body image = IsOpening (head_of 2 epoch) (framed_of body) image
 

@@ -19,7 +19,8 @@ impl Window {
     /// An empty window on a disk of this length.
     pub fn new(alloc: Global, size: u64) -> Mem<Window>
         ensures size { IfOk result (λ window. window.size ≡ size) }
-        ensures shown { IfOk result (λ window. (disk : List ℕ) → length disk ≡ size → WindowShows window disk) }
+        ensures shown { IfOk result (λ window. (disk : List ℕ) → length disk ≡ size
+            → WindowShows window disk) }
     {
         let buffer = vec![in alloc; 0u8; WINDOW]?;
         Ok(Window {
@@ -35,7 +36,8 @@ impl Window {
         requires within { at ≤ self.old.size }
         requires size { IfTold (D.content disk.old) (λ b. length b ≡ self.old.size) }
         ensures only_reads { OnlyReads D.image D.moment D.left_since disk.old disk.new }
-        ensures kept { OnOk result (ReadKeeps (D.content disk.old) (D.content disk.new) self.old self.new) }
+        ensures kept { OnOk result
+            (ReadKeeps (D.content disk.old) (D.content disk.new) self.old self.new) }
         ensures at { OnOk result (self.new.at ≡ at) }
         ensures filled { OnOk result (self.new.filled ≡ min (self.old.size - at) 65536) }
         ensures faults { Counts result (D.faults disk.old) (D.faults disk.new) }
@@ -54,7 +56,8 @@ impl Window {
         requires within { at + len ≤ self.old.size }
         requires shown { IfTold (D.content disk.old) (WindowShows self.old) }
         ensures only_reads { OnlyReads D.image D.moment D.left_since disk.old disk.new }
-        ensures kept { OnOk result (ReadKeeps (D.content disk.old) (D.content disk.new) self.old self.new) }
+        ensures kept { OnOk result
+            (ReadKeeps (D.content disk.old) (D.content disk.new) self.old self.new) }
         ensures from { OnOk result (self.new.at ≤ at) }
         ensures to { OnOk result (at + len ≤ self.new.at + self.new.filled) }
         ensures faults { Counts result (D.faults disk.old) (D.faults disk.new) }
@@ -69,7 +72,8 @@ impl Window {
     fn give(&self, at: u64, into: &mut [u8])
         requires from { self.now.at ≤ at }
         requires to { at + length into.old ≤ self.now.at + self.now.filled }
-        ensures { (disk : List ℕ) → WindowShows self.now disk → into.new ≡ take (length into.old) (drop at disk) }
+        ensures { (disk : List ℕ) → WindowShows self.now disk
+            → into.new ≡ take (length into.old) (drop at disk) }
     {
         let start = (at - self.at) as usize;
         into.copy_from_slice(&self.buffer[start..start + into.len()]);
@@ -80,8 +84,10 @@ impl Window {
         requires within { at + length into.old ≤ self.old.size }
         requires shown { IfTold (D.content disk.old) (WindowShows self.old) }
         ensures only_reads { OnlyReads D.image D.moment D.left_since disk.old disk.new }
-        ensures kept { OnOk result (ReadKeeps (D.content disk.old) (D.content disk.new) self.old self.new) }
-        ensures bytes { OnOk result (IfTold (D.content disk.old) (λ b. into.new ≡ take (length into.old) (drop at b))) }
+        ensures kept { OnOk result
+            (ReadKeeps (D.content disk.old) (D.content disk.new) self.old self.new) }
+        ensures bytes { OnOk result
+            (IfTold (D.content disk.old) (λ b. into.new ≡ take (length into.old) (drop at b))) }
         ensures faults { Counts result (D.faults disk.old) (D.faults disk.new) }
     {
         if into.len() > WINDOW {
@@ -99,7 +105,8 @@ fn read_prefix<D: Disk>(disk: &mut D, at: u64, buffer: &mut [u8], len: usize) ->
     requires within { IfTold (D.content disk.old) (λ b. at + len ≤ length b) }
     ensures only_reads { OnlyReads D.image D.moment D.left_since disk.old disk.new }
     ensures content { OnOk result (D.content disk.new ≡ D.content disk.old) }
-    ensures bytes { OnOk result (IfTold (D.content disk.old) (λ b. take len buffer.new ≡ take len (drop at b))) }
+    ensures bytes { OnOk result
+        (IfTold (D.content disk.old) (λ b. take len buffer.new ≡ take len (drop at b))) }
     ensures faults { Counts result (D.faults disk.old) (D.faults disk.new) }
 {
     disk.read(at, &mut buffer[..len])

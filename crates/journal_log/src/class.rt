@@ -35,11 +35,13 @@ pub enum DiskClass {
 }
 
 impl Journal {
-    /// Waits until all is on the disk, measures it, and classifies it by its head and its first gate. It changes nothing.
+    /// Waits until all is on the disk, measures it, and classifies it by its head and its first
+    /// gate. It changes nothing.
     pub fn classify<D: Disk>(disk: &mut D) -> Result<DiskClass, DiskFault>
         ensures moments { LeavesOnly D.moment D.left_since disk.old disk.new (D.image disk.old) }
         ensures images { EachImage (D.image disk.new) (D.image disk.old) }
-        ensures durable { OnOk result (EachImage (D.image disk.new) (λ c. D.content disk.new ≡ Some c)) }
+        ensures durable { OnOk result
+            (EachImage (D.image disk.new) (λ c. D.content disk.new ≡ Some c)) }
         ensures content { OnOk result (D.content disk.new ≡ D.content disk.old) }
         ensures class { IfOk result (λ class. IfTold (D.content disk.old) (HasClass class)) }
         ensures each { IfOk result (λ class. EachImage (D.image disk.new) (HasClass class)) }
@@ -52,7 +54,8 @@ impl Journal {
 // The same, as calls that only read.
 fn class_at<D: Disk>(disk: &mut D) -> Result<DiskClass, Failed>
     ensures only_reads { OnlyReads D.image D.moment D.left_since disk.old disk.new }
-    ensures durable { OnOk result (EachImage (D.image disk.new) (λ c. D.content disk.new ≡ Some c)) }
+    ensures durable { OnOk result
+        (EachImage (D.image disk.new) (λ c. D.content disk.new ≡ Some c)) }
     ensures content { OnOk result (D.content disk.new ≡ D.content disk.old) }
     ensures class { IfOk result (λ class. IfTold (D.content disk.old) (HasClass class)) }
     ensures faults { Counts result (D.faults disk.old) (D.faults disk.new) }

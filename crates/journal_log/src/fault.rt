@@ -32,7 +32,8 @@ pub enum OpenFault {
     /// The disk holds nothing.
     #[error("the disk is empty")]
     Empty,
-    /// The disk has no right head, and the offset is 0, or the gate at this offset is the first whose frame isn't whole.
+    /// The disk has no right head, and the offset is 0, or the gate at this offset is the first
+    /// whose frame isn't whole.
     #[error("damaged {side} {at}")]
     Damaged { side: Side, at: u64 },
     /// A call of the disk failed.
@@ -53,7 +54,7 @@ pub enum RenewFault {
     /// The new journal isn't open.
     #[error("the disk failed before the first gate was opened")]
     Closed,
-    /// The first gate may hold any byte, and the whole record stands behind it.
+    /// The first gate may hold any byte, and the whole record is after it.
     #[error("the disk failed while the first gate was opened")]
     InDoubt,
 }

@@ -10,7 +10,8 @@ use std::marker::Model;
 /// How many bytes a framed record has beside its body: the length before it, and the gate after it.
 const FRAME_LEN: usize = 9;
 
-/// A record as it is written: its length as eight bytes, its body, and a closed gate. Contracts see its body.
+/// A record as it is written: its length as eight bytes, its body, and a closed gate. Contracts see
+/// its body.
 #[derive(Drop)]
 pub struct Framed {
     bytes: Vec<u8>,
@@ -28,7 +29,8 @@ impl Model for Framed {
 
     ghost view = { λ f. body_of f.bytes.items };
 
-    ghost invariant = { λ f. (f.bytes.items ≡ framed_of (body_of f.bytes.items)) × (length f.bytes.items < 2 ^ 63) };
+    ghost invariant = { λ f. (f.bytes.items ≡ framed_of (body_of f.bytes.items))
+        × (length f.bytes.items < 2 ^ 63) };
 }
 
 /// Frames a record with this body, which it copies.

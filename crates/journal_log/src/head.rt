@@ -17,7 +17,8 @@ pub const EPOCH_LIMIT: u64 = 1 << 63;
 impl Head {
     /// The right head that the bytes begin with.
     pub fn read(bytes: &[u8]) -> Option<Head>
-        ensures found { IfSome result (λ head. (rest : List ℕ) × (bytes.now ≡ head_of head.format head.epoch ++ rest)) }
+        ensures found { IfSome result (λ head. (rest : List ℕ)
+            × (bytes.now ≡ head_of head.format head.epoch ++ rest)) }
         ensures known { IfSome result (λ head. IsKnown head.format head.epoch) }
         ensures none { IfNone result (NoHead bytes.now) }
     {

@@ -34,7 +34,8 @@ pub fn some_class()
     ensures { HasSomeClass }
 {}
 
-/// A new head and the new record after any first gate: the disk is closed, or open with that epoch and that record alone.
+/// A new head and the new record after any first gate: the disk is closed, or open with that epoch
+/// and that record alone.
 pub fn new_is_closed_or_open()
     ensures { NewIsClosedOrOpen }
 {}
@@ -46,9 +47,11 @@ impl Journal {
             → EachImage (D.image _disk.now) (Stands self.now.format self.now.epoch bodies) }
     {}
 
-    /// Every crash image of an in-doubt journal's disk stands for its records, with the one in doubt or without.
+    /// Every crash image of an in-doubt journal's disk stands for its records, with the one in
+    /// doubt or without.
     pub fn in_doubt_stands<D: Disk>(&self, _disk: &D)
-        ensures { (bodies : List (List ℕ)) (body : List ℕ) → IsInDoubt (D.image _disk.now) self.now bodies body
+        ensures { (bodies : List (List ℕ)) (body : List ℕ)
+            → IsInDoubt (D.image _disk.now) self.now bodies body
             → EachImage (D.image _disk.now) (IsEither self.now.format self.now.epoch bodies body) }
     {}
 }

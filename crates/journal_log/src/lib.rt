@@ -1,7 +1,9 @@
-//! A journal on one disk: records behind gates. What the records hold is judged above; here they are bytes.
+//! A journal on one disk: records after gates. What the records hold is judged above; here they are
+//! bytes.
 //!
-//! A crash at any moment leaves a disk that stands for the records from before a call, or for those with the one that
-//! the call adds. Contracts say so of every image of the disk, at each moment inside each call.
+//! A crash at any moment leaves a disk that stands for the records from before a call, or for those
+//! with the one that the call adds. Contracts say so of every image of the disk, at each moment
+//! inside each call.
 #![tactic(auto)]
 
 mod buffered;

@@ -38,13 +38,14 @@ pub enum FirstGate {
 }
 
 impl Journal {
-    /// Begins a journal of format 2 on an empty disk, with this epoch, which is at most 2^63, and this first record: head
-    /// and an open gate in one write, the record with its gate in the next, and a sync. A crash inside this call may
-    /// leave anything.
+    /// Begins a journal of format 2 on an empty disk, with this epoch, which is at most 2^63, and
+    /// this first record: head and an open gate in one write, the record with its gate in the next,
+    /// and a sync. A crash inside this call may leave anything.
     pub fn init<D: Disk>(disk: &mut D, epoch: u64, first: &Framed) -> Result<Journal, DiskFault>
         requires empty { IfTold (D.content disk.old) (λ b. b ≡ []) }
         requires most { epoch ≤ 2 ^ 63 }
-        ensures clean { IfOk result (λ journal. IsClean (D.image disk.new) journal (first.now ∷ [])) }
+        ensures clean { IfOk result
+            (λ journal. IsClean (D.image disk.new) journal (first.now ∷ [])) }
         ensures format { IfOk result (λ journal. journal.format ≡ 2) }
         ensures epoch { IfOk result (λ journal. journal.epoch ≡ epoch) }
         ensures faults { Counts result (D.faults disk.old) (D.faults disk.new) }
@@ -55,8 +56,9 @@ impl Journal {
         Ok(Journal::new_clean(Head { format: 2, epoch }, end))
     }
 
-    /// Writes a head of format 2 with this epoch, which is at most 2^63, and a closed first gate to an empty disk, and syncs.
-    /// Such a disk has no records. A crash inside this call may leave anything.
+    /// Writes a head of format 2 with this epoch, which is at most 2^63, and a closed first gate to
+    /// an empty disk, and syncs. Such a disk has no records. A crash inside this call may leave
+    /// anything.
     pub fn init_closed<D: Disk>(disk: &mut D, epoch: u64) -> Result<(), DiskFault>
         requires empty { IfTold (D.content disk.old) (λ b. b ≡ []) }
         requires most { epoch ≤ 2 ^ 63 }
@@ -67,30 +69,39 @@ impl Journal {
         Ok(())
     }
 
-    /// Begins a journal of format 2 on a disk that may have been used, with this epoch, which is at most 2^63, and this first
-    /// record. In four parts: a sync; where the first gate reads other than 0, a 0 there and a sync; the head and, in a second
-    /// write, the record, and a sync; a 1 at the first gate, and a sync.
+    /// Begins a journal of format 2 on a disk that may have been used, with this epoch, which is at
+    /// most 2^63, and this first record. In four parts: a sync; where the first gate reads other
+    /// than 0, a 0 there and a sync; the head and, in a second write, the record, and a sync; a 1
+    /// at the first gate, and a sync.
     ///
-    /// On a disk of at least 17 bytes each crash image at each moment is one from before, or one whose first gate is being
-    /// closed, or has a first gate 0, or is the new journal with any first gate; the last only once the last part has begun.
-    /// On a shorter disk head and closed gate go out in one write and the record in the next, before one sync; there a crash
-    /// before the last part may leave any bytes in these ranges.
+    /// On a disk of at least 17 bytes each crash image at each moment is one from before, or one
+    /// whose first gate is being closed, or has a first gate 0, or is the new journal with any
+    /// first gate; the last only once the last part has begun. On a shorter disk head and closed
+    /// gate go out in one write and the record in the next, before one sync; there a crash before
+    /// the last part may leave any bytes in these ranges.
     ///
-    /// `Closed` comes where the disk failed before the last part: on a disk of at least 17 bytes the new journal is then in
-    /// no crash image, and on a shorter one nothing is known of the bytes that were to be written. `InDoubt` comes where
-    /// the write or the sync of that 1 failed: the first gate may then hold any byte, and [`shut`](Journal::shut) closes it.
+    /// `Closed` comes where the disk failed before the last part: on a disk of at least 17 bytes
+    /// the new journal is then in no crash image, and on a shorter one nothing is known of the
+    /// bytes that were to be written. `InDoubt` comes where the write or the sync of that 1 failed:
+    /// the first gate may then hold any byte, and [`shut`](Journal::shut) closes it.
     pub fn renew<D: Disk>(disk: &mut D, epoch: u64, first: &Framed) -> Result<Journal, RenewFault>
         requires { epoch ≤ 2 ^ 63 }
         ensures moments { IfTold (D.content disk.old) (λ b. 17 ≤ length b)
-            → LeavesOnly D.moment D.left_since disk.old disk.new (IsWhileRenewed (D.image disk.old) epoch first.now) }
+            → LeavesOnly D.moment D.left_since disk.old disk.new
+                (IsWhileRenewed (D.image disk.old) epoch first.now) }
         ensures short { IfTold (D.content disk.old) (λ b. length b < 17
-            → LeavesOnly D.moment D.left_since disk.old disk.new (IsTornFrom (D.image disk.old) 0 (17 + length (framed_of first.now)))) }
-        ensures clean { IfOk result (λ journal. IsClean (D.image disk.new) journal (first.now ∷ [])) }
+            → LeavesOnly D.moment D.left_since disk.old disk.new
+                (IsTornFrom (D.image disk.old) 0 (17 + length (framed_of first.now)))) }
+        ensures clean { IfOk result
+            (λ journal. IsClean (D.image disk.new) journal (first.now ∷ [])) }
         ensures format { IfOk result (λ journal. journal.format ≡ 2) }
         ensures epoch { IfOk result (λ journal. journal.epoch ≡ epoch) }
-        ensures closed { IsErrOf result RenewFault.Closed → IfTold (D.content disk.old) (λ b. 17 ≤ length b)
-            → LeavesOnly D.moment D.left_since disk.old disk.new (IsBeforeOpening (D.image disk.old)) }
-        ensures in_doubt { IsErrOf result RenewFault.InDoubt → EachImage (D.image disk.new) (IsNew epoch first.now) }
+        ensures closed { IsErrOf result RenewFault.Closed
+            → IfTold (D.content disk.old) (λ b. 17 ≤ length b)
+            → LeavesOnly D.moment D.left_since disk.old disk.new
+                (IsBeforeOpening (D.image disk.old)) }
+        ensures in_doubt { IsErrOf result RenewFault.InDoubt
+            → EachImage (D.image disk.new) (IsNew epoch first.now) }
         ensures faults { Counts result (D.faults disk.old) (D.faults disk.new) }
     {
         let framed = first.bytes();
@@ -106,13 +117,16 @@ impl Journal {
         }
     }
 
-    /// Closes the first gate: writes 0 there, and syncs. The disk has at least 17 bytes. At each moment every crash image of it
-    /// is one from before the call with any byte at that gate; where the gate was in doubt after
-    /// [`renew`](Journal::renew), it stays the new journal with any first gate.
+    /// Closes the first gate: writes 0 there, and syncs. The disk has at least 17 bytes. At each
+    /// moment every crash image of it is one from before the call with any byte at that gate; where
+    /// the gate was in doubt after [`renew`](Journal::renew), it stays the new journal with any
+    /// first gate.
     pub fn shut<D: Disk>(disk: &mut D) -> Result<(), DiskFault>
         requires { IfTold (D.content disk.old) (λ b. 17 ≤ length b) }
-        ensures moments { LeavesOnly D.moment D.left_since disk.old disk.new (IsTornFrom (D.image disk.old) 16 1) }
-        ensures in_doubt { (epoch : ℕ) (body : List ℕ) → EachImage (D.image disk.old) (IsNew epoch body)
+        ensures moments { LeavesOnly D.moment D.left_since disk.old disk.new
+            (IsTornFrom (D.image disk.old) 16 1) }
+        ensures in_doubt { (epoch : ℕ) (body : List ℕ)
+            → EachImage (D.image disk.old) (IsNew epoch body)
             → LeavesOnly D.moment D.left_since disk.old disk.new (IsNew epoch body) }
         ensures shut { OnOk result (EachImage (D.image disk.new) IsFirstGateClosed) }
         ensures faults { Counts result (D.faults disk.old) (D.faults disk.new) }
@@ -127,8 +141,10 @@ fn prepare<D: Disk>(disk: &mut D, epoch: u64, framed: &[u8]) -> Result<(), Faile
     ensures moments { IfTold (D.content disk.old) (λ b. 17 ≤ length b)
         → LeavesOnly D.moment D.left_since disk.old disk.new (IsBeforeOpening (D.image disk.old)) }
     ensures short { IfTold (D.content disk.old) (λ b. length b < 17
-        → LeavesOnly D.moment D.left_since disk.old disk.new (IsTornFrom (D.image disk.old) 0 (17 + length framed.now))) }
-    ensures prepared { OnOk result (EachImage (D.image disk.new) (IsGated (head_of 2 epoch) 0 framed.now)) }
+        → LeavesOnly D.moment D.left_since disk.old disk.new
+            (IsTornFrom (D.image disk.old) 0 (17 + length framed.now))) }
+    ensures prepared { OnOk result
+        (EachImage (D.image disk.new) (IsGated (head_of 2 epoch) 0 framed.now)) }
     ensures room { OnOk result (17 + length framed.now < 2 ^ 63) }
     ensures faults { Counts result (D.faults disk.old) (D.faults disk.new) }
 {
@@ -142,7 +158,8 @@ fn prepare<D: Disk>(disk: &mut D, epoch: u64, framed: &[u8]) -> Result<(), Faile
 // The first part: waits until all is on the disk, and reads the first gate.
 fn first_gate<D: Disk>(disk: &mut D) -> Result<FirstGate, Failed>
     ensures only_reads { OnlyReads D.image D.moment D.left_since disk.old disk.new }
-    ensures durable { OnOk result (EachImage (D.image disk.new) (λ c. D.content disk.new ≡ Some c)) }
+    ensures durable { OnOk result
+        (EachImage (D.image disk.new) (λ c. D.content disk.new ≡ Some c)) }
     ensures content { OnOk result (D.content disk.new ≡ D.content disk.old) }
     ensures is { IfOk result (λ gate. IfTold (D.content disk.new) (IsFirstGate gate)) }
     ensures faults { Counts result (D.faults disk.old) (D.faults disk.new) }
@@ -162,7 +179,8 @@ fn first_gate<D: Disk>(disk: &mut D) -> Result<FirstGate, Failed>
 // The second part.
 fn close<D: Disk>(disk: &mut D) -> Result<(), Failed>
     requires { IfTold (D.content disk.old) (λ b. 17 ≤ length b) }
-    ensures moments { LeavesOnly D.moment D.left_since disk.old disk.new (IsTornFrom (D.image disk.old) 16 1) }
+    ensures moments { LeavesOnly D.moment D.left_since disk.old disk.new
+        (IsTornFrom (D.image disk.old) 16 1) }
     ensures shut { OnOk result (EachImage (D.image disk.new) IsFirstGateClosed) }
     ensures faults { Counts result (D.faults disk.old) (D.faults disk.new) }
 {
@@ -172,8 +190,10 @@ fn close<D: Disk>(disk: &mut D) -> Result<(), Failed>
 // The second part, where the first gate isn't closed, and then the third.
 fn close_and_write<D: Disk>(disk: &mut D, epoch: u64, framed: &[u8]) -> Result<(), Failed>
     requires { EachImage (D.image disk.old) (IsFirstGate FirstGate.Open) }
-    ensures moments { LeavesOnly D.moment D.left_since disk.old disk.new (IsBeforeOpening (D.image disk.old)) }
-    ensures written { OnOk result (EachImage (D.image disk.new) (IsGated (head_of 2 epoch) 0 framed.now)) }
+    ensures moments { LeavesOnly D.moment D.left_since disk.old disk.new
+        (IsBeforeOpening (D.image disk.old)) }
+    ensures written { OnOk result
+        (EachImage (D.image disk.new) (IsGated (head_of 2 epoch) 0 framed.now)) }
     ensures room { OnOk result (17 + length framed.now < 2 ^ 63) }
     ensures faults { Counts result (D.faults disk.old) (D.faults disk.new) }
 {
@@ -181,12 +201,13 @@ fn close_and_write<D: Disk>(disk: &mut D, epoch: u64, framed: &[u8]) -> Result<(
     write_record(disk, epoch, framed)
 }
 
-// The third part, on a disk of at least 17 bytes whose first gate is closed: the head, the record, a sync. No write touches
-// the first gate.
+// The third part, on a disk of at least 17 bytes whose first gate is closed: the head, the record,
+// a sync. No write touches the first gate.
 fn write_record<D: Disk>(disk: &mut D, epoch: u64, framed: &[u8]) -> Result<(), Failed>
     requires { EachImage (D.image disk.old) IsFirstGateClosed }
     ensures moments { LeavesOnly D.moment D.left_since disk.old disk.new IsFirstGateClosed }
-    ensures written { OnOk result (EachImage (D.image disk.new) (IsGated (head_of 2 epoch) 0 framed.now)) }
+    ensures written { OnOk result
+        (EachImage (D.image disk.new) (IsGated (head_of 2 epoch) 0 framed.now)) }
     ensures room { OnOk result (17 + length framed.now < 2 ^ 63) }
     ensures faults { Counts result (D.faults disk.old) (D.faults disk.new) }
 {
@@ -194,10 +215,13 @@ fn write_record<D: Disk>(disk: &mut D, epoch: u64, framed: &[u8]) -> Result<(), 
     write_through(disk, FIRST_GATE + 1, framed)
 }
 
-// The third part on a shorter disk: head and first gate in one write, the record in the next, a sync.
+// The third part on a shorter disk: head and first gate in one write, the record in the next, a
+// sync.
 fn write_anew<D: Disk>(disk: &mut D, epoch: u64, gate: u8, framed: &[u8]) -> Result<(), Failed>
-    ensures torn { LeavesOnly D.moment D.left_since disk.old disk.new (IsTornFrom (D.image disk.old) 0 (17 + length framed.now)) }
-    ensures written { OnOk result (EachImage (D.image disk.new) (IsGated (head_of 2 epoch) gate framed.now)) }
+    ensures torn { LeavesOnly D.moment D.left_since disk.old disk.new
+        (IsTornFrom (D.image disk.old) 0 (17 + length framed.now)) }
+    ensures written { OnOk result
+        (EachImage (D.image disk.new) (IsGated (head_of 2 epoch) gate framed.now)) }
     ensures room { OnOk result (17 + length framed.now < 2 ^ 63) }
     ensures faults { Counts result (D.faults disk.old) (D.faults disk.new) }
 {

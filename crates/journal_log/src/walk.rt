@@ -20,7 +20,7 @@ use std::alloc::Global;
 pub struct Found {
     pub head: Head,
     pub records: List<Bytes>,
-    /// The offset of the gate behind the last record.
+    /// The offset of the gate after the last record.
     pub end: u64,
     /// The offset of the gate before the last record, where that gate is neither 0 nor 1.
     pub torn_gate: Option<u64>,
@@ -45,7 +45,7 @@ fn keep(alloc: Global, records: &mut List<Bytes>, body: Bytes) -> Result<(), Ope
     }
 }
 
-/// Reads the records behind a head.
+/// Reads the records after a head.
 pub fn read_records<D: Disk>(
     alloc: Global,
     window: &mut Window,
@@ -53,7 +53,8 @@ pub fn read_records<D: Disk>(
     head: Head,
 ) -> Result<Walk, OpenFault>
     requires known { IsKnown head.format head.epoch }
-    requires head { IfTold (D.content disk.old) (λ b. b ≡ head_of head.format head.epoch ++ drop 16 b) }
+    requires head { IfTold (D.content disk.old)
+        (λ b. b ≡ head_of head.format head.epoch ++ drop 16 b) }
     requires size { 16 ≤ window.old.size }
     requires small { window.old.size < 2 ^ 63 }
     requires shown { IfTold (D.content disk.old) (WindowShows window.old) }

@@ -1,7 +1,7 @@
 -- What a crash leaves after a run of calls on a disk in memory.
 use Rattle.std.proofs.Common.{◌≡◌, ◌&&◌, ◌+◌, ◌<◌, ℕ, Bool, true, false, List, [], ◌∷◌, ◌++◌, length, drop, get_or, refl, sym, ◌∙◌, ap, subst, rules}
 use Rattle.std.proofs.lemmas.List.{drop_more}
-use Rattle.pod_disk.specs.Record.{Step, left_by, is_sync, content_after, images_after, content_at, CrashImageAt}
+use Rattle.pod_disk.specs.NotedCalls.{Step, left_by, is_sync, content_after, images_after, content_at, CrashImageAt}
 use Rattle.pod_disk.specs.Laws.{content_is_image}
 use Rattle.pod_disk.specs.declared.call.Call.{Call}
 use Rattle.pod_disk.specs.declared.call.NotedCall.{NotedCall}

@@ -1,3 +1,5 @@
+//! The calls of a disk as they are noted.
+
 use pod_base::Bytes;
 
 /// A call of a disk.

@@ -2,7 +2,7 @@
 
 ghost use Rattle.std.specs.Prelude.{◌≡◌, ◌≤◌, ℕ, List, length, OnOk, IfOk};
 ghost use Rattle.pod_disk.specs.Disk.{Torn, TornCut};
-ghost use Rattle.pod_disk.specs.Record.{Step, synced, content_after, images_after, content_at, CrashImageAt, IsCrashImage};
+ghost use Rattle.pod_disk.specs.NotedCalls.{Step, synced, content_after, images_after, content_at, CrashImageAt, IsCrashImage};
 
 use crate::call::{Call, NotedCall};
 use crate::write::{perform, put};
@@ -12,17 +12,18 @@ use std::alloc::Global;
 /// What a crash leaves of a write or of a cut that no later sync has put on the disk.
 #[derive(Clone, Copy, Debug)]
 pub enum Tear {
-    /// Of a write its first so many bytes, and nothing of the others; of a cut, the last so many bytes cut off and
-    /// no more. With 0 nothing of the call is left, and with `usize::MAX` all.
+    /// Of a write its first so many bytes, and nothing of the others; of a cut, the last so many
+    /// bytes cut off and no more. With 0 nothing of the call is left, and with `usize::MAX` all.
     Prefix(usize),
-    /// This byte at each place of a write's range, and at each place past the length of a cut, which takes no byte
-    /// away.
+    /// This byte at each place of a write's range, and at each place past the length of a cut,
+    /// which takes no byte away.
     Filled(u8),
 }
 
 // Leaves these bytes of a write. What lies between the file's end and the write becomes 0.
 fn leave(file: &mut Vec<u8>, at: usize, bytes: &[u8]) -> Mem<()>
-    ensures { OnOk result ((count : ℕ) → length bytes.now ≤ count → Torn at count file.old.items file.new.items) }
+    ensures { OnOk result ((count : ℕ) → length bytes.now ≤ count
+        → Torn at count file.old.items file.new.items) }
 {
     if bytes.is_empty() {
         return Ok(());
@@ -108,7 +109,8 @@ fn tear_noted(
     noted: &NotedCall,
     tear: Tear,
 ) -> Mem<()>
-    ensures { OnOk result (images_after content.now (λ d. d ≡ image.old.items) noted.now image.new.items) }
+    ensures { OnOk result
+        (images_after content.now (λ d. d ≡ image.old.items) noted.now image.new.items) }
 {
     if is_synced(noted) {
         image.clear();
@@ -128,7 +130,8 @@ fn pass(
     tear: Tear,
 ) -> Mem<()>
     ensures content { OnOk result (content.new.items ≡ content_after content.old.items noted.now) }
-    ensures image { OnOk result (images_after content.old.items (λ d. d ≡ image.old.items) noted.now image.new.items) }
+    ensures image { OnOk result
+        (images_after content.old.items (λ d. d ≡ image.old.items) noted.now image.new.items) }
 {
     tear_noted(alloc, content, image, noted, tear)?;
     follow(content, noted)
@@ -163,14 +166,17 @@ fn later_tears<'a>(tears: &'a [Tear], call: &Call) -> &'a [Tear] {
     }
 }
 
-// What a crash may leave after the calls, where the disk held the content before them, all of it durable.
+// What a crash may leave after the calls, where the disk held the content before them, all of it
+// durable.
 fn left_after(
     alloc: Global,
     content: &mut Vec<u8>,
     calls: &[NotedCall],
     tears: &[Tear],
 ) -> Mem<Vec<u8>>
-    ensures { IfOk result (λ image. CrashImageAt content.old.items (λ d. d ≡ content.old.items) calls.now image.items) }
+    ensures { IfOk result
+        (λ image. CrashImageAt content.old.items
+        (λ d. d ≡ content.old.items) calls.now image.items) }
 {
     let mut image = Vec::from_slice(alloc, content)?;
     let mut tears = tears;
@@ -191,8 +197,9 @@ fn synced_calls(calls: &[NotedCall]) -> usize
     }
 }
 
-/// What a crash may leave after the calls on a disk that held these bytes at first, all of them durable. The tears are
-/// those of the writes and cuts since the last sync that succeeded; the last tear goes on, and with none all are whole.
+/// What a crash may leave after the calls on a disk that held these bytes at first, all of them
+/// durable. The tears are those of the writes and cuts since the last sync that succeeded; the last
+/// tear goes on, and with none all are whole.
 pub fn crashed(alloc: Global, first: &[u8], calls: &[NotedCall], tears: &[Tear]) -> Mem<Vec<u8>>
     ensures { IfOk result (λ image. IsCrashImage first.now calls.now image.items) }
 {

@@ -1,4 +1,5 @@
-//! A file of the host: opened at its first use, made at its first write, locked, and synced before it is read.
+//! A file of the host: opened at its first use, made at its first write, locked, and synced before
+//! it is read.
 
 use pod_base::Text;
 use std::fs::{File, Files, OpenFile, OpenOptions};
@@ -9,7 +10,8 @@ use std::os::unix::fs::{FileExt, OpenOptionsExt};
 /// The permissions of a file that is made: its owner reads and writes it.
 const MODE: u32 = 0o600;
 
-/// A file of the host, opened at its first use. A missing one is an empty file, made at the first write.
+/// A file of the host, opened at its first use. A missing one is an empty file, made at the first
+/// write.
 #[derive(Drop)]
 pub struct LazyFile<R: Files<File = File> + Drop> {
     host: R,
@@ -17,7 +19,8 @@ pub struct LazyFile<R: Files<File = File> + Drop> {
     file: Option<File>,
     // There was no file at the first use. Then one that somebody else made meanwhile is refused.
     is_missing: bool,
-    // What reads give is on the disk or on its way there: no sync has failed, and no older copies are kept.
+    // What reads give is on the disk or on its way there: no sync has failed, and no older copies
+    // are kept.
     is_settled: bool,
     // The entry of the file in its folder is on the disk.
     is_entered: bool,
@@ -52,8 +55,8 @@ fn made<R: Files<File = File>>(host: &R, path: &str) -> io::Result<File> {
     open_locked(host, path, &options)
 }
 
-/// Waits until the file is on the disk, and drops the system's copies of its pages, which a failed sync may have left
-/// other than the disk has them.
+/// Waits until the file is on the disk, and drops the system's copies of its pages, which a failed
+/// sync may have left other than the disk has them.
 fn settle(file: &File) -> io::Result<()> {
     file.sync_all()?;
     match libc::posix_fadvise(file.as_raw_fd(), 0, 0, libc::POSIX_FADV_DONTNEED) {
@@ -151,8 +154,9 @@ impl<R: Files<File = File> + Drop> LazyFile<R> {
         }
     }
 
-    /// Waits until the file's bytes and length are on the disk. The first time it waits for its entry in
-    /// the folder too, without which a new file would be lost. Where it fails, the next call settles the file first.
+    /// Waits until the file's bytes and length are on the disk. The first time it waits for its
+    /// entry in the folder too, without which a new file would be lost. Where it fails, the next
+    /// call settles the file first.
     pub fn sync(&mut self) -> io::Result<()> {
         self.prepare()?;
         if let Some(file) = &self.file {

@@ -6,20 +6,21 @@ ghost use Rattle.pod_base.specs.Counts.{CountIncreased};
 ghost use Rattle.pod_io.specs.Counts.{Counts};
 ghost use Rattle.pod_io.specs.Told.{IfTold};
 ghost use Rattle.pod_io.specs.Memory.{next_call};
+ghost use Rattle.pod_disk.specs.declared.disk.TheConstants.{LENGTH_LIMIT};
 ghost use Rattle.pod_disk.specs.Disk.{overwritten, Torn, TornCut, Unchanged, Passes};
-ghost use Rattle.pod_disk.specs.Record.{noted_as, done_by, content_of, told_content, Step, IsCrashImage, MayLeave, moment_of, LeftSince, MakesCall, LeavesContent};
+ghost use Rattle.pod_disk.specs.NotedCalls.{noted_as, done_by, content_of, told_content, Step, IsCrashImage, MayLeave, moment_of, LeftSince, MakesCall, LeavesContent};
 
 use crate::call::{Call, NotedCall};
 use crate::crash::{Tear, crashed};
-use crate::disk::Disk;
+use crate::disk::{Disk, LENGTH_LIMIT};
 use crate::write::perform;
 use pod_base::{Bytes, Mem};
 use pod_io::{Calls, Failed};
 use std::alloc::Global;
 use std::marker::Model;
 
-/// A disk in memory. It tells its content, and it notes its calls, from which its images at each moment
-/// follow.
+/// A disk in memory. It tells its content, and it notes its calls, from which its crash images at
+/// each moment follow.
 #[derive(Debug, Drop)]
 pub struct MemDisk {
     alloc: Global,
@@ -31,7 +32,7 @@ pub struct MemDisk {
 
 impl Model for MemDisk {
     ghost use Rattle.std.specs.Prelude.{◌≡◌, ◌<◌, ◌^◌, length};
-    ghost use Rattle.pod_disk.specs.Record.{DiskState, content_at};
+    ghost use Rattle.pod_disk.specs.NotedCalls.{DiskState, content_at};
 
     ghost Value = { DiskState };
 
@@ -40,11 +41,12 @@ impl Model for MemDisk {
     ghost invariant = { λ m. m.bytes.items ≡ content_at m.first.items m.noted.items };
 }
 
-// Does the call, and notes it. For want of memory nothing changes.
+// Does the call, and notes it. Out of memory, nothing changes.
 fn make(noted: &mut Vec<NotedCall>, bytes: &mut Vec<u8>, call: Call) -> Mem<()>
     ensures noted { OnOk result (noted.new.items ≡ noted.old.items ++ noted_as call true ∷ []) }
     ensures done { OnOk result (bytes.new.items ≡ done_by call bytes.old.items) }
-    ensures kept { OnErr result ((noted.new.items ≡ noted.old.items) × (bytes.new.items ≡ bytes.old.items)) }
+    ensures kept { OnErr result ((noted.new.items ≡ noted.old.items)
+        × (bytes.new.items ≡ bytes.old.items)) }
 {
     noted.reserve(1)?;
     perform(bytes, &call)?;
@@ -54,14 +56,15 @@ fn make(noted: &mut Vec<NotedCall>, bytes: &mut Vec<u8>, call: Call) -> Mem<()>
 
 // Notes a call that failed, where there is memory for that.
 fn note_failed(noted: &mut Vec<NotedCall>, call: Call)
-    ensures { (noted.new.items ≡ noted.old.items ++ noted_as call false ∷ []) ⊎ (noted.new.items ≡ noted.old.items) }
+    ensures { (noted.new.items ≡ noted.old.items ++ noted_as call false ∷ [])
+        ⊎ (noted.new.items ≡ noted.old.items) }
 {
     let _pushed = noted.push(NotedCall { call, done: false });
 }
 
 impl MemDisk {
-    /// A disk that holds these bytes, all of them durable. The calls of these numbers, from 1, fail. Another
-    /// one fails only for want of memory.
+    /// A disk that holds these bytes, all of them durable. The calls of these numbers, from 1,
+    /// fail. Another one fails only when out of memory.
     pub fn new(alloc: Global, bytes: Vec<u8>, failing: Vec<u64>) -> Mem<MemDisk>
         ensures first { IfOk result (λ disk. disk.first ≡ bytes.items) }
         ensures noted { IfOk result (λ disk. disk.noted ≡ []) }
@@ -95,12 +98,13 @@ impl MemDisk {
         self.noted.as_slice()
     }
 
-    /// A crash image: bytes that a crash after the first `count` of the noted calls may leave. The tears are those of
-    /// the writes and cuts since the last sync that succeeded, in their order, of those that failed too. The last tear
-    /// goes on; with no tears all of them are whole.
+    /// A crash image: bytes that a crash after the first `count` of the noted calls may leave. The
+    /// tears are those of the writes and cuts since the last sync that succeeded, in their order,
+    /// of those that failed too. The last tear goes on; with no tears all of them are whole.
     pub fn crash(&self, alloc: Global, count: usize, tears: &[Tear]) -> Mem<Vec<u8>>
         requires { count ≤ length self.now.noted }
-        ensures image { IfOk result (λ image. IsCrashImage self.now.first (take count self.now.noted) image.items) }
+        ensures image { IfOk result
+            (λ image. IsCrashImage self.now.first (take count self.now.noted) image.items) }
         ensures left { IfOk result (λ image. LeftSince self.now count image.items) }
     {
         crashed(alloc, &self.first, &self.noted[..count], tears)
@@ -152,8 +156,6 @@ impl MemDisk {
     }
 }
 
-const END: u64 = 1 << 63;
-
 impl Disk for MemDisk {
     ghost use Rattle.pod_disk.specs.Laws.{told_is_image, image_now, only_image};
 
@@ -175,7 +177,7 @@ impl Disk for MemDisk {
 
     fn len(&mut self) -> Result<u64, Failed>
         ensures len { IfOk result (λ n. IfTold (told_content self.old) (λ b. n ≡ length b)) }
-        ensures below { IfOk result (λ n. n < 2 ^ 63) }
+        ensures below { IfOk result (λ n. n < LENGTH_LIMIT) }
         ensures content { OnOk result (told_content self.new ≡ told_content self.old) }
         ensures told { is_some (told_content self.new) ≡ is_some (told_content self.old) }
         ensures passes { Passes MayLeave moment_of LeftSince Unchanged self.old self.new }
@@ -189,7 +191,8 @@ impl Disk for MemDisk {
 
     fn read(&mut self, at: u64, into: &mut [u8]) -> Result<(), Failed>
         requires { IfTold (told_content self.old) (λ b. at + length into.old ≤ length b) }
-        ensures bytes { OnOk result (IfTold (told_content self.old) (λ b. into.new ≡ take (length into.old) (drop at b))) }
+        ensures bytes { OnOk result
+            (IfTold (told_content self.old) (λ b. into.new ≡ take (length into.old) (drop at b))) }
         ensures content { OnOk result (told_content self.new ≡ told_content self.old) }
         ensures told { is_some (told_content self.new) ≡ is_some (told_content self.old) }
         ensures passes { Passes MayLeave moment_of LeftSince Unchanged self.old self.new }
@@ -206,15 +209,18 @@ impl Disk for MemDisk {
 
     fn write_at(&mut self, at: u64, bytes: &[u8]) -> Result<(), Failed>
         requires { IfTold (told_content self.old) (λ b. at ≤ length b) }
-        ensures content { OnOk result (told_content self.new ≡ option_map (overwritten at bytes.now) (told_content self.old)) }
+        ensures content { OnOk result
+            (told_content self.new ≡ option_map (overwritten at bytes.now)
+            (told_content self.old)) }
         ensures told { is_some (told_content self.new) ≡ is_some (told_content self.old) }
-        ensures room { OnOk result (at + length bytes.now < 2 ^ 63) }
-        ensures passes { Passes MayLeave moment_of LeftSince (Torn at (length bytes.now)) self.old self.new }
+        ensures room { OnOk result (at + length bytes.now < LENGTH_LIMIT) }
+        ensures passes { Passes MayLeave moment_of LeftSince
+            (Torn at (length bytes.now)) self.old self.new }
         ensures faults { Counts result self.old.calls.faults self.new.calls.faults }
         ensures makes { MakesCall (Call.Write at bytes.now) result self.old self.new }
         ensures kept { OnErr result (told_content self.new ≡ told_content self.old) }
     {
-        if at >= END || bytes.len() as u64 >= END - at {
+        if at >= LENGTH_LIMIT || bytes.len() as u64 >= LENGTH_LIMIT - at {
             return Err(self.refuse());
         }
         match Bytes::of(self.alloc, bytes) {
@@ -225,7 +231,8 @@ impl Disk for MemDisk {
 
     fn cut(&mut self, len: u64) -> Result<(), Failed>
         requires { IfTold (told_content self.old) (λ b. len ≤ length b) }
-        ensures content { OnOk result (told_content self.new ≡ option_map (take len) (told_content self.old)) }
+        ensures content { OnOk result
+            (told_content self.new ≡ option_map (take len) (told_content self.old)) }
         ensures told { is_some (told_content self.new) ≡ is_some (told_content self.old) }
         ensures passes { Passes MayLeave moment_of LeftSince (TornCut len) self.old self.new }
         ensures faults { Counts result self.old.calls.faults self.new.calls.faults }
@@ -236,7 +243,8 @@ impl Disk for MemDisk {
     }
 
     fn sync(&mut self) -> Result<(), Failed>
-        ensures durable { OnOk result ((c : List ℕ) → MayLeave self.new c → told_content self.new ≡ Some c) }
+        ensures durable { OnOk result ((c : List ℕ) → MayLeave self.new c
+            → told_content self.new ≡ Some c) }
         ensures content { OnOk result (told_content self.new ≡ told_content self.old) }
         ensures told { is_some (told_content self.new) ≡ is_some (told_content self.old) }
         ensures passes { Passes MayLeave moment_of LeftSince Unchanged self.old self.new }

@@ -1,6 +1,6 @@
 use Rattle.std.proofs.Common.{◌≡◌, ◌++◌, List, ℕ, subst, rules}
 use Rattle.std.proofs.lemmas.Result.{IfOk-weaker}
-use Rattle.pod_disk.specs.Record.{CrashImageAt, IsCrashImage, content_at}
+use Rattle.pod_disk.specs.NotedCalls.{CrashImageAt, IsCrashImage, content_at}
 use Rattle.pod_disk.specs.declared.call.NotedCall.{NotedCall}
 use Rattle.pod_disk.proofs.Crashing.{image_of_parts}
 use Rattle.pod_disk.proofs.crash.crashed.Goals as goal

@@ -1,5 +1,5 @@
 use Rattle.std.proofs.Common.{◌≡◌, List, ℕ, drop}
-use Rattle.pod_disk.specs.Record.{CrashImageAt}
+use Rattle.pod_disk.specs.NotedCalls.{CrashImageAt}
 use Rattle.pod_disk.proofs.crash.left_after.Given as goal
 
 -- what is left of the image so far after the other calls is left after all of them

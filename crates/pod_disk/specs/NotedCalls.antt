@@ -6,8 +6,8 @@ use Rattle.pod_disk.specs.declared.call.Call.{Call}
 use Rattle.pod_disk.specs.declared.call.NotedCall.{NotedCall}
 use Rattle.pod_disk.specs.declared.call.Call.TheVariants.{Length, Read, Write, Cut as Shorten, Sync}
 
--- the bytes that it held at first, all of them durable, the calls that it has noted, and how many it was
--- asked to make, which are to fail and how many failed
+-- the bytes that it held at first, all of them durable, the calls that it has noted, and how many
+-- it was asked to make, which are to fail and how many failed
 pub record DiskState : Type 0 where
   pub first : List ℕ
   pub noted : List NotedCall
@@ -37,8 +37,8 @@ Step Length = Unchanged
 Step (Read at count) = Unchanged
 Step Sync = Unchanged
 
--- What a crash may leave after a call, by the content and the images before it. Only a sync that succeeds
--- takes images away, all but the content.
+-- What a crash may leave after a call, by the content and the images before it. Only a sync that
+-- succeeds takes images away, all but the content.
 abbrev pub left_by : List ℕ → (List ℕ → Type 0) → Call → Bool → List ℕ → Type 0
 left_by content images Sync true c = c ≡ content
 left_by content images call done c = (d : List ℕ) × images d × Step call d c
@@ -65,7 +65,8 @@ content_at content (noted ∷ more) = content_at (content_after content noted) m
 -- what a crash may leave after these calls
 abbrev pub CrashImageAt : List ℕ → (List ℕ → Type 0) → List NotedCall → List ℕ → Type 0
 CrashImageAt content images [] c = images c
-CrashImageAt content images (noted ∷ more) c = CrashImageAt (content_after content noted) (images_after content images noted) more c
+CrashImageAt content images (noted ∷ more) c = CrashImageAt (content_after content noted)
+    (images_after content images noted) more c
 
 -- what a crash may leave after these calls on a disk that held these bytes, all of them durable
 abbrev pub IsCrashImage : List ℕ → List NotedCall → List ℕ → Type 0
@@ -73,10 +74,11 @@ IsCrashImage first calls c = CrashImageAt first (λ d. d ≡ first) calls c
 
 -- what a crash may have left after that many of the calls or later
 abbrev pub WasCrashImage : List ℕ → List NotedCall → ℕ → List ℕ → Type 0
-WasCrashImage first calls t c = (k : ℕ) × (t ≤ k) × (k ≤ length calls) × IsCrashImage first (take k calls) c
+WasCrashImage first calls t c = (k : ℕ) × (t ≤ k) × (k ≤ length calls)
+    × IsCrashImage first (take k calls) c
 
--- The same of a disk in memory: what reads give, what a crash may leave now, the moment, which is the number
--- of its calls, and what a crash may have left since an earlier moment.
+-- The same of a disk in memory: what reads give, what a crash may leave now, the moment, which is
+-- the number of its calls, and what a crash may have left since an earlier moment.
 abbrev pub content_of : DiskState → List ℕ
 content_of disk = content_at disk.first disk.noted
 
@@ -92,15 +94,17 @@ moment_of disk = length disk.noted
 abbrev pub LeftSince : DiskState → ℕ → List ℕ → Type 0
 LeftSince disk = WasCrashImage disk.first disk.noted
 
--- A disk in memory makes a call: it is the next by number, and fails where it is to fail. It is noted where it
--- succeeds. One that fails may be noted too, as a call that failed.
-pub record MakesCall {T E : Type 0} (call : Call) (result : Result T E) (old new : DiskState) : Type 0 where
+-- A disk in memory makes a call: it is the next by number, and fails where it is to fail. It is
+-- noted where it succeeds. One that fails may be noted too, as a call that failed.
+pub record MakesCall {T E : Type 0} (call : Call) (result : Result T E)
+    (old new : DiskState) : Type 0 where
   pub first : new.first ≡ old.first
   pub failing : new.calls.failing ≡ old.calls.failing
   pub made : new.calls.made ≡ next_call old.calls
   pub listed : NextFails old.calls → IsErr result
   pub done : OnOk result (new.noted ≡ old.noted ++ noted_as call true ∷ [])
-  pub failed : OnErr result ((new.noted ≡ old.noted ++ noted_as call false ∷ []) ⊎ (new.noted ≡ old.noted))
+  pub failed : OnErr result ((new.noted ≡ old.noted ++ noted_as call false ∷ [])
+      ⊎ (new.noted ≡ old.noted))
 
 -- after a sync that succeeded a crash leaves what reads give
 abbrev pub LeavesContent : Call → DiskState → Type 0

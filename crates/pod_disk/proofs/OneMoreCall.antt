@@ -3,7 +3,7 @@ use Rattle.std.proofs.Common.{◌≡◌, ◌⊎◌, inl, inr, ⊎_elim, ℕ, ◌
 use Rattle.std.proofs.lemmas.List.{take_all, take-append-le}
 use Rattle.std.proofs.lemmas.Bool.{cases_lt}
 use Rattle.pod_disk.specs.Disk.{Passes}
-use Rattle.pod_disk.specs.Record.{DiskState, noted_as, done_by, content_after, Step, left_by, images_after, content_at, content_of, told_content, CrashImageAt, IsCrashImage, MayLeave, moment_of, LeftSince, MakesCall, LeavesContent}
+use Rattle.pod_disk.specs.NotedCalls.{DiskState, noted_as, done_by, content_after, Step, left_by, images_after, content_at, content_of, told_content, CrashImageAt, IsCrashImage, MayLeave, moment_of, LeftSince, MakesCall, LeavesContent}
 use Rattle.pod_disk.specs.Laws.{no_step, content_is_image}
 use Rattle.pod_disk.specs.declared.call.Call.{Call}
 use Rattle.pod_disk.specs.declared.call.NotedCall.{NotedCall}
