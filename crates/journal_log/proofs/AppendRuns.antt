@@ -1,5 +1,5 @@
 -- What an image stands for at each moment of an append and of a repair.
-use Rattle.std.proofs.Common.{◌≤◌, ◌+◌, length, arith, ◌≡◌, inl, ⊎_elim, List, ℕ, true, false, sym, ◌∙◌}
+use Rattle.std.proofs.Common.{◌≤◌, ◌+◌, length, arith, ◌≡◌, inl, List, ℕ}
 use Rattle.pod_disk.specs.Disk.{EachImage, LeavesOnly}
 use Rattle.pod_disk.proofs.Moments.{both, weaker}
 use Rattle.journal_log.specs.Frames.{framed_of}
@@ -7,7 +7,7 @@ use Rattle.journal_log.specs.Gates.{IsClosed, IsOpening}
 use Rattle.journal_log.specs.Writes.{IsTornFrom}
 use Rattle.journal_log.specs.Images.{IsEither}
 use Rattle.journal_log.specs.JournalState.{JournalState}
-use Rattle.journal_log.specs.CleanJournal.{IsShort, IsJournalPrefix, IsClean, IsInDoubt}
+use Rattle.journal_log.specs.CleanJournal.{IsShort, IsJournalPrefix}
 use Rattle.journal_log.proofs.GateWrites.{closed_behind, torn_opening}
 use Rattle.journal_log.proofs.WriteRuns.{torn_run}
 use Rattle.journal_log.proofs.Records.{stands_closed, stands_opening}

@@ -1,5 +1,5 @@
 -- The class of a crash image, found from its first seventeen bytes.
-use Rattle.std.proofs.Common.{◌≡◌, ◌≢◌, ◌⊎◌, inl, inr, ⊎_elim, ℕ, ◌+◌, ◌<◌, ◌≤◌, ◌^◌, List, [], ◌∷◌, ◌++◌, length, take, drop, get_or, false, refl, sym, ◌∙◌, ap, subst, arith, append_assoc, length-append, take-append-drop}
+use Rattle.std.proofs.Common.{◌≡◌, ◌≢◌, ◌⊎◌, inl, inr, ℕ, ◌<◌, ◌≤◌, ◌^◌, List, [], ◌∷◌, ◌++◌, length, take, drop, get_or, false, refl, sym, ◌∙◌, ap, subst, arith, length-append, take-append-drop}
 use Rattle.std.proofs.lemmas.List.{take_at, drop_at, drop_more, drop-take, take-take, length-take, length-take-le, append-nil}
 use Rattle.std.proofs.lemmas.Bool.{cases_eq, cases_lt}
 use Rattle.std.proofs.lemmas.Nat.{from_be_bytes-to_be_bytes_8}
@@ -13,7 +13,7 @@ use Rattle.journal_log.specs.Laws.{OneClass, HasSomeClass, NewIsClosedOrOpen}
 use Rattle.journal_log.specs.declared.class.DiskClass.{DiskClass}
 use Rattle.journal_log.specs.declared.class.DiskClass.TheVariants.{Empty, Short, Torn, Closed, Wrong, Open}
 use Rattle.journal_log.proofs.Splits.{first_is, heads_are, length_head}
-use Rattle.journal_log.proofs.HeadBytes.{head_parts, head_whole, head_prefix, no_head_short, no_head_mark, no_head_epoch, no_head_prefix}
+use Rattle.journal_log.proofs.HeadBytes.{head_parts, head_whole, head_prefix, no_head_mark, no_head_epoch, no_head_prefix}
 use Rattle.journal_log.proofs.Records.{length_closed, stands_gated}
 use Rattle.journal_log.proofs.RenewRuns.{head_is_prefix, known_2}
 

@@ -1,6 +1,6 @@
 -- What the parts of a renewal leave.
 use Rattle.std.proofs.Common.{◌≡◌, ◌≢◌, inl, inr, ⊎_elim, ℕ, ◌+◌, ◌≤◌, ◌^◌, List, Option, [], ◌∷◌, ◌++◌, length, take, drop, get_or, min, ◌-◌, false, refl, sym, ◌∙◌, ap, subst, arith, append_assoc, length-append, take-append-drop}
-use Rattle.std.proofs.lemmas.List.{take_at, drop_at, drop_more, drop-drop, append-nil, length-take-le}
+use Rattle.std.proofs.lemmas.List.{drop_at, drop_more, drop-drop, append-nil, length-take-le}
 use Rattle.pod_io.specs.Told.{IfTold}
 use Rattle.pod_disk.specs.Disk.{EachImage, Torn, LeavesOnly, overwritten}
 use Rattle.pod_disk.proofs.Moments.{both, weaker, joined, holds_now}

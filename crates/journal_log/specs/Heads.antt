@@ -1,5 +1,5 @@
 -- The head of a journal: sixteen bytes before the first gate.
-use Rattle.std.specs.Prelude.{◌≡◌, ◌⊎◌, ◌+◌, ◌<◌, ◌≤◌, ◌^◌, ℕ, List, [], ◌∷◌, ◌++◌}
+use Rattle.std.specs.Prelude.{◌≡◌, ◌⊎◌, ◌+◌, ◌<◌, ◌≤◌, ℕ, List, [], ◌∷◌, ◌++◌}
 use Rattle.journal_log.specs.declared.head.TheConstants.{EPOCH_LIMIT}
 use Rattle.std.specs.Int.{to_be_bytes, w64}
 

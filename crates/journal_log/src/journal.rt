@@ -36,9 +36,7 @@ impl Model for Journal {
 
     ghost Value = { JournalState };
 
-    ghost view = {
-        λ j. record { end = j.end; doubt = j.doubt; format = j.format; epoch = j.epoch }
-    };
+    ghost view = { λ j. record { end = j.end; doubt = j.doubt; format = j.format; epoch = j.epoch } };
 
     ghost invariant = { λ j. (j.end < 2 ^ 63) × IsKnown j.format j.epoch };
 }
@@ -101,7 +99,7 @@ impl Journal {
         requires { (bodies : List (List ℕ)) × IsClean (D.image disk.old) self.old bodies }
         ensures moments { (bodies : List (List ℕ)) → IsClean (D.image disk.old) self.old bodies
             → LeavesOnly D.moment D.left_since disk.old disk.new
-                (IsEither self.old.format self.old.epoch bodies framed.now) }
+            (IsEither self.old.format self.old.epoch bodies framed.now) }
         ensures appended { OnOk result ((bodies : List (List ℕ))
             → IsClean (D.image disk.old) self.old bodies
             → IsClean (D.image disk.new) self.new (bodies ++ framed.now ∷ [])) }
@@ -127,7 +125,7 @@ impl Journal {
         ensures moments { (bodies : List (List ℕ)) (body : List ℕ)
             → IsInDoubt (D.image disk.old) self.old bodies body
             → LeavesOnly D.moment D.left_since disk.old disk.new
-                (IsEither self.old.format self.old.epoch bodies body) }
+            (IsEither self.old.format self.old.epoch bodies body) }
         ensures repaired { OnOk result ((bodies : List (List ℕ)) (body : List ℕ)
             → IsInDoubt (D.image disk.old) self.old bodies body
             → IsClean (D.image disk.new) self.new bodies) }

@@ -88,10 +88,10 @@ impl Journal {
         requires { epoch ≤ 2 ^ 63 }
         ensures moments { IfTold (D.content disk.old) (λ b. 17 ≤ length b)
             → LeavesOnly D.moment D.left_since disk.old disk.new
-                (IsWhileRenewed (D.image disk.old) epoch first.now) }
+            (IsWhileRenewed (D.image disk.old) epoch first.now) }
         ensures short { IfTold (D.content disk.old) (λ b. length b < 17
             → LeavesOnly D.moment D.left_since disk.old disk.new
-                (IsTornFrom (D.image disk.old) 0 (17 + length (framed_of first.now)))) }
+            (IsTornFrom (D.image disk.old) 0 (17 + length (framed_of first.now)))) }
         ensures clean { IfOk result
             (λ journal. IsClean (D.image disk.new) journal (first.now ∷ [])) }
         ensures format { IfOk result (λ journal. journal.format ≡ 2) }
@@ -99,7 +99,7 @@ impl Journal {
         ensures closed { IsErrOf result RenewFault.Closed
             → IfTold (D.content disk.old) (λ b. 17 ≤ length b)
             → LeavesOnly D.moment D.left_since disk.old disk.new
-                (IsBeforeOpening (D.image disk.old)) }
+            (IsBeforeOpening (D.image disk.old)) }
         ensures in_doubt { IsErrOf result RenewFault.InDoubt
             → EachImage (D.image disk.new) (IsNew epoch first.now) }
         ensures faults { Counts result (D.faults disk.old) (D.faults disk.new) }
@@ -142,7 +142,7 @@ fn prepare<D: Disk>(disk: &mut D, epoch: u64, framed: &[u8]) -> Result<(), Faile
         → LeavesOnly D.moment D.left_since disk.old disk.new (IsBeforeOpening (D.image disk.old)) }
     ensures short { IfTold (D.content disk.old) (λ b. length b < 17
         → LeavesOnly D.moment D.left_since disk.old disk.new
-            (IsTornFrom (D.image disk.old) 0 (17 + length framed.now))) }
+        (IsTornFrom (D.image disk.old) 0 (17 + length framed.now))) }
     ensures prepared { OnOk result
         (EachImage (D.image disk.new) (IsGated (head_of 2 epoch) 0 framed.now)) }
     ensures room { OnOk result (17 + length framed.now < 2 ^ 63) }

@@ -12,10 +12,14 @@ use Rattle.pod_disk.specs.declared.call.Call.TheVariants.{Length, Read, Write, C
 -- this moment is one of those since an earlier one
 pub image_now : (disk : DiskState) (t : ℕ) (c : List ℕ) → t ≤ moment_of disk → MayLeave disk c
     → LeftSince disk t c
-image_now disk t c le image =
-    (length disk.noted, le, omega arith, subst
-    (λ (l : List NotedCall). IsCrashImage disk.first l c)
-    (sym (take_all (length disk.noted) disk.noted (omega arith))) image)
+image_now disk t c le image = (
+  length disk.noted,
+  le,
+  omega arith,
+  subst
+      (λ (l : List NotedCall). IsCrashImage disk.first l c)
+      (sym (take_all (length disk.noted) disk.noted (omega arith))) image,
+)
 
 -- since this moment there is no other
 pub only_image : (disk : DiskState) (c : List ℕ) → LeftSince disk (moment_of disk) c
@@ -33,9 +37,14 @@ whole_is_torn at bytes b =
     let front : length (take at b) ≡ min at (length b) = length-take at b in
     let back : length rest ≡ length b - (at + length bytes) = length-drop (at + length bytes) b in
     let whole : length (take at b ++ bytes ++ rest) ≡ min at
-        (length b) + length bytes + length rest =
-    omega (arith, front, length-append (take at b ++ bytes) rest, length-append
-        (take at b) bytes) in
+    (length b) + length bytes + length rest =
+    omega (
+      arith,
+      front,
+      length-append (take at b ++ bytes) rest,
+      length-append
+          (take at b) bytes,
+    ) in
     record {
       before = ap
           (λ (l : List ℕ). take (min at (length b)) l)
@@ -43,10 +52,10 @@ whole_is_torn at bytes b =
           (min at (length b)) front;
       behind = ⊎_elim
           (λ inside. drop_at (take at b ++ bytes) rest (at + length bytes)
-              (omega (arith, inside, front, length-append (take at b) bytes)))
+          (omega (arith, inside, front, length-append (take at b) bytes)))
           (λ outside. drop_all (at + length bytes) (take at b ++ bytes ++ rest)
-              (omega (arith, outside, whole, back)) ∙ sym
-              (drop_all (at + length bytes) b (omega (arith, outside))))
+          (omega (arith, outside, whole, back)) ∙ sym
+          (drop_all (at + length bytes) b (omega (arith, outside))))
           (le_or_lt at (length b));
       no_shorter = omega (arith, whole, back);
       no_longer = omega (arith, whole, back);
@@ -57,7 +66,7 @@ same_is_torn at count b = record {
   before = ⊎_elim
       (λ inside. ap (λ (m : ℕ). take m b) {x = min at (length b)} {y = at} (omega (arith, inside)))
       (λ outside. take_all (min at (length b)) b (omega (arith, outside)) ∙ sym
-          (take_all at b (omega (arith, outside))))
+      (take_all at b (omega (arith, outside))))
       (le_or_lt at (length b));
   behind = refl;
   no_shorter = omega arith;

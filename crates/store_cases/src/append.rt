@@ -1,7 +1,7 @@
 //! Appends to a journal with one record.
 
 ghost use Rattle.std.specs.Prelude.{List, ℕ, IfOk};
-ghost use Rattle.pod_disk.specs.Record.{MayLeave};
+ghost use Rattle.pod_disk.specs.NotedCalls.{MayLeave};
 ghost use Rattle.journal_log.specs.CleanJournal.{IsClean};
 
 use crate::disks::letters;
@@ -12,9 +12,11 @@ use pod_base::{Mem, NoMemory};
 use pod_disk::MemDisk;
 use std::alloc::Global;
 
-/// A journal with one record, on a disk on which the calls of these numbers fail; its making takes three.
+/// A journal with one record, on a disk on which the calls of these numbers fail; its making takes
+/// three.
 fn begun(alloc: Global, failing: Vec<u64>) -> Mem<(MemDisk, Journal)>
-    ensures clean { IfOk result (λ made. (bodies : List (List ℕ)) × IsClean (MayLeave made.0) made.1 bodies) }
+    ensures clean { IfOk result (λ made. (bodies : List (List ℕ))
+        × IsClean (MayLeave made.0) made.1 bodies) }
 {
     let mut disk = MemDisk::new(alloc, Vec::new(alloc), failing)?;
     let first = frame(alloc, b"first")?;
@@ -24,10 +26,12 @@ fn begun(alloc: Global, failing: Vec<u64>) -> Mem<(MemDisk, Journal)>
     }
 }
 
-/// Adds a record, and closes a gate that is in doubt then. Whether it was added, and whether a gate was in doubt.
+/// Adds a record, and closes a gate that is in doubt then. Whether it was added, and whether a gate
+/// was in doubt.
 fn add(disk: &mut MemDisk, journal: &mut Journal, entry: &Framed) -> Result<(bool, bool), DiskFault>
     requires { (bodies : List (List ℕ)) × IsClean (MayLeave disk.old) journal.old bodies }
-    ensures { IfOk result (λ _. (bodies : List (List ℕ)) × IsClean (MayLeave disk.new) journal.new bodies) }
+    ensures { IfOk result (λ _. (bodies : List (List ℕ))
+        × IsClean (MayLeave disk.new) journal.new bodies) }
 {
     match journal.append(disk, entry) {
         Ok(()) => Ok((true, false)),
@@ -43,8 +47,8 @@ fn add(disk: &mut MemDisk, journal: &mut Journal, entry: &Framed) -> Result<(boo
     }
 }
 
-/// An append whose call of this number fails, and then one that does not: whether the first is done, whether it left a
-/// gate in doubt, the length then, and what the disk is opened as.
+/// An append whose call of this number fails, and then one that does not: whether the first is
+/// done, whether it left a gate in doubt, the length then, and what the disk is opened as.
 pub(crate) fn fails(alloc: Global, failing: u64) -> Mem<String> {
     let calls = vec![in alloc; failing.saturating_add(3)]?;
     let (mut disk, mut journal) = begun(alloc, calls)?;

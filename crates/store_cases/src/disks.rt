@@ -1,5 +1,5 @@
-//! Calls of a disk in memory, and what a crash leaves of it. A call is a field: `len`, `read AT COUNT`, `write AT BYTES`,
-//! `cut LEN` or `sync`.
+//! Calls of a disk in memory, and what a crash leaves of it. A call is a field: `len`, `read AT
+//! COUNT`, `write AT BYTES`, `cut LEN` or `sync`.
 
 use crate::number;
 use crate::tears::tears;
@@ -91,14 +91,9 @@ pub(crate) fn after(alloc: Global, image: Vec<u8>, failing: u64, calls: &[&str])
     Ok(disk)
 }
 
-/// The outcomes of these calls on a disk of these bytes whose call of this number fails, then how many calls it has
-/// noted, and what it holds.
-pub(crate) fn outcomes(
-    alloc: Global,
-    image: Vec<u8>,
-    failing: u64,
-    calls: &[&str],
-) -> Mem<String> {
+/// The outcomes of these calls on a disk of these bytes whose call of this number fails, then how
+/// many calls it has noted, and what it holds.
+pub(crate) fn outcomes(alloc: Global, image: Vec<u8>, failing: u64, calls: &[&str]) -> Mem<String> {
     let mut disk = MemDisk::new(alloc, image, vec![in alloc; failing]?)?;
     let mut text = String::new(alloc);
     for field in calls {

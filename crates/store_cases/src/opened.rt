@@ -6,7 +6,8 @@ use pod_base::Mem;
 use pod_disk::MemDisk;
 use std::alloc::Global;
 
-/// How many records a disk of these bytes is opened with, and the last of them, or why it is not opened.
+/// How many records a disk of these bytes is opened with, and the last of them, or why it is not
+/// opened.
 pub(crate) fn opened(alloc: Global, image: Vec<u8>) -> Mem<String> {
     let mut disk = MemDisk::new(alloc, image, Vec::new(alloc))?;
     match Journal::open(alloc, &mut disk, Side::Second) {

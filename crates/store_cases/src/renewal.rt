@@ -16,8 +16,8 @@ fn shut(alloc: Global, disk: &mut MemDisk) -> Mem<String> {
     opened(alloc, disk.bytes().to_vec(alloc)?)
 }
 
-/// A renewal whose call of this number fails, and then one that does not: the fault, what the disk is opened as when it
-/// is shut behind a fault in doubt, and what it is opened as at last.
+/// A renewal whose call of this number fails, and then one that does not: the fault, what the disk
+/// is opened as when it is shut behind a fault in doubt, and what it is opened as at last.
 pub(crate) fn fails(alloc: Global, image: Vec<u8>, failing: u64) -> Mem<String> {
     let mut disk = MemDisk::new(alloc, image, vec![in alloc; failing]?)?;
     let first = frame(alloc, b"new")?;

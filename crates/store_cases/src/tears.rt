@@ -1,5 +1,5 @@
-//! What a crash leaves of the writes and cuts since the last sync, as a field: `prefix N` or `filled N`, one for each
-//! of them, separated by commas.
+//! What a crash leaves of the writes and cuts since the last sync, as a field: `prefix N` or
+//! `filled N`, one for each of them, separated by commas.
 
 use pod_base::Mem;
 use pod_disk::Tear;

@@ -1,4 +1,4 @@
-use Rattle.std.proofs.Common.{length, ◌∙◌, ap, arith}
+use Rattle.std.proofs.Common.{length, ap, arith}
 use Rattle.journal_log.proofs.class.class_at.Goals as goal
 
 pub returns-then-size-clause-class : goal.returns-then-size-clause-class

@@ -1,4 +1,4 @@
-use Rattle.std.proofs.Common.{Option, take, refl, subst}
+use Rattle.std.proofs.Common.{take, refl}
 use Rattle.journal_log.proofs.Classifying.{is_closed, is_open, is_torn, is_wrong}
 use Rattle.journal_log.proofs.class.class_of.Goals as goal
 

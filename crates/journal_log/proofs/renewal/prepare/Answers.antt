@@ -26,8 +26,8 @@ returns-in-Missing-clause-moments g c = λ long.
     let few = subst (λ (f : FirstGate). IfTold D (IsFirstGate f)) c.in-Missing.is c.in_ok-first_gate.ensures.is in
     nothing_told g.D.Disk.image g.D.Disk.moment g.D.Disk.left_since _ _ _ (17 + length c.args.framed.now) (g.D.Disk.only_now _) c.first_gate.ensures.only_reads
     (λ c' now.
-        let told = c.in_ok-first_gate.ensures.durable c' now in
-        omega (arith, few c' told, long c' (sym c.in_ok-first_gate.ensures.content ∙ told)))
+    let told = c.in_ok-first_gate.ensures.durable c' now in
+    omega (arith, few c' told, long c' (sym c.in_ok-first_gate.ensures.content ∙ told)))
     c.write_anew.ensures.torn
 
 pub returns-in-Missing-clause-short : goal.returns-in-Missing-clause-short

@@ -2,7 +2,6 @@ use Rattle.std.proofs.Common.{◌≡◌, ◌∙◌, ℕ, List, length, ap, subst
 use Rattle.std.proofs.lemmas.Result.{on_ok_weaker}
 use Rattle.pod_disk.specs.Disk.{EachImage, overwritten}
 use Rattle.pod_disk.proofs.Moments.{joined, reads}
-use Rattle.journal_log.specs.Heads.{head_of}
 use Rattle.journal_log.specs.Gates.{IsFirstGateClosed, IsClosed, IsGated}
 use Rattle.journal_log.proofs.Splits.{length_head}
 use Rattle.journal_log.proofs.GateWrites.{written_head, written_behind}

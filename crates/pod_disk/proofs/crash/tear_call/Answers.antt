@@ -1,6 +1,6 @@
-use Rattle.std.proofs.Common.{List, ℕ, length, sym, ap, subst}
+use Rattle.std.proofs.Common.{ℕ, length, sym, ap, subst}
 use Rattle.std.proofs.lemmas.Result.{on_ok_weaker}
-use Rattle.pod_disk.specs.Disk.{Torn, TornCut}
+use Rattle.pod_disk.specs.Disk.{Torn}
 use Rattle.pod_disk.specs.NotedCalls.{Step}
 use Rattle.pod_disk.specs.declared.call.Call.{Call}
 use Rattle.pod_disk.proofs.crash.tear_call.Goals as goal

@@ -1,5 +1,5 @@
 use Rattle.std.proofs.Common.{◌∷◌, [], ◌++◌, sym, ◌∙◌}
-use Rattle.pod_disk.specs.Record.{MayLeave}
+use Rattle.pod_disk.specs.NotedCalls.{MayLeave}
 use Rattle.journal_log.proofs.DoubtCases.{in_doubt, not_in_doubt}
 use Rattle.store_cases.proofs.append.add.Goals as goal
 

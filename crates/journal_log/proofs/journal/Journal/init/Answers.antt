@@ -1,4 +1,4 @@
-use Rattle.std.proofs.Common.{◌≡◌, ◌∙◌, ℕ, List, length, ap, subst, arith}
+use Rattle.std.proofs.Common.{◌≡◌, ℕ, List, length, ap, subst, arith}
 use Rattle.pod_disk.specs.Disk.{EachImage}
 use Rattle.journal_log.specs.Frames.{framed_of}
 use Rattle.journal_log.specs.Heads.{head_of}

@@ -1,7 +1,4 @@
-use Rattle.std.proofs.Common.{subst}
-use Rattle.std.proofs.lemmas.Result.{on_ok_weaker}
-use Rattle.journal_log.specs.Heads.{head_of}
-use Rattle.journal_log.proofs.RenewRuns.{begins, known_2, closed_from}
+use Rattle.journal_log.proofs.RenewRuns.{closed_from}
 use Rattle.journal_log.proofs.journal.Journal.init_closed.Goals as goal
 
 pub returns-clause-closed : goal.returns-clause-closed
