@@ -1,59 +1,48 @@
 -- What an image stands for at each moment of an append and of a repair.
-use Rattle.std.proofs.Common.{◌≤◌, ◌+◌, length, arith, ◌≡◌, inl, ⊎_elim, List, ℕ, true, false, sym, ◌∙◌}
-use Rattle.pod_disk.specs.Disk.{Each, LeavesOnly}
+use Rattle.std.proofs.Common.{◌≤◌, ◌+◌, length, arith, ◌≡◌, inl, List, ℕ}
+use Rattle.pod_disk.specs.Disk.{EachImage, LeavesOnly}
 use Rattle.pod_disk.proofs.Moments.{both, weaker}
 use Rattle.journal_log.specs.Frames.{framed_of}
 use Rattle.journal_log.specs.Gates.{IsClosed, IsOpening}
 use Rattle.journal_log.specs.Writes.{IsTornFrom}
 use Rattle.journal_log.specs.Images.{IsEither}
-use Rattle.journal_log.specs.Held.{Held}
-use Rattle.journal_log.specs.Resting.{IsShort, IsFront, Rests, Doubts, RestsOrDoubts}
-use Rattle.journal_log.proofs.GateWrites.{closed_behind, torn_gate}
+use Rattle.journal_log.specs.JournalState.{JournalState}
+use Rattle.journal_log.specs.CleanJournal.{IsShort, IsJournalPrefix}
+use Rattle.journal_log.proofs.GateWrites.{closed_behind, torn_opening}
 use Rattle.journal_log.proofs.WriteRuns.{torn_run}
 use Rattle.journal_log.proofs.Records.{stands_closed, stands_opening}
 
 module _ {D : Type 0} (image : D → List ℕ → Type 0) (moment : D → ℕ) (left_since : D → ℕ → List ℕ → Type 0) where
   -- bytes written behind a closed gate leave it closed
-  pub closed_run : (old new : D) (front : List ℕ) (end count : ℕ) → ((t : ℕ) (c : List ℕ) → t ≤ moment new → image new c → left_since new t c) → length front ≡ end
-      → LeavesOnly moment left_since old new (IsTornFrom (image old) (end + 1) count) → Each (image old) (IsClosed front)
-      → LeavesOnly moment left_since old new (IsClosed front) × Each (image new) (IsClosed front)
-  closed_run old new front end count counts_now ends torn was =
-      torn_run image moment left_since old new (end + 1) count (IsClosed front) counts_now torn (λ d c step closed. closed_behind front d c (end + 1) count (omega (arith, ends)) step closed) was
+  pub closed_run : (old new : D) (prefix : List ℕ) (end count : ℕ) → ((t : ℕ) (c : List ℕ) → t ≤ moment new → image new c → left_since new t c) → length prefix ≡ end
+      → LeavesOnly moment left_since old new (IsTornFrom (image old) (end + 1) count) → EachImage (image old) (IsClosed prefix)
+      → LeavesOnly moment left_since old new (IsClosed prefix) × EachImage (image new) (IsClosed prefix)
+  closed_run old new prefix end count counts_now ends torn was =
+      torn_run image moment left_since old new (end + 1) count (IsClosed prefix) counts_now torn (λ d c step closed. closed_behind prefix d c (end + 1) count (omega (arith, ends)) step closed) was
 
   -- a gate that is written leaves what is before and behind it
-  pub opening_run : (old new : D) (front behind : List ℕ) (end : ℕ) → ((t : ℕ) (c : List ℕ) → t ≤ moment new → image new c → left_since new t c) → length front ≡ end
-      → LeavesOnly moment left_since old new (IsTornFrom (image old) end 1) → Each (image old) (IsOpening front behind)
-      → LeavesOnly moment left_since old new (IsOpening front behind) × Each (image new) (IsOpening front behind)
-  opening_run old new front behind end counts_now ends torn was =
-      torn_run image moment left_since old new end 1 (IsOpening front behind) counts_now torn (λ d c step opening. torn_gate front behind d c end ends step opening) was
+  pub opening_run : (old new : D) (prefix behind : List ℕ) (end : ℕ) → ((t : ℕ) (c : List ℕ) → t ≤ moment new → image new c → left_since new t c) → length prefix ≡ end
+      → LeavesOnly moment left_since old new (IsTornFrom (image old) end 1) → EachImage (image old) (IsOpening prefix behind)
+      → LeavesOnly moment left_since old new (IsOpening prefix behind) × EachImage (image new) (IsOpening prefix behind)
+  opening_run old new prefix behind end counts_now ends torn was =
+      torn_run image moment left_since old new end 1 (IsOpening prefix behind) counts_now torn (λ d c step opening. torn_opening prefix behind d c end ends step opening) was
 
-module _ {D : Type 0} (moment : D → ℕ) (image : D → List ℕ → Type 0) (left_since : D → ℕ → List ℕ → Type 0) (journal : Held) (bodies : List (List ℕ)) (body front : List ℕ) (is : IsFront journal bodies front) where
+module _ {D : Type 0} (moment : D → ℕ) (image : D → List ℕ → Type 0) (left_since : D → ℕ → List ℕ → Type 0) (journal : JournalState) (bodies : List (List ℕ)) (body prefix : List ℕ) (is : IsJournalPrefix journal bodies prefix) where
   -- the record lies behind the closed gate, or doesn't
-  pub placed_run : (old mid : D) → LeavesOnly moment left_since old mid (IsClosed front) → LeavesOnly moment left_since old mid (IsEither journal.format journal.epoch bodies body)
+  pub placed_run : (old mid : D) → LeavesOnly moment left_since old mid (IsClosed prefix) → LeavesOnly moment left_since old mid (IsEither journal.format journal.epoch bodies body)
   placed_run old mid first =
-      weaker image moment left_since old mid (IsClosed front) _ (λ c closed. inl (stands_closed journal bodies front is c closed)) first
+      weaker image moment left_since old mid (IsClosed prefix) _ (λ c closed. inl (stands_closed journal bodies prefix is c closed)) first
 
   -- and then the gate is opened
-  pub opened_run : (old mid new : D) → IsShort body → LeavesOnly moment left_since old mid (IsClosed front) → LeavesOnly moment left_since mid new (IsOpening front (framed_of body))
+  pub opened_run : (old mid new : D) → IsShort body → LeavesOnly moment left_since old mid (IsClosed prefix) → LeavesOnly moment left_since mid new (IsOpening prefix (framed_of body))
       → LeavesOnly moment left_since old new (IsEither journal.format journal.epoch bodies body)
   opened_run old mid new short first second =
-      both image moment left_since old mid new (IsClosed front) (IsOpening front (framed_of body)) _
-      (λ c closed. inl (stands_closed journal bodies front is c closed))
-      (λ c opening. stands_opening journal bodies front is body c short opening)
+      both image moment left_since old mid new (IsClosed prefix) (IsOpening prefix (framed_of body)) _
+      (λ c closed. inl (stands_closed journal bodies prefix is c closed))
+      (λ c opening. stands_opening journal bodies prefix is body c short opening)
       first second
 
   -- while the gate is in doubt
-  pub gate_run : (old new : D) → IsShort body → LeavesOnly moment left_since old new (IsOpening front (framed_of body)) → LeavesOnly moment left_since old new (IsEither journal.format journal.epoch bodies body)
+  pub gate_run : (old new : D) → IsShort body → LeavesOnly moment left_since old new (IsOpening prefix (framed_of body)) → LeavesOnly moment left_since old new (IsEither journal.format journal.epoch bodies body)
   gate_run old new short run =
-      weaker image moment left_since old new (IsOpening front (framed_of body)) _ (λ c opening. stands_opening journal bodies front is body c short opening) run
-
-pub true_is_false : true ≡ false → ⊥
-true_is_false is = cc
-
--- where the flag says so, the gate is in doubt
-pub in_doubt : (images : List ℕ → Type 0) (journal : Held) (bodies : List (List ℕ)) (body : List ℕ) → journal.doubt ≡ true → RestsOrDoubts images journal bodies body → Doubts images journal bodies body
-in_doubt images journal bodies body is either = ⊎_elim (λ rests. absurd (true_is_false (sym is ∙ rests.certain))) (λ doubts. doubts) either
-
--- and where it doesn't, the journal is at rest
-pub not_in_doubt : (images : List ℕ → Type 0) (journal : Held) (bodies : List (List ℕ)) (body : List ℕ) → journal.doubt ≡ false → RestsOrDoubts images journal bodies body → Rests images journal bodies
-not_in_doubt images journal bodies body is either = ⊎_elim (λ rests. rests) (λ doubts. absurd (true_is_false (sym doubts.doubtful ∙ is))) either
+      weaker image moment left_since old new (IsOpening prefix (framed_of body)) _ (λ c opening. stands_opening journal bodies prefix is body c short opening) run

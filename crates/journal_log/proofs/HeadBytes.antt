@@ -47,12 +47,12 @@ no_head_epoch bytes format epoch mark small spelled unknown format_2 epoch_2 res
     unknown (subst (λ (n : ℕ). IsKnown n epoch) same (subst (λ (n : ℕ). IsKnown format_2 n) numbers known))
 
 -- what sixteen bytes say, said of all
-pub no_head_front : (bytes : List ℕ) → NoHead (take 16 bytes) → NoHead bytes
-no_head_front bytes none format epoch rest known is =
+pub no_head_prefix : (bytes : List ℕ) → NoHead (take 16 bytes) → NoHead bytes
+no_head_prefix bytes none format epoch rest known is =
     none format epoch [] known (ap (λ (l : List ℕ). take 16 l) is ∙ take_at (head_of format epoch) rest 16 (length_head format epoch) ∙ sym (append-nil (head_of format epoch)))
 
-pub head_front : (bytes all rest : List ℕ) (format epoch : ℕ) → bytes ≡ take 16 all → bytes ≡ head_of format epoch ++ rest → all ≡ head_of format epoch ++ drop 16 all
-head_front bytes all rest format epoch taken is =
+pub head_prefix : (bytes all rest : List ℕ) (format epoch : ℕ) → bytes ≡ take 16 all → bytes ≡ head_of format epoch ++ rest → all ≡ head_of format epoch ++ drop 16 all
+head_prefix bytes all rest format epoch taken is =
     let head : take 16 all ≡ head_of format epoch =
     sym (take-take 16 16 all (omega arith)) ∙ ap (λ (l : List ℕ). take 16 l) (sym taken ∙ is) ∙ take_at (head_of format epoch) rest 16 (length_head format epoch) in
     sym (take-append-drop 16 all) ∙ ap (λ (l : List ℕ). l ++ drop 16 all) head

@@ -1,14 +1,18 @@
-pub mod Writing
-pub mod Splits
-pub mod Once
-pub mod GateWrites
-pub mod WriteRuns
-pub mod Records
-pub mod AppendRuns
-pub mod HeadBytes
-pub mod QuietRuns
-pub mod WindowReads
-pub mod FrameReads
-pub mod WalkSteps
-pub mod OpenRuns
-pub mod RenewRuns
+-- kept for the crates above
+pub mod DoubtCases
+-- internal
+mod Writing
+mod Splits
+mod Once
+mod GateWrites
+mod WriteRuns
+mod Records
+mod AppendRuns
+mod HeadBytes
+mod ReadRuns
+mod WindowReads
+mod FrameReads
+mod WalkSteps
+mod OpenRuns
+mod RenewRuns
+mod Classifying

@@ -1,6 +1,6 @@
 -- From a gate on, bytes are read in one way.
 use Rattle.std.proofs.Common.{◌≡◌, inl, inr, ℕ, ◌+◌, List, [], ◌∷◌, ◌++◌, refl, sym, ◌∙◌, ap, subst}
-use Rattle.journal_log.specs.Frames.{frame_len, IsEnd, IsFrame, IsBroken, Leads}
+use Rattle.journal_log.specs.Frames.{frame_len, IsEnd, IsFrame, IsBroken, FramesTo}
 use Rattle.journal_log.specs.Heads.{head_of, IsKnown}
 use Rattle.std.specs.List.{sum_by}
 use Rattle.journal_log.specs.Laws.{StandsOnce, DamagedOnce, StandsOrDamaged}
@@ -30,14 +30,14 @@ broken_has_none bytes broken body P frame = broken.1 body (record {
   behind = tt;
 })
 
-pub leads_once : (P Q : List ℕ → Type 0) → HasNoFrames P → HasNoFrames Q → (ones twos : List (List ℕ)) (bytes : List ℕ)
-    → Leads P ones bytes → Leads Q twos bytes → (ones ≡ twos) × ((last : List ℕ) × P last × Q last)
-leads_once P Q no_p no_q [] [] bytes first second = (refl, (bytes, first, second))
-leads_once P Q no_p no_q [] (b ∷ twos) bytes first second = absurd (no_p bytes first b (Leads Q twos) second)
-leads_once P Q no_p no_q (a ∷ ones) [] bytes first second = absurd (no_q bytes second a (Leads P ones) first)
-leads_once P Q no_p no_q (a ∷ ones) (b ∷ twos) bytes first second =
-    let both = frames_are a b (Leads P ones) (Leads Q twos) bytes first second in
-    let others = leads_once P Q no_p no_q ones twos (first.next ∷ first.rest) first.behind (subst (Leads Q twos) (sym both.1) second.behind) in
+pub frames_once : (P Q : List ℕ → Type 0) → HasNoFrames P → HasNoFrames Q → (ones twos : List (List ℕ)) (bytes : List ℕ)
+    → FramesTo P ones bytes → FramesTo Q twos bytes → (ones ≡ twos) × ((last : List ℕ) × P last × Q last)
+frames_once P Q no_p no_q [] [] bytes first second = (refl, (bytes, first, second))
+frames_once P Q no_p no_q [] (b ∷ twos) bytes first second = absurd (no_p bytes first b (FramesTo Q twos) second)
+frames_once P Q no_p no_q (a ∷ ones) [] bytes first second = absurd (no_q bytes second a (FramesTo P ones) first)
+frames_once P Q no_p no_q (a ∷ ones) (b ∷ twos) bytes first second =
+    let both = frames_are a b (FramesTo P ones) (FramesTo Q twos) bytes first second in
+    let others = frames_once P Q no_p no_q ones twos (first.next ∷ first.rest) first.behind (subst (FramesTo Q twos) (sym both.1) second.behind) in
     (ap (λ (l : List (List ℕ)). a ∷ l) others.0 ∙ ap (λ (x : List ℕ). x ∷ twos) both.0, others.1)
 
 module _ (format format_2 epoch epoch_2 : ℕ) (image rest rest_2 : List ℕ) (known : IsKnown format epoch) (known_2 : IsKnown format_2 epoch_2) (spells : image ≡ head_of format epoch ++ rest) (spells_2 : image ≡ head_of format_2 epoch_2 ++ rest_2) where
@@ -46,9 +46,9 @@ module _ (format format_2 epoch epoch_2 : ℕ) (image rest rest_2 : List ℕ) (k
   one_head = heads_are format format_2 epoch epoch_2 rest rest_2 known known_2 (sym spells ∙ spells_2)
 
   -- and so are the records behind it
-  one_list : (P Q : List ℕ → Type 0) → HasNoFrames P → HasNoFrames Q → (ones twos : List (List ℕ)) → Leads P ones rest → Leads Q twos rest_2
+  one_list : (P Q : List ℕ → Type 0) → HasNoFrames P → HasNoFrames Q → (ones twos : List (List ℕ)) → FramesTo P ones rest → FramesTo Q twos rest_2
       → (ones ≡ twos) × ((last : List ℕ) × P last × Q last)
-  one_list P Q no_p no_q ones twos first second = leads_once P Q no_p no_q ones twos rest first (subst (Leads Q twos) (sym one_head.2) second)
+  one_list P Q no_p no_q ones twos first second = frames_once P Q no_p no_q ones twos rest first (subst (FramesTo Q twos) (sym one_head.2) second)
 
 pub stands_once_lem : StandsOnce
 stands_once_lem format format_2 epoch epoch_2 ones twos image first second =

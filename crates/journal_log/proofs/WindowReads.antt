@@ -2,9 +2,9 @@
 use Rattle.std.proofs.Common.{◌≡◌, ℕ, ◌+◌, ◌≤◌, List, ◌++◌, length, take, drop, sym, ◌∙◌, ap}
 use Rattle.std.proofs.lemmas.List.{take_at, take-take, drop-take, drop-drop}
 
--- a read to the front of a buffer
-pub front_is : (into rest from : List ℕ) (len : ℕ) → length into ≡ len → into ≡ take len from → take len (into ++ rest) ≡ take len from
-front_is into rest from len size is = take_at into rest len size ∙ is
+-- a read to the prefix of a buffer
+pub prefix_is : (into rest from : List ℕ) (len : ℕ) → length into ≡ len → into ≡ take len from → take len (into ++ rest) ≡ take len from
+prefix_is into rest from len size is = take_at into rest len size ∙ is
 
 -- a part of the buffer is that part of the disk
 pub part_is : (buffer disk : List ℕ) (filled from start n at : ℕ) → take filled buffer ≡ take filled (drop from disk) → start + n ≤ filled → at ≡ from + start

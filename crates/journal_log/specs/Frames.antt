@@ -14,17 +14,18 @@ framed_of body = sized body ++ 0 ∷ []
 abbrev pub frame_len : List ℕ → ℕ
 frame_len body = 9 + length body
 
--- these records, each behind a gate 1
+-- these records, each after a gate 1
 abbrev pub opened : List (List ℕ) → List ℕ
 opened [] = []
 opened (body ∷ others) = (1 ∷ sized body) ++ opened others
 
--- a gate 0 stands at the front, whatever follows
+-- they begin with a gate 0, whatever follows
 abbrev pub IsEnd : List ℕ → Type 0
 IsEnd bytes = (rest : List ℕ) × (bytes ≡ 0 ∷ rest)
 
--- An open gate stands at the front, and behind it a whole record: its length, this body, the next gate. Where the
--- gate is another byte than 1, the next gate is 0. From the next gate on, the bytes have Behind.
+-- They begin with an open gate, and after it a whole record: its length, this body, the next gate.
+-- Where the gate is another byte than 1, the next gate is 0. From the next gate on, the bytes have
+-- Behind.
 pub record IsFrame (body : List ℕ) (Behind : List ℕ → Type 0) (bytes : List ℕ) : Type 0 where
   pub gate : ℕ
   pub next : ℕ
@@ -35,11 +36,11 @@ pub record IsFrame (body : List ℕ) (Behind : List ℕ → Type 0) (bytes : Lis
   pub short : length body < 2 ^ 64
   pub behind : Behind (next ∷ rest)
 
--- the gate at the front has no whole frame: there is no gate, or its record isn't whole
+-- the gate that they begin with has no whole frame: there is no gate, or its record isn't whole
 abbrev pub IsBroken : List ℕ → Type 0
 IsBroken bytes = (IsEnd bytes → ⊥) × ((body : List ℕ) → IsFrame body (λ _. Unit {0}) bytes → ⊥)
 
--- whole frames of these records, one behind the other, and then bytes that have Last
-abbrev pub Leads : (List ℕ → Type 0) → List (List ℕ) → List ℕ → Type 0
-Leads Last [] bytes = Last bytes
-Leads Last (body ∷ others) bytes = IsFrame body (Leads Last others) bytes
+-- whole frames of these records, one after the other, and then bytes that have Last
+abbrev pub FramesTo : (List ℕ → Type 0) → List (List ℕ) → List ℕ → Type 0
+FramesTo Last [] bytes = Last bytes
+FramesTo Last (body ∷ others) bytes = IsFrame body (FramesTo Last others) bytes

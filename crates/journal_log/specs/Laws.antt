@@ -1,5 +1,9 @@
 -- That an image is read in one way.
-use Rattle.std.specs.Prelude.{◌≡◌, ℕ, List}
+use Rattle.std.specs.Prelude.{◌≡◌, ◌⊎◌, ◌<◌, ◌≤◌, ◌^◌, ℕ, List, [], ◌∷◌, length}
+use Rattle.journal_log.specs.Classes.{HasClass}
+use Rattle.journal_log.specs.Renewing.{IsNew}
+use Rattle.journal_log.specs.declared.class.DiskClass.{DiskClass}
+use Rattle.journal_log.specs.declared.class.DiskClass.TheVariants.{Closed, Open}
 use Rattle.journal_log.specs.Images.{Stands, IsDamaged}
 
 -- an image stands for one list of records at most, of one format and epoch
@@ -14,4 +18,20 @@ DamagedOnce = (at at_2 : ℕ) (image : List ℕ) → IsDamaged at image → IsDa
 
 -- and one that stands for records isn't damaged
 abbrev pub StandsOrDamaged : Type 0
-StandsOrDamaged = (format epoch at : ℕ) (bodies : List (List ℕ)) (image : List ℕ) → Stands format epoch bodies image → IsDamaged at image → ⊥
+StandsOrDamaged = (format epoch at : ℕ) (bodies : List (List ℕ)) (image : List ℕ)
+    → Stands format epoch bodies image → IsDamaged at image → ⊥
+
+-- an image has one class at most
+abbrev pub OneClass : Type 0
+OneClass = (a b : DiskClass) (image : List ℕ) → HasClass a image → HasClass b image → a ≡ b
+
+-- and one at least
+abbrev pub HasSomeClass : Type 0
+HasSomeClass = (image : List ℕ) → (class : DiskClass) × HasClass class image
+
+-- A new head and the new record after any first gate: the disk is closed, or open with that epoch,
+-- and stands for that record alone.
+abbrev pub NewIsClosedOrOpen : Type 0
+NewIsClosedOrOpen = (epoch : ℕ) (body image : List ℕ) → epoch ≤ 2 ^ 63 → length body < 2 ^ 64
+    → IsNew epoch body image
+    → HasClass Closed image ⊎ (HasClass (Open epoch) image × Stands 2 epoch (body ∷ []) image)

@@ -1,15 +1,17 @@
 pub mod Frames
 pub mod Heads
 pub mod Images
-pub mod Laws
-pub mod Held
-pub mod Parts
 pub mod Gates
-pub mod Resting
-pub mod Reading
-pub mod Scanning
-pub mod Causes
-pub mod Walking
+pub mod JournalState
+pub mod CleanJournal
 pub mod Opening
 pub mod Writes
 pub mod Renewing
+pub mod Classes
+pub mod Causes
+pub mod Laws
+-- internal: cited by private clauses alone
+pub mod Reading
+pub mod Scanning
+pub mod Walking
+pub mod FirstGates

@@ -1,19 +1,26 @@
 -- What a crash leaves while a journal is opened.
-use Rattle.std.specs.Prelude.{◌⊎◌, ℕ, List, [], ◌∷◌, ◌++◌}
+use Rattle.std.specs.Prelude.{◌≢◌, ◌⊎◌, ℕ, List, [], ◌∷◌, ◌++◌}
+use Rattle.journal_log.specs.Frames.{framed_of, opened}
+use Rattle.journal_log.specs.Heads.{head_of}
+use Rattle.journal_log.specs.Gates.{IsGated}
 use Rattle.journal_log.specs.Images.{Stands, IsEither}
 
--- One of these images stood for some records and one more, and this one stands for them, with that one or without: the
--- gate of the last record is being written.
-pub record IsMending (images : List ℕ → Type 0) (image : List ℕ) : Type 0 where
+-- One of these crash images stands for some records and one more, whose gate is torn: neither 0 nor
+-- 1. This image stands for the same, with that record or without: the torn gate is being written.
+-- No other gate is.
+pub record IsNormalizing (images : List ℕ → Type 0) (image : List ℕ) : Type 0 where
   pub from : List ℕ
   pub was : images from
   pub format : ℕ
   pub epoch : ℕ
   pub bodies : List (List ℕ)
   pub body : List ℕ
+  pub gate : ℕ
+  pub torn : (gate ≢ 0) × (gate ≢ 1)
+  pub gated : IsGated (head_of format epoch ++ opened bodies) gate (framed_of body) from
   pub stood : Stands format epoch (bodies ++ body ∷ []) from
   pub stands : IsEither format epoch bodies body image
 
 -- it is one of these images, or one whose last gate is being written
 abbrev pub IsWhileOpened : (List ℕ → Type 0) → List ℕ → Type 0
-IsWhileOpened images image = images image ⊎ IsMending images image
+IsWhileOpened images image = images image ⊎ IsNormalizing images image

@@ -1,27 +1,31 @@
 -- What a crash leaves while a journal is begun anew on a disk that has been used.
-use Rattle.std.specs.Prelude.{◌⊎◌, ◌<◌, ◌≤◌, ℕ, List, length}
-use Rattle.pod_disk.specs.Disk.{Torn}
+use Rattle.std.specs.Prelude.{◌≡◌, ◌⊎◌, ℕ, List, ◌∷◌, ◌++◌, length}
 use Rattle.journal_log.specs.Frames.{framed_of}
 use Rattle.journal_log.specs.Heads.{head_of}
-use Rattle.journal_log.specs.Gates.{IsShut, IsOpening}
-use Rattle.journal_log.specs.declared.renewal.FirstGate.{FirstGate}
-use Rattle.journal_log.specs.declared.renewal.FirstGate.TheVariants.{Missing, Closed, Open}
+use Rattle.journal_log.specs.Gates.{IsFirstGateClosed, IsOpening}
 
--- what was read of the first gate
-abbrev pub IsFirstGate : FirstGate → List ℕ → Type 0
-IsFirstGate Missing disk = length disk < 17
-IsFirstGate Closed disk = IsShut disk
-IsFirstGate Open disk = (17 ≤ length disk) × (IsShut disk → ⊥)
+-- the same bytes but for the first gate, which may be another
+pub record IsGateChanged (from image : List ℕ) : Type 0 where
+  pub head : List ℕ
+  pub rest : List ℕ
+  pub before : ℕ
+  pub after : ℕ
+  pub whole : length head ≡ 16
+  pub was : from ≡ head ++ (before ∷ rest)
+  pub is : image ≡ head ++ (after ∷ rest)
 
--- one of these images whose first gate isn't 0, with any byte there: that gate is being closed
+-- one of these crash images whose first gate isn't 0, with any byte there: that gate is being
+-- closed
 abbrev pub IsClosing : (List ℕ → Type 0) → List ℕ → Type 0
-IsClosing images image = (from : List ℕ) × images from × (IsShut from → ⊥) × Torn 16 1 from image
+IsClosing images image = (from : List ℕ) × images from × (IsFirstGateClosed from → ⊥)
+    × IsGateChanged from image
 
--- before the first gate is opened: one of these images, or one whose first gate is being closed, or one whose first gate is 0
+-- before the first gate is opened: one of these images, or one whose first gate is being closed, or
+-- one whose first gate is 0
 abbrev pub IsBeforeOpening : (List ℕ → Type 0) → List ℕ → Type 0
-IsBeforeOpening images image = images image ⊎ (IsClosing images image ⊎ IsShut image)
+IsBeforeOpening images image = images image ⊎ (IsClosing images image ⊎ IsFirstGateClosed image)
 
--- the new head, any first gate, and behind it the new record with a closed gate
+-- the new head, any first gate, and after it the new record with a closed gate
 abbrev pub IsNew : ℕ → List ℕ → List ℕ → Type 0
 IsNew epoch body image = IsOpening (head_of 2 epoch) (framed_of body) image
 

@@ -7,11 +7,11 @@ use Rattle.journal_log.specs.declared.scan.Start.TheVariants as start
 use Rattle.journal_log.specs.declared.scan.Frame.{Frame}
 use Rattle.journal_log.specs.declared.scan.Frame.TheVariants as frame
 
--- this byte stands there
+-- this byte is there
 abbrev pub IsByteAt : ℕ → List ℕ → ℕ → Type 0
 IsByteAt at bytes byte = drop at bytes ≡ byte ∷ drop (at + 1) bytes
 
--- what the gate and the eight bytes behind it say
+-- what the gate and the eight bytes after it say
 abbrev pub IsStart : Start → List ℕ → Type 0
 IsStart start.End bytes = IsEnd bytes
 IsStart (start.Open gate len) bytes = bytes ≡ gate ∷ (to_be_bytes w64 len ++ drop 9 bytes)
@@ -23,7 +23,7 @@ StartFits at size start.End = Unit {0}
 StartFits at size (start.Open gate len) = (gate ≢ 0) × (at + len + 10 ≤ size)
 StartFits at size start.Broken = Unit {0}
 
--- a gate, and behind it a whole record
+-- a gate, and after it a whole record
 pub record IsRecord (gate : ℕ) (body : List ℕ) (bytes : List ℕ) : Type 0 where
   pub next : ℕ
   pub rest : List ℕ

@@ -4,7 +4,7 @@ ghost use Rattle.std.specs.Prelude.{◌≡◌, ◌+◌, ◌-◌, ◌<◌, ◌≤
 ghost use Rattle.std.specs.Int.{to_be_bytes, w64};
 ghost use Rattle.pod_io.specs.Counts.{Counts};
 ghost use Rattle.pod_io.specs.Told.{IfTold};
-ghost use Rattle.journal_log.specs.Reading.{Quiet, IsShown, Keeps};
+ghost use Rattle.journal_log.specs.Reading.{OnlyReads, WindowShows, ReadKeeps};
 
 use crate::window::Window;
 use pod_base::Mem;
@@ -19,7 +19,8 @@ impl Window {
     /// An empty window on a disk of this length.
     pub fn new(alloc: Global, size: u64) -> Mem<Window>
         ensures size { IfOk result (λ window. window.size ≡ size) }
-        ensures shown { IfOk result (λ window. (disk : List ℕ) → length disk ≡ size → IsShown window disk) }
+        ensures shown { IfOk result (λ window. (disk : List ℕ) → length disk ≡ size
+            → WindowShows window disk) }
     {
         let buffer = vec![in alloc; 0u8; WINDOW]?;
         Ok(Window {
@@ -34,15 +35,16 @@ impl Window {
     fn fill<D: Disk>(&mut self, disk: &mut D, at: u64) -> Result<(), Failed>
         requires within { at ≤ self.old.size }
         requires size { IfTold (D.content disk.old) (λ b. length b ≡ self.old.size) }
-        ensures quiet { Quiet D.image D.moment D.left_since disk.old disk.new }
-        ensures kept { OnOk result (Keeps (D.content disk.old) (D.content disk.new) self.old self.new) }
+        ensures only_reads { OnlyReads D.image D.moment D.left_since disk.old disk.new }
+        ensures kept { OnOk result
+            (ReadKeeps (D.content disk.old) (D.content disk.new) self.old self.new) }
         ensures at { OnOk result (self.new.at ≡ at) }
         ensures filled { OnOk result (self.new.filled ≡ min (self.old.size - at) 65536) }
         ensures faults { Counts result (D.faults disk.old) (D.faults disk.new) }
     {
         let len = (self.size - at).min(WINDOW as u64) as usize;
         self.filled = 0;
-        read_front(disk, at, &mut self.buffer, len)?;
+        read_prefix(disk, at, &mut self.buffer, len)?;
         self.at = at;
         self.filled = len;
         Ok(())
@@ -52,9 +54,10 @@ impl Window {
     fn hold<D: Disk>(&mut self, disk: &mut D, at: u64, len: usize) -> Result<(), Failed>
         requires small { len ≤ 65536 }
         requires within { at + len ≤ self.old.size }
-        requires shown { IfTold (D.content disk.old) (IsShown self.old) }
-        ensures quiet { Quiet D.image D.moment D.left_since disk.old disk.new }
-        ensures kept { OnOk result (Keeps (D.content disk.old) (D.content disk.new) self.old self.new) }
+        requires shown { IfTold (D.content disk.old) (WindowShows self.old) }
+        ensures only_reads { OnlyReads D.image D.moment D.left_since disk.old disk.new }
+        ensures kept { OnOk result
+            (ReadKeeps (D.content disk.old) (D.content disk.new) self.old self.new) }
         ensures from { OnOk result (self.new.at ≤ at) }
         ensures to { OnOk result (at + len ≤ self.new.at + self.new.filled) }
         ensures faults { Counts result (D.faults disk.old) (D.faults disk.new) }
@@ -69,7 +72,8 @@ impl Window {
     fn give(&self, at: u64, into: &mut [u8])
         requires from { self.now.at ≤ at }
         requires to { at + length into.old ≤ self.now.at + self.now.filled }
-        ensures { (disk : List ℕ) → IsShown self.now disk → into.new ≡ take (length into.old) (drop at disk) }
+        ensures { (disk : List ℕ) → WindowShows self.now disk
+            → into.new ≡ take (length into.old) (drop at disk) }
     {
         let start = (at - self.at) as usize;
         into.copy_from_slice(&self.buffer[start..start + into.len()]);
@@ -78,10 +82,12 @@ impl Window {
     /// Reads as many bytes as `into` has, from the offset `at` on.
     pub fn read<D: Disk>(&mut self, disk: &mut D, at: u64, into: &mut [u8]) -> Result<(), Failed>
         requires within { at + length into.old ≤ self.old.size }
-        requires shown { IfTold (D.content disk.old) (IsShown self.old) }
-        ensures quiet { Quiet D.image D.moment D.left_since disk.old disk.new }
-        ensures kept { OnOk result (Keeps (D.content disk.old) (D.content disk.new) self.old self.new) }
-        ensures bytes { OnOk result (IfTold (D.content disk.old) (λ b. into.new ≡ take (length into.old) (drop at b))) }
+        requires shown { IfTold (D.content disk.old) (WindowShows self.old) }
+        ensures only_reads { OnlyReads D.image D.moment D.left_since disk.old disk.new }
+        ensures kept { OnOk result
+            (ReadKeeps (D.content disk.old) (D.content disk.new) self.old self.new) }
+        ensures bytes { OnOk result
+            (IfTold (D.content disk.old) (λ b. into.new ≡ take (length into.old) (drop at b))) }
         ensures faults { Counts result (D.faults disk.old) (D.faults disk.new) }
     {
         if into.len() > WINDOW {
@@ -93,13 +99,14 @@ impl Window {
     }
 }
 
-// Reads that many bytes to the front of the buffer.
-fn read_front<D: Disk>(disk: &mut D, at: u64, buffer: &mut [u8], len: usize) -> Result<(), Failed>
+// Reads that many bytes to the prefix of the buffer.
+fn read_prefix<D: Disk>(disk: &mut D, at: u64, buffer: &mut [u8], len: usize) -> Result<(), Failed>
     requires room { len ≤ length buffer.old }
     requires within { IfTold (D.content disk.old) (λ b. at + len ≤ length b) }
-    ensures quiet { Quiet D.image D.moment D.left_since disk.old disk.new }
+    ensures only_reads { OnlyReads D.image D.moment D.left_since disk.old disk.new }
     ensures content { OnOk result (D.content disk.new ≡ D.content disk.old) }
-    ensures bytes { OnOk result (IfTold (D.content disk.old) (λ b. take len buffer.new ≡ take len (drop at b))) }
+    ensures bytes { OnOk result
+        (IfTold (D.content disk.old) (λ b. take len buffer.new ≡ take len (drop at b))) }
     ensures faults { Counts result (D.faults disk.old) (D.faults disk.new) }
 {
     disk.read(at, &mut buffer[..len])

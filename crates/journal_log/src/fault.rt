@@ -1,16 +1,29 @@
+//! Why a call of a journal failed.
+
 ghost use Rattle.std.specs.Prelude.{◌≡◌};
 ghost use Rattle.journal_log.specs.declared.fault.OpenFault.TheVariants as open_fault;
 
 use pod_base::NoMemory;
 use pod_io::Failed;
 use std::alloc::AllocError;
+use std::fmt;
+use std::fmt::Formatter;
 use thiserror::Error;
 
-/// Which of two disks a journal lies on.
+/// Which of two disks a journal lies on. It prints as `first` or `second`.
 #[derive(Clone, Copy, Debug, PartialEq, Eq)]
 pub enum Side {
     First,
     Second,
+}
+
+impl fmt::Display for Side {
+    fn fmt<W: fmt::Write>(&self, f: &mut Formatter<W>) -> fmt::Result {
+        match self {
+            Side::First => f.write_str("first"),
+            Side::Second => f.write_str("second"),
+        }
+    }
 }
 
 /// Why a journal wasn't opened.
@@ -19,8 +32,9 @@ pub enum OpenFault {
     /// The disk holds nothing.
     #[error("the disk is empty")]
     Empty,
-    /// No right head stands at 0, or the gate at this offset is the first whose frame isn't whole.
-    #[error("damaged")]
+    /// The disk has no right head, and the offset is 0, or the gate at this offset is the first
+    /// whose frame isn't whole.
+    #[error("damaged {side} {at}")]
     Damaged { side: Side, at: u64 },
     /// A call of the disk failed.
     #[error("the disk failed")]
@@ -40,7 +54,7 @@ pub enum RenewFault {
     /// The new journal isn't open.
     #[error("the disk failed before the first gate was opened")]
     Closed,
-    /// The first gate may hold any byte, and the whole record stands behind it.
+    /// The first gate may hold any byte, and the whole record is after it.
     #[error("the disk failed while the first gate was opened")]
     InDoubt,
 }

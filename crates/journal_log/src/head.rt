@@ -1,8 +1,10 @@
+//! The head of a journal: its format and its epoch in sixteen bytes.
+
 ghost use Rattle.std.specs.Prelude.{◌≡◌, ◌≢◌, ◌⊎◌, ◌≤◌, ◌<◌, ◌^◌, ◌++◌, ◌∷◌, [], List, ℕ, length, IfSome, IfNone, IsTrue};
 ghost use Rattle.std.specs.Int.{to_be_bytes, w64};
 ghost use Rattle.journal_log.specs.Heads.{mark_of, head_of, IsKnown, NoHead};
 
-/// What a right head says: the format, 1 or 2, and the epoch.
+/// What a right head has: the format, 1 or 2, and the epoch, at most [`EPOCH_LIMIT`].
 #[derive(Clone, Copy, Debug, PartialEq, Eq)]
 pub struct Head {
     pub format: u8,
@@ -10,12 +12,13 @@ pub struct Head {
 }
 
 /// The greatest epoch. A journal of format 1 has a lesser one, so that a checkpoint can follow it.
-const LAST_EPOCH: u64 = 1 << 63;
+pub const EPOCH_LIMIT: u64 = 1 << 63;
 
 impl Head {
-    /// The right head at the front of the bytes.
+    /// The right head that the bytes begin with.
     pub fn read(bytes: &[u8]) -> Option<Head>
-        ensures found { IfSome result (λ head. (rest : List ℕ) × (bytes.now ≡ head_of head.format head.epoch ++ rest)) }
+        ensures found { IfSome result (λ head. (rest : List ℕ)
+            × (bytes.now ≡ head_of head.format head.epoch ++ rest)) }
         ensures known { IfSome result (λ head. IsKnown head.format head.epoch) }
         ensures none { IfNone result (NoHead bytes.now) }
     {
@@ -53,9 +56,9 @@ fn is_known(format: u8, epoch: u64) -> bool
     ensures no { IsKnown format epoch → IsTrue result }
 {
     if format == 1 {
-        epoch < LAST_EPOCH
+        epoch < EPOCH_LIMIT
     } else {
-        epoch <= LAST_EPOCH
+        epoch <= EPOCH_LIMIT
     }
 }
 
@@ -69,7 +72,18 @@ pub fn number(bytes: &[u8]) -> u64
     ])
 }
 
-/// The head of a journal of format 2 and this epoch, and this first gate.
+/// The head of a journal of format 2 and this epoch.
+pub fn head_bytes(epoch: u64) -> [u8; 16]
+    ensures { result ≡ head_of 2 epoch }
+{
+    let e = epoch.to_be_bytes();
+    [
+        b'P', b'O', b'D', b'J', b'R', b'N', b'L', b'2', e[0], e[1], e[2], e[3], e[4], e[5], e[6],
+        e[7],
+    ]
+}
+
+/// The same head, and this first gate.
 pub fn head_and_gate(epoch: u64, gate: u8) -> [u8; 17]
     ensures { result ≡ head_of 2 epoch ++ gate ∷ [] }
 {

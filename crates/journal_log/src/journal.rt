@@ -1,10 +1,12 @@
+//! A journal: its position on its disk, and the calls that add and repair.
+
 ghost use Rattle.std.specs.Prelude.{◌≡◌, ◌≢◌, ◌⊎◌, ◌+◌, ◌<◌, ◌≤◌, ◌^◌, ◌++◌, ◌∷◌, [], List, ℕ, length, OnOk, OnErr, true, false};
 ghost use Rattle.pod_io.specs.Counts.{Counts};
 ghost use Rattle.pod_disk.specs.Disk.{LeavesOnly};
 ghost use Rattle.journal_log.specs.Heads.{IsKnown};
-ghost use Rattle.journal_log.specs.Walking.{held_at};
+ghost use Rattle.journal_log.specs.Walking.{state_at};
 ghost use Rattle.journal_log.specs.Images.{IsEither};
-ghost use Rattle.journal_log.specs.Resting.{Rests, Doubts, RestsOrDoubts};
+ghost use Rattle.journal_log.specs.CleanJournal.{IsClean, IsInDoubt, IsCleanOrInDoubt};
 
 use crate::fault::DiskFault;
 use crate::framed::Framed;
@@ -13,11 +15,11 @@ use crate::writes::write_through;
 use pod_disk::Disk;
 use std::marker::Model;
 
-/// The place of a journal on its disk: where its last gate stands, and whether that gate is in doubt. The disk is
-/// passed to each call.
+/// The position of a journal on its disk: the offset of its last gate, and whether that gate is in
+/// doubt. The disk is passed to each call.
 ///
-/// Contracts see the offset of its last gate, whether that gate is in doubt, the format and the epoch (`Held`), and
-/// say by `Rests` and `Doubts` how these fit the images of a disk.
+/// Contracts see the offset of its last gate, whether that gate is in doubt, the format and the
+/// epoch (`JournalState`), and say by `IsClean` and `IsInDoubt` how these fit the images of a disk.
 #[derive(Drop)]
 pub struct Journal {
     // The offset of the last gate.
@@ -29,10 +31,10 @@ pub struct Journal {
 
 impl Model for Journal {
     ghost use Rattle.std.specs.Prelude.{◌<◌, ◌^◌};
-    ghost use Rattle.journal_log.specs.Held.{Held};
+    ghost use Rattle.journal_log.specs.JournalState.{JournalState};
     ghost use Rattle.journal_log.specs.Heads.{IsKnown};
 
-    ghost Value = { Held };
+    ghost Value = { JournalState };
 
     ghost view = { λ j. record { end = j.end; doubt = j.doubt; format = j.format; epoch = j.epoch } };
 
@@ -41,10 +43,10 @@ impl Model for Journal {
 
 impl Journal {
     // The journal with this head whose last gate, at this offset, is closed.
-    pub(crate) fn at_rest(head: Head, end: u64) -> Journal
+    pub(crate) fn new_clean(head: Head, end: u64) -> Journal
         requires known { IsKnown head.format head.epoch }
         requires room { end < 2 ^ 63 }
-        ensures { result ≡ held_at head end }
+        ensures { result ≡ state_at head end }
     {
         Journal {
             end,
@@ -54,7 +56,8 @@ impl Journal {
         }
     }
 
-    /// The format of this journal: 1 or 2. Format 2 is the one that is written, and format 1 is an old one.
+    /// The format of this journal: 1 or 2. Format 2 is the one that is written, and format 1 is an
+    /// old one.
     pub fn format(&self) -> u8
         ensures format { result ≡ self.now.format }
         ensures known { (result ≡ 1) ⊎ (result ≡ 2) }
@@ -62,7 +65,8 @@ impl Journal {
         self.format
     }
 
-    /// The epoch of this journal: at most 2^63. Of two journals the one with the greater epoch is newer.
+    /// The epoch of this journal: at most 2^63. Of two journals the one with the greater epoch is
+    /// newer.
     pub fn epoch(&self) -> u64
         ensures epoch { result ≡ self.now.epoch }
         ensures most { result ≤ 2 ^ 63 }
@@ -77,8 +81,8 @@ impl Journal {
         self.end + 1
     }
 
-    /// Whether the last gate may stand open though its record isn't to count. Then [`repair`](Journal::repair) has to
-    /// close it before anything else.
+    /// Whether the last gate may be open though its record isn't to count. Then
+    /// [`repair`](Journal::repair) has to close it before anything else.
     pub fn needs_repair(&self) -> bool
         ensures { result ≡ self.now.doubt }
     {
@@ -86,18 +90,22 @@ impl Journal {
         *doubt
     }
 
-    /// Adds a record, by four calls of the disk: the record with a closed gate behind it, a sync, a 1 at the gate before it,
-    /// a sync. At each moment every image of the disk stands for the records from before the call, with the new one or
-    /// without, and at `Ok` for those with the new one. After an `Err` the journal is at rest as before, or its last gate
-    /// is in doubt; [`needs_repair`](Journal::needs_repair) says which. The journal is at rest before the call.
+    /// Adds a record, by four calls of the disk: the record with a closed gate after it, a sync, a
+    /// 1 at the gate before it, a sync. At each moment every crash image of the disk stands for the
+    /// records from before the call, with the new one or without, and at `Ok` for those with the
+    /// new one. After an `Err` the journal is clean as before, or its last gate is in doubt;
+    /// [`needs_repair`](Journal::needs_repair) says which. The journal is clean before the call.
     pub fn append<D: Disk>(&mut self, disk: &mut D, framed: &Framed) -> Result<(), DiskFault>
-        requires { (bodies : List (List ℕ)) × Rests (D.image disk.old) self.old bodies }
-        ensures moments { (bodies : List (List ℕ)) → Rests (D.image disk.old) self.old bodies
-            → LeavesOnly D.moment D.left_since disk.old disk.new (IsEither self.old.format self.old.epoch bodies framed.now) }
-        ensures appended { OnOk result ((bodies : List (List ℕ)) → Rests (D.image disk.old) self.old bodies
-            → Rests (D.image disk.new) self.new (bodies ++ framed.now ∷ [])) }
-        ensures fault { OnErr result ((bodies : List (List ℕ)) → Rests (D.image disk.old) self.old bodies
-            → RestsOrDoubts (D.image disk.new) self.new bodies framed.now) }
+        requires { (bodies : List (List ℕ)) × IsClean (D.image disk.old) self.old bodies }
+        ensures moments { (bodies : List (List ℕ)) → IsClean (D.image disk.old) self.old bodies
+            → LeavesOnly D.moment D.left_since disk.old disk.new
+            (IsEither self.old.format self.old.epoch bodies framed.now) }
+        ensures appended { OnOk result ((bodies : List (List ℕ))
+            → IsClean (D.image disk.old) self.old bodies
+            → IsClean (D.image disk.new) self.new (bodies ++ framed.now ∷ [])) }
+        ensures fault { OnErr result ((bodies : List (List ℕ))
+            → IsClean (D.image disk.old) self.old bodies
+            → IsCleanOrInDoubt (D.image disk.new) self.new bodies framed.now) }
         ensures faults { Counts result (D.faults disk.old) (D.faults disk.new) }
     {
         write_through(disk, self.end + 1, framed.bytes())?;
@@ -108,16 +116,22 @@ impl Journal {
         Ok(())
     }
 
-    /// Closes the gate that is in doubt: writes 0 there, and syncs. At each moment every image of the disk stands for the
-    /// records of the journal, with the one behind that gate or without, and at `Ok` for those without.
+    /// Closes the gate that is in doubt: writes 0 there, and syncs. At each moment every crash
+    /// image of the disk stands for the records of the journal, with the one after that gate or
+    /// without, and at `Ok` for those without.
     pub fn repair<D: Disk>(&mut self, disk: &mut D) -> Result<(), DiskFault>
-        requires { (bodies : List (List ℕ)) × (body : List ℕ) × Doubts (D.image disk.old) self.old bodies body }
-        ensures moments { (bodies : List (List ℕ)) (body : List ℕ) → Doubts (D.image disk.old) self.old bodies body
-            → LeavesOnly D.moment D.left_since disk.old disk.new (IsEither self.old.format self.old.epoch bodies body) }
-        ensures repaired { OnOk result ((bodies : List (List ℕ)) (body : List ℕ) → Doubts (D.image disk.old) self.old bodies body
-            → Rests (D.image disk.new) self.new bodies) }
-        ensures fault { OnErr result ((bodies : List (List ℕ)) (body : List ℕ) → Doubts (D.image disk.old) self.old bodies body
-            → Doubts (D.image disk.new) self.new bodies body) }
+        requires { (bodies : List (List ℕ)) × (body : List ℕ)
+            × IsInDoubt (D.image disk.old) self.old bodies body }
+        ensures moments { (bodies : List (List ℕ)) (body : List ℕ)
+            → IsInDoubt (D.image disk.old) self.old bodies body
+            → LeavesOnly D.moment D.left_since disk.old disk.new
+            (IsEither self.old.format self.old.epoch bodies body) }
+        ensures repaired { OnOk result ((bodies : List (List ℕ)) (body : List ℕ)
+            → IsInDoubt (D.image disk.old) self.old bodies body
+            → IsClean (D.image disk.new) self.new bodies) }
+        ensures fault { OnErr result ((bodies : List (List ℕ)) (body : List ℕ)
+            → IsInDoubt (D.image disk.old) self.old bodies body
+            → IsInDoubt (D.image disk.new) self.new bodies body) }
         ensures faults { Counts result (D.faults disk.old) (D.faults disk.new) }
     {
         write_through(disk, self.end, &[0])?;

@@ -1,18 +1,57 @@
-//! Laws of images. Each is the contract of a function that does nothing.
+//! Laws of crash images. Each is the contract of a function that does nothing.
 
-ghost use Rattle.journal_log.specs.Laws.{StandsOnce, DamagedOnce, StandsOrDamaged};
+ghost use Rattle.std.specs.Prelude.{List, ℕ};
+ghost use Rattle.pod_disk.specs.Disk.{EachImage};
+ghost use Rattle.journal_log.specs.Images.{Stands, IsEither};
+ghost use Rattle.journal_log.specs.CleanJournal.{IsClean, IsInDoubt};
+ghost use Rattle.journal_log.specs.Laws.{StandsOnce, DamagedOnce, StandsOrDamaged, OneClass, HasSomeClass, NewIsClosedOrOpen};
 
-/// An image stands for one list of records at most.
+use crate::journal::Journal;
+use pod_disk::Disk;
+
+/// A crash image stands for one list of records at most.
 pub fn stands_once()
     ensures { StandsOnce }
 {}
 
-/// An image is damaged at one place at most.
+/// A crash image is damaged at one place at most.
 pub fn damaged_once()
     ensures { DamagedOnce }
 {}
 
-/// An image that stands for records isn't damaged.
+/// A crash image that stands for records isn't damaged.
 pub fn stands_or_damaged()
     ensures { StandsOrDamaged }
 {}
+
+/// A crash image has at most one class.
+pub fn one_class()
+    ensures { OneClass }
+{}
+
+/// A crash image has a class.
+pub fn some_class()
+    ensures { HasSomeClass }
+{}
+
+/// A new head and the new record after any first gate: the disk is closed, or open with that epoch
+/// and that record alone.
+pub fn new_is_closed_or_open()
+    ensures { NewIsClosedOrOpen }
+{}
+
+impl Journal {
+    /// Every crash image of a clean journal's disk stands for exactly its records.
+    pub fn clean_stands<D: Disk>(&self, _disk: &D)
+        ensures { (bodies : List (List ℕ)) → IsClean (D.image _disk.now) self.now bodies
+            → EachImage (D.image _disk.now) (Stands self.now.format self.now.epoch bodies) }
+    {}
+
+    /// Every crash image of an in-doubt journal's disk stands for its records, with the one in
+    /// doubt or without.
+    pub fn in_doubt_stands<D: Disk>(&self, _disk: &D)
+        ensures { (bodies : List (List ℕ)) (body : List ℕ)
+            → IsInDoubt (D.image _disk.now) self.now bodies body
+            → EachImage (D.image _disk.now) (IsEither self.now.format self.now.epoch bodies body) }
+    {}
+}

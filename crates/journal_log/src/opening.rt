@@ -1,12 +1,14 @@
+//! Opening a journal: reading its records and mending a torn last gate.
+
 ghost use Rattle.std.specs.Prelude.{◌≡◌, ◌≤◌, ◌<◌, ◌^◌, ◌++◌, ℕ, drop, length, IfOk, IfErr, IfSome, IfNone, OnOk, Some};
 ghost use Rattle.pod_io.specs.Counts.{Counts};
 ghost use Rattle.pod_io.specs.Told.{IfTold};
-ghost use Rattle.pod_disk.specs.Disk.{Each, LeavesOnly};
+ghost use Rattle.pod_disk.specs.Disk.{EachImage, LeavesOnly};
 ghost use Rattle.journal_log.specs.Heads.{head_of, IsKnown, NoHead};
 ghost use Rattle.journal_log.specs.Images.{Stands};
-ghost use Rattle.journal_log.specs.Resting.{Rests};
-ghost use Rattle.journal_log.specs.Reading.{Quiet, IsShown, Keeps};
-ghost use Rattle.journal_log.specs.Walking.{IsFound, held_at};
+ghost use Rattle.journal_log.specs.CleanJournal.{IsClean};
+ghost use Rattle.journal_log.specs.Reading.{OnlyReads, WindowShows, ReadKeeps};
+ghost use Rattle.journal_log.specs.Walking.{IsFound, state_at};
 ghost use Rattle.journal_log.specs.Opening.{IsWhileOpened};
 ghost use Rattle.journal_log.specs.Causes.{HasCause};
 
@@ -22,33 +24,40 @@ use pod_io::Failed;
 use std::alloc::Global;
 
 impl Journal {
-    /// Opens the journal of a disk, and gives its records. It begins with a sync. Where the last open gate is another byte
-    /// than 1, it writes 1 there and syncs. `Empty` comes where the disk holds nothing, `Damaged` at 0 where it holds no
-    /// right head, and else at the first gate whose frame isn't whole, with the side that is handed in.
+    /// Opens the journal of a disk, and gives its records. It begins with a sync. Where the last
+    /// open gate is torn, neither 0 nor 1, it writes 1 there and syncs, and nothing else is
+    /// written. `Empty` comes where the disk holds nothing, `Damaged` at 0 where it holds no right
+    /// head, and else at the first gate whose frame isn't whole, with the side that is handed in.
     ///
-    /// At each moment every image of the disk is one from before the call, or stands for the records of one from before, with
-    /// the last or without. At `Ok` the journal is at rest with the records that were read.
+    /// At each moment every crash image of the disk is one from before the call, or stands for the
+    /// records of one from before, with the last or without. At `Ok` the journal is clean with the
+    /// records that were read.
     pub fn open<D: Disk>(
         alloc: Global,
         disk: &mut D,
         side: Side,
     ) -> Result<(Journal, List<Bytes>), OpenFault>
-        ensures moments { LeavesOnly D.moment D.left_since disk.old disk.new (IsWhileOpened (D.image disk.old)) }
-        ensures rests { IfOk result (λ opened. Rests (D.image disk.new) opened.0 opened.1.items) }
-        ensures records { IfOk result (λ opened. IfTold (D.content disk.old) (Stands opened.0.format opened.0.epoch opened.1.items)) }
+        ensures moments { LeavesOnly D.moment D.left_since disk.old disk.new
+            (IsWhileOpened (D.image disk.old)) }
+        ensures clean { IfOk result (λ opened. IsClean (D.image disk.new) opened.0 opened.1.items) }
+        ensures records { IfOk result
+            (λ opened. IfTold (D.content disk.old)
+            (Stands opened.0.format opened.0.epoch opened.1.items)) }
         ensures no_fewer { D.faults disk.old ≤ D.faults disk.new }
-        ensures cause { IfErr result (HasCause (D.content disk.old) side (D.faults disk.old) (D.faults disk.new)) }
+        ensures cause { IfErr result
+            (HasCause (D.content disk.old) side (D.faults disk.old) (D.faults disk.new)) }
     {
         let found = read_all(alloc, disk, side)?;
-        settle(disk, &found)?;
-        Ok((Journal::at_rest(found.head, found.end), found.records))
+        normalize_gate(disk, &found)?;
+        Ok((Journal::new_clean(found.head, found.end), found.records))
     }
 }
 
 /// Waits until all is on the disk, and gives its length.
-pub fn measure<D: Disk>(disk: &mut D) -> Result<u64, Failed>
-    ensures quiet { Quiet D.image D.moment D.left_since disk.old disk.new }
-    ensures durable { OnOk result (Each (D.image disk.new) (λ c. D.content disk.new ≡ Some c)) }
+pub fn synced_len<D: Disk>(disk: &mut D) -> Result<u64, Failed>
+    ensures only_reads { OnlyReads D.image D.moment D.left_since disk.old disk.new }
+    ensures durable { OnOk result
+        (EachImage (D.image disk.new) (λ c. D.content disk.new ≡ Some c)) }
     ensures content { OnOk result (D.content disk.new ≡ D.content disk.old) }
     ensures len { IfOk result (λ size. IfTold (D.content disk.old) (λ b. length b ≡ size)) }
     ensures below { IfOk result (λ size. size < 2 ^ 63) }
@@ -58,12 +67,16 @@ pub fn measure<D: Disk>(disk: &mut D) -> Result<u64, Failed>
     disk.len()
 }
 
-// The right head at the front of a disk.
+// The right head at the prefix of a disk.
 fn head_at<D: Disk>(window: &mut Window, disk: &mut D) -> Result<Option<Head>, Failed>
-    requires { IfTold (D.content disk.old) (IsShown window.old) }
-    ensures quiet { Quiet D.image D.moment D.left_since disk.old disk.new }
-    ensures kept { OnOk result (Keeps (D.content disk.old) (D.content disk.new) window.old window.new) }
-    ensures found { IfOk result (λ found. IfSome found (λ head. IfTold (D.content disk.old) (λ b. b ≡ head_of head.format head.epoch ++ drop 16 b))) }
+    requires { IfTold (D.content disk.old) (WindowShows window.old) }
+    ensures only_reads { OnlyReads D.image D.moment D.left_since disk.old disk.new }
+    ensures kept { OnOk result
+        (ReadKeeps (D.content disk.old) (D.content disk.new) window.old window.new) }
+    ensures found { IfOk result
+        (λ found. IfSome found
+        (λ head. IfTold (D.content disk.old)
+        (λ b. b ≡ head_of head.format head.epoch ++ drop 16 b))) }
     ensures known { IfOk result (λ found. IfSome found (λ head. IsKnown head.format head.epoch)) }
     ensures size { IfOk result (λ found. IfSome found (λ _. 16 ≤ window.old.size)) }
     ensures none { IfOk result (λ found. IfNone found (IfTold (D.content disk.old) NoHead)) }
@@ -86,11 +99,12 @@ fn read_from<D: Disk>(
 ) -> Result<Found, OpenFault>
     requires small { size < 2 ^ 63 }
     requires size { IfTold (D.content disk.old) (λ b. length b ≡ size) }
-    ensures quiet { Quiet D.image D.moment D.left_since disk.old disk.new }
+    ensures only_reads { OnlyReads D.image D.moment D.left_since disk.old disk.new }
     ensures content { OnOk result (D.content disk.new ≡ D.content disk.old) }
     ensures found { IfOk result (IsFound (D.content disk.old)) }
     ensures no_fewer { D.faults disk.old ≤ D.faults disk.new }
-    ensures cause { IfErr result (HasCause (D.content disk.old) side (D.faults disk.old) (D.faults disk.new)) }
+    ensures cause { IfErr result
+        (HasCause (D.content disk.old) side (D.faults disk.old) (D.faults disk.new)) }
 {
     if size == 0 {
         return Err(OpenFault::Empty);
@@ -107,26 +121,31 @@ fn read_from<D: Disk>(
 
 // Reads the records of a disk.
 fn read_all<D: Disk>(alloc: Global, disk: &mut D, side: Side) -> Result<Found, OpenFault>
-    ensures quiet { Quiet D.image D.moment D.left_since disk.old disk.new }
-    ensures durable { OnOk result (Each (D.image disk.new) (λ c. D.content disk.new ≡ Some c)) }
+    ensures only_reads { OnlyReads D.image D.moment D.left_since disk.old disk.new }
+    ensures durable { OnOk result
+        (EachImage (D.image disk.new) (λ c. D.content disk.new ≡ Some c)) }
     ensures content { OnOk result (D.content disk.new ≡ D.content disk.old) }
     ensures found { IfOk result (IsFound (D.content disk.old)) }
     ensures no_fewer { D.faults disk.old ≤ D.faults disk.new }
-    ensures cause { IfErr result (HasCause (D.content disk.old) side (D.faults disk.old) (D.faults disk.new)) }
+    ensures cause { IfErr result
+        (HasCause (D.content disk.old) side (D.faults disk.old) (D.faults disk.new)) }
 {
-    let size = measure(disk)?;
+    let size = synced_len(disk)?;
     read_from(alloc, disk, size, side)
 }
 
-// Writes 1 to the last record's gate where it is another byte.
-fn settle<D: Disk>(disk: &mut D, found: &Found) -> Result<(), Failed>
-    requires durable { Each (D.image disk.old) (λ c. D.content disk.old ≡ Some c) }
+// Writes 1 to the last record's gate where it is torn.
+fn normalize_gate<D: Disk>(disk: &mut D, found: &Found) -> Result<(), Failed>
+    requires durable { EachImage (D.image disk.old) (λ c. D.content disk.old ≡ Some c) }
     requires found { IsFound (D.content disk.old) found.now }
-    ensures moments { LeavesOnly D.moment D.left_since disk.old disk.new (IsWhileOpened (D.image disk.old)) }
-    ensures rests { OnOk result (Rests (D.image disk.new) (held_at found.now.head found.now.end) found.now.records.items) }
+    ensures moments { LeavesOnly D.moment D.left_since disk.old disk.new
+        (IsWhileOpened (D.image disk.old)) }
+    ensures clean { OnOk result
+        (IsClean (D.image disk.new)
+        (state_at found.now.head found.now.end) found.now.records.items) }
     ensures faults { Counts result (D.faults disk.old) (D.faults disk.new) }
 {
-    match found.mend {
+    match found.torn_gate {
         Some(at) => write_through(disk, at, &[1]),
         None => Ok(()),
     }

@@ -1,26 +1,30 @@
-ghost use Rattle.std.specs.Prelude.{◌≡◌, ◌≤◌, ◌^◌, ◌++◌, ◌∷◌, [], List, ℕ, length, take, drop, IfOk, IfErr, OnOk, IsErrOf, Some};
+//! A journal begun anew on a disk that may have been used, and one begun on an empty disk.
+
+ghost use Rattle.std.specs.Prelude.{◌≡◌, ◌≤◌, ◌<◌, ◌+◌, ◌^◌, ◌∷◌, [], List, ℕ, length, IfOk, IfErr, OnOk, IsErrOf, Some};
 ghost use Rattle.pod_io.specs.Counts.{Counts};
 ghost use Rattle.pod_io.specs.Told.{IfTold};
-ghost use Rattle.pod_disk.specs.Disk.{Each, LeavesOnly};
+ghost use Rattle.pod_disk.specs.Disk.{EachImage, LeavesOnly};
 ghost use Rattle.journal_log.specs.Frames.{framed_of};
 ghost use Rattle.journal_log.specs.Heads.{head_of};
-ghost use Rattle.journal_log.specs.Gates.{IsShut, IsClosed, IsGated};
-ghost use Rattle.journal_log.specs.Resting.{Rests};
-ghost use Rattle.journal_log.specs.Reading.{Quiet};
-ghost use Rattle.journal_log.specs.Writes.{IsTornFrom, IsOver};
-ghost use Rattle.journal_log.specs.Renewing.{IsFirstGate, IsBeforeOpening, IsNew, IsWhileRenewed};
+ghost use Rattle.journal_log.specs.Gates.{IsFirstGateClosed, IsGated};
+ghost use Rattle.journal_log.specs.Classes.{HasClass};
+ghost use Rattle.journal_log.specs.CleanJournal.{IsClean};
+ghost use Rattle.journal_log.specs.Reading.{OnlyReads};
+ghost use Rattle.journal_log.specs.Writes.{IsTornFrom};
+ghost use Rattle.journal_log.specs.FirstGates.{IsFirstGate};
+ghost use Rattle.journal_log.specs.Renewing.{IsBeforeOpening, IsNew, IsWhileRenewed};
 
+use crate::class::DiskClass;
 use crate::fault::{DiskFault, RenewFault};
 use crate::framed::Framed;
-use crate::head::{Head, head_and_gate};
+use crate::head::{Head, head_and_gate, head_bytes};
 use crate::journal::Journal;
-use crate::opening::measure;
+use crate::opening::synced_len;
 use crate::writes::{write, write_through};
-use crate::written::Written;
 use pod_disk::Disk;
 use pod_io::Failed;
 
-/// The offset of the first gate.
+/// The offset of the first gate: the head has sixteen bytes.
 const FIRST_GATE: u64 = 16;
 
 /// How the first gate of a disk reads.
@@ -34,65 +38,97 @@ pub enum FirstGate {
 }
 
 impl Journal {
-    /// Begins a journal of format 2 on an empty disk, with this epoch, which is at most 2^63, and this first record: all in one
-    /// write, and a sync. A crash inside this call may leave anything. The record stays as it is; the head is put into the
-    /// room in front of it.
-    pub fn init<D: Disk>(disk: &mut D, epoch: u64, first: &mut Framed) -> Result<Journal, DiskFault>
+    /// Begins a journal of format 2 on an empty disk, with this epoch, which is at most 2^63, and
+    /// this first record: head and an open gate in one write, the record with its gate in the next,
+    /// and a sync. A crash inside this call may leave anything.
+    pub fn init<D: Disk>(disk: &mut D, epoch: u64, first: &Framed) -> Result<Journal, DiskFault>
         requires empty { IfTold (D.content disk.old) (λ b. b ≡ []) }
         requires most { epoch ≤ 2 ^ 63 }
-        ensures rests { IfOk result (λ journal. Rests (D.image disk.new) journal (first.old ∷ [])) }
+        ensures clean { IfOk result
+            (λ journal. IsClean (D.image disk.new) journal (first.now ∷ [])) }
         ensures format { IfOk result (λ journal. journal.format ≡ 2) }
         ensures epoch { IfOk result (λ journal. journal.epoch ≡ epoch) }
-        ensures kept { first.new ≡ first.old }
         ensures faults { Counts result (D.faults disk.old) (D.faults disk.new) }
     {
-        let Framed { written } = first;
-        written.put_front(&head_and_gate(epoch, 1));
-        let bytes = written.all();
-        begin(disk, bytes)?;
-        Ok(Journal::at_rest(Head { format: 2, epoch }, bytes.len() as u64 - 1))
+        let framed = first.bytes();
+        write_anew(disk, epoch, 1, framed)?;
+        let end = FIRST_GATE + framed.len() as u64;
+        Ok(Journal::new_clean(Head { format: 2, epoch }, end))
     }
 
-    /// Begins a journal of format 2 on a disk that may have been used, with this epoch, which is at most 2^63, and this first
-    /// record. In four parts: a sync; where the first gate reads other than 0, a 0 there and a sync; the head and, in a second
-    /// write, the record, and a sync; a 1 at the first gate, and a sync. The record stays as it is; the head is put into the
-    /// room in front of it.
+    /// Writes a head of format 2 with this epoch, which is at most 2^63, and a closed first gate to
+    /// an empty disk, and syncs. Such a disk has no records. A crash inside this call may leave
+    /// anything.
+    pub fn init_closed<D: Disk>(disk: &mut D, epoch: u64) -> Result<(), DiskFault>
+        requires empty { IfTold (D.content disk.old) (λ b. b ≡ []) }
+        requires most { epoch ≤ 2 ^ 63 }
+        ensures closed { OnOk result (EachImage (D.image disk.new) (HasClass DiskClass.Closed)) }
+        ensures faults { Counts result (D.faults disk.old) (D.faults disk.new) }
+    {
+        write_through(disk, 0, &head_and_gate(epoch, 0))?;
+        Ok(())
+    }
+
+    /// Begins a journal of format 2 on a disk that may have been used, with this epoch, which is at
+    /// most 2^63, and this first record. In four parts: a sync; where the first gate reads other
+    /// than 0, a 0 there and a sync; the head and, in a second write, the record, and a sync; a 1
+    /// at the first gate, and a sync.
     ///
-    /// On a disk of at least 17 bytes each image at each moment is one from before, or one whose first gate is being closed, or
-    /// has a first gate 0, or is the new journal before any first gate; the last only once the last part has begun. On a
-    /// shorter disk the head, a closed gate and the record go out in one write, and nothing is said of a crash until the call is
-    /// `Ok` or `InDoubt`.
+    /// On a disk of at least 17 bytes each crash image at each moment is one from before, or one
+    /// whose first gate is being closed, or has a first gate 0, or is the new journal with any
+    /// first gate; the last only once the last part has begun. On a shorter disk head and closed
+    /// gate go out in one write and the record in the next, before one sync; there a crash before
+    /// the last part may leave any bytes in these ranges.
     ///
-    /// `Closed` comes where the disk failed before the last part, and `InDoubt` where the write or the sync of that 1
-    /// failed: the first gate may then hold any byte, and [`shut`](Journal::shut) closes it.
-    pub fn renew<D: Disk>(
-        disk: &mut D,
-        epoch: u64,
-        first: &mut Framed,
-    ) -> Result<Journal, RenewFault>
+    /// `Closed` comes where the disk failed before the last part: on a disk of at least 17 bytes
+    /// the new journal is then in no crash image, and on a shorter one nothing is known of the
+    /// bytes that were to be written. `InDoubt` comes where the write or the sync of that 1 failed:
+    /// the first gate may then hold any byte, and [`shut`](Journal::shut) closes it.
+    pub fn renew<D: Disk>(disk: &mut D, epoch: u64, first: &Framed) -> Result<Journal, RenewFault>
         requires { epoch ≤ 2 ^ 63 }
         ensures moments { IfTold (D.content disk.old) (λ b. 17 ≤ length b)
-            → LeavesOnly D.moment D.left_since disk.old disk.new (IsWhileRenewed (D.image disk.old) epoch first.old) }
-        ensures rests { IfOk result (λ journal. Rests (D.image disk.new) journal (first.old ∷ [])) }
+            → LeavesOnly D.moment D.left_since disk.old disk.new
+            (IsWhileRenewed (D.image disk.old) epoch first.now) }
+        ensures short { IfTold (D.content disk.old) (λ b. length b < 17
+            → LeavesOnly D.moment D.left_since disk.old disk.new
+            (IsTornFrom (D.image disk.old) 0 (17 + length (framed_of first.now)))) }
+        ensures clean { IfOk result
+            (λ journal. IsClean (D.image disk.new) journal (first.now ∷ [])) }
         ensures format { IfOk result (λ journal. journal.format ≡ 2) }
         ensures epoch { IfOk result (λ journal. journal.epoch ≡ epoch) }
-        ensures closed { IsErrOf result RenewFault.Closed → IfTold (D.content disk.old) (λ b. 17 ≤ length b)
-            → LeavesOnly D.moment D.left_since disk.old disk.new (IsBeforeOpening (D.image disk.old)) }
-        ensures in_doubt { IsErrOf result RenewFault.InDoubt → Each (D.image disk.new) (IsNew epoch first.old) }
-        ensures kept { first.new ≡ first.old }
+        ensures closed { IsErrOf result RenewFault.Closed
+            → IfTold (D.content disk.old) (λ b. 17 ≤ length b)
+            → LeavesOnly D.moment D.left_since disk.old disk.new
+            (IsBeforeOpening (D.image disk.old)) }
+        ensures in_doubt { IsErrOf result RenewFault.InDoubt
+            → EachImage (D.image disk.new) (IsNew epoch first.now) }
         ensures faults { Counts result (D.faults disk.old) (D.faults disk.new) }
     {
-        let Framed { written } = first;
-        written.put_front(&head_and_gate(epoch, 0));
-        renew_with(disk, epoch, written)
+        let framed = first.bytes();
+        match prepare(disk, epoch, framed) {
+            Ok(()) => match write_through(disk, FIRST_GATE, &[1]) {
+                Ok(()) => {
+                    let end = FIRST_GATE + framed.len() as u64;
+                    Ok(Journal::new_clean(Head { format: 2, epoch }, end))
+                }
+                Err(_failed) => Err(RenewFault::InDoubt),
+            },
+            Err(_failed) => Err(RenewFault::Closed),
+        }
     }
 
-    /// Closes the first gate: writes 0 there, and syncs. The disk has at least 17 bytes. At each moment every image of it is
-    /// one from before the call with any byte at that gate.
+    /// Closes the first gate: writes 0 there, and syncs. The disk has at least 17 bytes. At each
+    /// moment every crash image of it is one from before the call with any byte at that gate; where
+    /// the gate was in doubt after [`renew`](Journal::renew), it stays the new journal with any
+    /// first gate.
     pub fn shut<D: Disk>(disk: &mut D) -> Result<(), DiskFault>
         requires { IfTold (D.content disk.old) (λ b. 17 ≤ length b) }
-        ensures moments { LeavesOnly D.moment D.left_since disk.old disk.new (IsTornFrom (D.image disk.old) 16 1) }
-        ensures shut { OnOk result (Each (D.image disk.new) IsShut) }
+        ensures moments { LeavesOnly D.moment D.left_since disk.old disk.new
+            (IsTornFrom (D.image disk.old) 16 1) }
+        ensures in_doubt { (epoch : ℕ) (body : List ℕ)
+            → EachImage (D.image disk.old) (IsNew epoch body)
+            → LeavesOnly D.moment D.left_since disk.old disk.new (IsNew epoch body) }
+        ensures shut { OnOk result (EachImage (D.image disk.new) IsFirstGateClosed) }
         ensures faults { Counts result (D.faults disk.old) (D.faults disk.new) }
     {
         close(disk)?;
@@ -100,54 +136,35 @@ impl Journal {
     }
 }
 
-// All four parts, where the new head and a closed gate are in the room before the record.
-fn renew_with<D: Disk>(disk: &mut D, epoch: u64, written: &Written) -> Result<Journal, RenewFault>
-    requires most { epoch ≤ 2 ^ 63 }
-    requires front { written.now.front ≡ head_of 2 epoch ++ 0 ∷ [] }
-    ensures moments { IfTold (D.content disk.old) (λ b. 17 ≤ length b)
-        → LeavesOnly D.moment D.left_since disk.old disk.new (IsWhileRenewed (D.image disk.old) epoch written.now.body) }
-    ensures rests { IfOk result (λ journal. Rests (D.image disk.new) journal (written.now.body ∷ [])) }
-    ensures format { IfOk result (λ journal. journal.format ≡ 2) }
-    ensures epoch { IfOk result (λ journal. journal.epoch ≡ epoch) }
-    ensures closed { IsErrOf result RenewFault.Closed → IfTold (D.content disk.old) (λ b. 17 ≤ length b)
-        → LeavesOnly D.moment D.left_since disk.old disk.new (IsBeforeOpening (D.image disk.old)) }
-    ensures in_doubt { IsErrOf result RenewFault.InDoubt → Each (D.image disk.new) (IsNew epoch written.now.body) }
-    ensures faults { Counts result (D.faults disk.old) (D.faults disk.new) }
-{
-    let bytes = written.all();
-    match prepare(disk, bytes) {
-        Ok(()) => match write_through(disk, FIRST_GATE, &[1]) {
-            Ok(()) => Ok(Journal::at_rest(Head { format: 2, epoch }, bytes.len() as u64 - 1)),
-            Err(_failed) => Err(RenewFault::InDoubt),
-        },
-        Err(_failed) => Err(RenewFault::Closed),
-    }
-}
-
-// The first three parts: a head, a closed gate and a record, all on the disk. `bytes` are these.
-fn prepare<D: Disk>(disk: &mut D, bytes: &[u8]) -> Result<(), Failed>
-    requires { 17 ≤ length bytes.now }
+// The first three parts: head, closed gate and record, all on the disk.
+fn prepare<D: Disk>(disk: &mut D, epoch: u64, framed: &[u8]) -> Result<(), Failed>
     ensures moments { IfTold (D.content disk.old) (λ b. 17 ≤ length b)
         → LeavesOnly D.moment D.left_since disk.old disk.new (IsBeforeOpening (D.image disk.old)) }
-    ensures prepared { OnOk result ((head framed : List ℕ) → length head ≡ 16 → bytes.now ≡ head ++ (0 ∷ framed) → Each (D.image disk.new) (IsGated head 0 framed)) }
+    ensures short { IfTold (D.content disk.old) (λ b. length b < 17
+        → LeavesOnly D.moment D.left_since disk.old disk.new
+        (IsTornFrom (D.image disk.old) 0 (17 + length framed.now))) }
+    ensures prepared { OnOk result
+        (EachImage (D.image disk.new) (IsGated (head_of 2 epoch) 0 framed.now)) }
+    ensures room { OnOk result (17 + length framed.now < 2 ^ 63) }
     ensures faults { Counts result (D.faults disk.old) (D.faults disk.new) }
 {
     match first_gate(disk)? {
-        FirstGate::Missing => begin(disk, bytes),
-        FirstGate::Closed => lay(disk, bytes),
-        FirstGate::Open => close_and_lay(disk, bytes),
+        FirstGate::Missing => write_anew(disk, epoch, 0, framed),
+        FirstGate::Closed => write_record(disk, epoch, framed),
+        FirstGate::Open => close_and_write(disk, epoch, framed),
     }
 }
 
 // The first part: waits until all is on the disk, and reads the first gate.
 fn first_gate<D: Disk>(disk: &mut D) -> Result<FirstGate, Failed>
-    ensures quiet { Quiet D.image D.moment D.left_since disk.old disk.new }
-    ensures durable { OnOk result (Each (D.image disk.new) (λ c. D.content disk.new ≡ Some c)) }
+    ensures only_reads { OnlyReads D.image D.moment D.left_since disk.old disk.new }
+    ensures durable { OnOk result
+        (EachImage (D.image disk.new) (λ c. D.content disk.new ≡ Some c)) }
     ensures content { OnOk result (D.content disk.new ≡ D.content disk.old) }
     ensures is { IfOk result (λ gate. IfTold (D.content disk.new) (IsFirstGate gate)) }
     ensures faults { Counts result (D.faults disk.old) (D.faults disk.new) }
 {
-    if measure(disk)? < 17 {
+    if synced_len(disk)? < 17 {
         return Ok(FirstGate::Missing);
     }
     let mut gate = [0u8; 1];
@@ -162,43 +179,52 @@ fn first_gate<D: Disk>(disk: &mut D) -> Result<FirstGate, Failed>
 // The second part.
 fn close<D: Disk>(disk: &mut D) -> Result<(), Failed>
     requires { IfTold (D.content disk.old) (λ b. 17 ≤ length b) }
-    ensures moments { LeavesOnly D.moment D.left_since disk.old disk.new (IsTornFrom (D.image disk.old) 16 1) }
-    ensures shut { OnOk result (Each (D.image disk.new) IsShut) }
+    ensures moments { LeavesOnly D.moment D.left_since disk.old disk.new
+        (IsTornFrom (D.image disk.old) 16 1) }
+    ensures shut { OnOk result (EachImage (D.image disk.new) IsFirstGateClosed) }
     ensures faults { Counts result (D.faults disk.old) (D.faults disk.new) }
 {
     write_through(disk, FIRST_GATE, &[0])
 }
 
 // The second part, where the first gate isn't closed, and then the third.
-fn close_and_lay<D: Disk>(disk: &mut D, bytes: &[u8]) -> Result<(), Failed>
-    requires whole { 17 ≤ length bytes.now }
-    requires is_open { Each (D.image disk.old) (IsFirstGate FirstGate.Open) }
-    ensures moments { LeavesOnly D.moment D.left_since disk.old disk.new (IsBeforeOpening (D.image disk.old)) }
-    ensures laid { OnOk result (Each (D.image disk.new) (IsGated (take 16 bytes.now) 0 (drop 17 bytes.now))) }
+fn close_and_write<D: Disk>(disk: &mut D, epoch: u64, framed: &[u8]) -> Result<(), Failed>
+    requires { EachImage (D.image disk.old) (IsFirstGate FirstGate.Open) }
+    ensures moments { LeavesOnly D.moment D.left_since disk.old disk.new
+        (IsBeforeOpening (D.image disk.old)) }
+    ensures written { OnOk result
+        (EachImage (D.image disk.new) (IsGated (head_of 2 epoch) 0 framed.now)) }
+    ensures room { OnOk result (17 + length framed.now < 2 ^ 63) }
     ensures faults { Counts result (D.faults disk.old) (D.faults disk.new) }
 {
     close(disk)?;
-    lay(disk, bytes)
+    write_record(disk, epoch, framed)
 }
 
-// The third part, on a disk of at least 17 bytes whose first gate is closed: the head, the record, a sync. No write touches
-// the first gate.
-fn lay<D: Disk>(disk: &mut D, bytes: &[u8]) -> Result<(), Failed>
-    requires whole { 17 ≤ length bytes.now }
-    requires shut { Each (D.image disk.old) IsShut }
-    ensures moments { LeavesOnly D.moment D.left_since disk.old disk.new IsShut }
-    ensures laid { OnOk result (Each (D.image disk.new) (IsGated (take 16 bytes.now) 0 (drop 17 bytes.now))) }
+// The third part, on a disk of at least 17 bytes whose first gate is closed: the head, the record,
+// a sync. No write touches the first gate.
+fn write_record<D: Disk>(disk: &mut D, epoch: u64, framed: &[u8]) -> Result<(), Failed>
+    requires { EachImage (D.image disk.old) IsFirstGateClosed }
+    ensures moments { LeavesOnly D.moment D.left_since disk.old disk.new IsFirstGateClosed }
+    ensures written { OnOk result
+        (EachImage (D.image disk.new) (IsGated (head_of 2 epoch) 0 framed.now)) }
+    ensures room { OnOk result (17 + length framed.now < 2 ^ 63) }
     ensures faults { Counts result (D.faults disk.old) (D.faults disk.new) }
 {
-    write(disk, 0, &bytes[..16])?;
-    write_through(disk, FIRST_GATE + 1, &bytes[17..])
+    write(disk, 0, &head_bytes(epoch))?;
+    write_through(disk, FIRST_GATE + 1, framed)
 }
 
-// The third part on a shorter disk: head, gate and record in one write, a sync.
-fn begin<D: Disk>(disk: &mut D, bytes: &[u8]) -> Result<(), Failed>
-    ensures torn { LeavesOnly D.moment D.left_since disk.old disk.new (IsTornFrom (D.image disk.old) 0 (length bytes.now)) }
-    ensures begun { OnOk result (Each (D.image disk.new) (IsOver (D.content disk.old) 0 bytes.now)) }
+// The third part on a shorter disk: head and first gate in one write, the record in the next, a
+// sync.
+fn write_anew<D: Disk>(disk: &mut D, epoch: u64, gate: u8, framed: &[u8]) -> Result<(), Failed>
+    ensures torn { LeavesOnly D.moment D.left_since disk.old disk.new
+        (IsTornFrom (D.image disk.old) 0 (17 + length framed.now)) }
+    ensures written { OnOk result
+        (EachImage (D.image disk.new) (IsGated (head_of 2 epoch) gate framed.now)) }
+    ensures room { OnOk result (17 + length framed.now < 2 ^ 63) }
     ensures faults { Counts result (D.faults disk.old) (D.faults disk.new) }
 {
-    write_through(disk, 0, bytes)
+    write(disk, 0, &head_and_gate(epoch, gate))?;
+    write_through(disk, FIRST_GATE + 1, framed)
 }

@@ -4,7 +4,7 @@ ghost use Rattle.std.specs.Prelude.{◌≡◌, ◌≢◌, ◌+◌, ◌≤◌, �
 ghost use Rattle.std.specs.Int.{to_be_bytes, w64};
 ghost use Rattle.pod_io.specs.Counts.{Counts};
 ghost use Rattle.pod_io.specs.Told.{IfTold};
-ghost use Rattle.journal_log.specs.Reading.{Quiet, IsShown, Keeps};
+ghost use Rattle.journal_log.specs.Reading.{OnlyReads, WindowShows, ReadKeeps};
 ghost use Rattle.journal_log.specs.Scanning.{IsByteAt, IsStart, StartFits, IsSeen, FrameFits};
 ghost use Rattle.journal_log.specs.Causes.{IsOfReading};
 
@@ -16,7 +16,7 @@ use pod_disk::Disk;
 use pod_io::Failed;
 use std::alloc::Global;
 
-/// What stands from a gate on.
+/// What follows from a gate on.
 #[derive(Drop)]
 pub enum Frame {
     /// The gate is 0.
@@ -27,7 +27,7 @@ pub enum Frame {
     Broken,
 }
 
-/// What the gate and the eight bytes behind it say.
+/// What the gate and the eight bytes after it say.
 #[derive(Drop)]
 pub enum Start {
     End,
@@ -38,9 +38,10 @@ pub enum Start {
 // The byte at this offset.
 fn byte_at<D: Disk>(window: &mut Window, disk: &mut D, at: u64) -> Result<u8, Failed>
     requires within { at < window.old.size }
-    requires shown { IfTold (D.content disk.old) (IsShown window.old) }
-    ensures quiet { Quiet D.image D.moment D.left_since disk.old disk.new }
-    ensures kept { OnOk result (Keeps (D.content disk.old) (D.content disk.new) window.old window.new) }
+    requires shown { IfTold (D.content disk.old) (WindowShows window.old) }
+    ensures only_reads { OnlyReads D.image D.moment D.left_since disk.old disk.new }
+    ensures kept { OnOk result
+        (ReadKeeps (D.content disk.old) (D.content disk.new) window.old window.new) }
     ensures byte { IfOk result (λ byte. IfTold (D.content disk.old) (λ b. IsByteAt at b byte)) }
     ensures faults { Counts result (D.faults disk.old) (D.faults disk.new) }
 {
@@ -52,11 +53,13 @@ fn byte_at<D: Disk>(window: &mut Window, disk: &mut D, at: u64) -> Result<u8, Fa
 // The number that the eight bytes from this offset on spell.
 fn number_at<D: Disk>(window: &mut Window, disk: &mut D, at: u64) -> Result<u64, Failed>
     requires within { at + 8 ≤ window.old.size }
-    requires shown { IfTold (D.content disk.old) (IsShown window.old) }
-    ensures quiet { Quiet D.image D.moment D.left_since disk.old disk.new }
-    ensures kept { OnOk result (Keeps (D.content disk.old) (D.content disk.new) window.old window.new) }
+    requires shown { IfTold (D.content disk.old) (WindowShows window.old) }
+    ensures only_reads { OnlyReads D.image D.moment D.left_since disk.old disk.new }
+    ensures kept { OnOk result
+        (ReadKeeps (D.content disk.old) (D.content disk.new) window.old window.new) }
     ensures small { IfOk result (λ n. n < 2 ^ 64) }
-    ensures number { IfOk result (λ n. IfTold (D.content disk.old) (λ b. to_be_bytes w64 n ≡ take 8 (drop at b))) }
+    ensures number { IfOk result
+        (λ n. IfTold (D.content disk.old) (λ b. to_be_bytes w64 n ≡ take 8 (drop at b))) }
     ensures faults { Counts result (D.faults disk.old) (D.faults disk.new) }
 {
     let mut bytes = [0u8; 8];
@@ -64,14 +67,16 @@ fn number_at<D: Disk>(window: &mut Window, disk: &mut D, at: u64) -> Result<u64,
     Ok(number(&bytes))
 }
 
-// What the gate at this offset says, and the length behind it.
+// What the gate at this offset says, and the length after it.
 fn start_at<D: Disk>(window: &mut Window, disk: &mut D, at: u64) -> Result<Start, Failed>
     requires within { at ≤ window.old.size }
     requires small { window.old.size < 2 ^ 63 }
-    requires shown { IfTold (D.content disk.old) (IsShown window.old) }
-    ensures quiet { Quiet D.image D.moment D.left_since disk.old disk.new }
-    ensures kept { OnOk result (Keeps (D.content disk.old) (D.content disk.new) window.old window.new) }
-    ensures is { IfOk result (λ start. IfTold (D.content disk.old) (λ b. IsStart start (drop at b))) }
+    requires shown { IfTold (D.content disk.old) (WindowShows window.old) }
+    ensures only_reads { OnlyReads D.image D.moment D.left_since disk.old disk.new }
+    ensures kept { OnOk result
+        (ReadKeeps (D.content disk.old) (D.content disk.new) window.old window.new) }
+    ensures is { IfOk result
+        (λ start. IfTold (D.content disk.old) (λ b. IsStart start (drop at b))) }
     ensures fits { IfOk result (StartFits at window.old.size) }
     ensures faults { Counts result (D.faults disk.old) (D.faults disk.new) }
 {
@@ -101,11 +106,13 @@ fn body_at<D: Disk>(
     len: u64,
 ) -> Result<Bytes, OpenFault>
     requires within { at + len ≤ window.old.size }
-    requires shown { IfTold (D.content disk.old) (IsShown window.old) }
-    ensures quiet { Quiet D.image D.moment D.left_since disk.old disk.new }
-    ensures kept { OnOk result (Keeps (D.content disk.old) (D.content disk.new) window.old window.new) }
+    requires shown { IfTold (D.content disk.old) (WindowShows window.old) }
+    ensures only_reads { OnlyReads D.image D.moment D.left_since disk.old disk.new }
+    ensures kept { OnOk result
+        (ReadKeeps (D.content disk.old) (D.content disk.new) window.old window.new) }
     ensures len { IfOk result (λ body. length body ≡ len) }
-    ensures body { IfOk result (λ body. IfTold (D.content disk.old) (λ b. body ≡ take len (drop at b))) }
+    ensures body { IfOk result
+        (λ body. IfTold (D.content disk.old) (λ b. body ≡ take len (drop at b))) }
     ensures no_fewer { D.faults disk.old ≤ D.faults disk.new }
     ensures cause { IfErr result (IsOfReading (D.faults disk.old) (D.faults disk.new)) }
 {
@@ -117,7 +124,7 @@ fn body_at<D: Disk>(
     }
 }
 
-// The record behind an open gate, whose length was read.
+// The record after an open gate, whose length was read.
 fn record_at<D: Disk>(
     alloc: Global,
     window: &mut Window,
@@ -129,11 +136,14 @@ fn record_at<D: Disk>(
     requires is_open { gate ≢ 0 }
     requires within { at + len + 10 ≤ window.old.size }
     requires small { window.old.size < 2 ^ 63 }
-    requires shown { IfTold (D.content disk.old) (IsShown window.old) }
-    requires start { IfTold (D.content disk.old) (λ b. drop at b ≡ gate ∷ (to_be_bytes w64 len ++ drop 9 (drop at b))) }
-    ensures quiet { Quiet D.image D.moment D.left_since disk.old disk.new }
-    ensures kept { OnOk result (Keeps (D.content disk.old) (D.content disk.new) window.old window.new) }
-    ensures is { IfOk result (λ frame. IfTold (D.content disk.old) (λ b. IsSeen frame (drop at b))) }
+    requires shown { IfTold (D.content disk.old) (WindowShows window.old) }
+    requires start { IfTold (D.content disk.old)
+        (λ b. drop at b ≡ gate ∷ (to_be_bytes w64 len ++ drop 9 (drop at b))) }
+    ensures only_reads { OnlyReads D.image D.moment D.left_since disk.old disk.new }
+    ensures kept { OnOk result
+        (ReadKeeps (D.content disk.old) (D.content disk.new) window.old window.new) }
+    ensures is { IfOk result
+        (λ frame. IfTold (D.content disk.old) (λ b. IsSeen frame (drop at b))) }
     ensures fits { IfOk result (FrameFits at window.old.size) }
     ensures no_fewer { D.faults disk.old ≤ D.faults disk.new }
     ensures cause { IfErr result (IsOfReading (D.faults disk.old) (D.faults disk.new)) }
@@ -149,7 +159,7 @@ fn record_at<D: Disk>(
     Ok(Frame::Record { gate, body })
 }
 
-/// What stands from the gate at this offset on.
+/// What follows from the gate at this offset on.
 pub fn frame_at<D: Disk>(
     alloc: Global,
     window: &mut Window,
@@ -158,10 +168,12 @@ pub fn frame_at<D: Disk>(
 ) -> Result<Frame, OpenFault>
     requires within { at ≤ window.old.size }
     requires small { window.old.size < 2 ^ 63 }
-    requires shown { IfTold (D.content disk.old) (IsShown window.old) }
-    ensures quiet { Quiet D.image D.moment D.left_since disk.old disk.new }
-    ensures kept { OnOk result (Keeps (D.content disk.old) (D.content disk.new) window.old window.new) }
-    ensures is { IfOk result (λ frame. IfTold (D.content disk.old) (λ b. IsSeen frame (drop at b))) }
+    requires shown { IfTold (D.content disk.old) (WindowShows window.old) }
+    ensures only_reads { OnlyReads D.image D.moment D.left_since disk.old disk.new }
+    ensures kept { OnOk result
+        (ReadKeeps (D.content disk.old) (D.content disk.new) window.old window.new) }
+    ensures is { IfOk result
+        (λ frame. IfTold (D.content disk.old) (λ b. IsSeen frame (drop at b))) }
     ensures fits { IfOk result (FrameFits at window.old.size) }
     ensures no_fewer { D.faults disk.old ≤ D.faults disk.new }
     ensures cause { IfErr result (IsOfReading (D.faults disk.old) (D.faults disk.new)) }

@@ -3,7 +3,7 @@
 ghost use Rattle.std.specs.Prelude.{◌≡◌, ◌≢◌, ◌+◌, ◌≤◌, ◌<◌, ◌^◌, ◌++◌, ◌∷◌, [], ℕ, length, drop, IfOk, IfErr, OnOk};
 ghost use Rattle.pod_io.specs.Told.{IfTold};
 ghost use Rattle.journal_log.specs.Heads.{head_of, IsKnown};
-ghost use Rattle.journal_log.specs.Reading.{Quiet, IsShown, Keeps};
+ghost use Rattle.journal_log.specs.Reading.{OnlyReads, WindowShows, ReadKeeps};
 ghost use Rattle.journal_log.specs.Walking.{IsWalked};
 ghost use Rattle.journal_log.specs.Causes.{IsOfReading};
 
@@ -20,10 +20,10 @@ use std::alloc::Global;
 pub struct Found {
     pub head: Head,
     pub records: List<Bytes>,
-    /// The offset of the gate behind the last record.
+    /// The offset of the gate after the last record.
     pub end: u64,
     /// The offset of the gate before the last record, where that gate is neither 0 nor 1.
-    pub mend: Option<u64>,
+    pub torn_gate: Option<u64>,
 }
 
 /// How a walk ended.
@@ -34,7 +34,7 @@ pub enum Walk {
     Broken(u64),
 }
 
-// Keeps a record.
+// ReadKeeps a record.
 fn keep(alloc: Global, records: &mut List<Bytes>, body: Bytes) -> Result<(), OpenFault>
     ensures kept { OnOk result (records.new.items ≡ records.old.items ++ body ∷ []) }
     ensures cause { IfErr result (λ fault. fault ≡ OpenFault.NoMemory) }
@@ -45,7 +45,7 @@ fn keep(alloc: Global, records: &mut List<Bytes>, body: Bytes) -> Result<(), Ope
     }
 }
 
-/// Reads the records behind a head.
+/// Reads the records after a head.
 pub fn read_records<D: Disk>(
     alloc: Global,
     window: &mut Window,
@@ -53,11 +53,12 @@ pub fn read_records<D: Disk>(
     head: Head,
 ) -> Result<Walk, OpenFault>
     requires known { IsKnown head.format head.epoch }
-    requires head { IfTold (D.content disk.old) (λ b. b ≡ head_of head.format head.epoch ++ drop 16 b) }
+    requires head { IfTold (D.content disk.old)
+        (λ b. b ≡ head_of head.format head.epoch ++ drop 16 b) }
     requires size { 16 ≤ window.old.size }
     requires small { window.old.size < 2 ^ 63 }
-    requires shown { IfTold (D.content disk.old) (IsShown window.old) }
-    ensures quiet { Quiet D.image D.moment D.left_since disk.old disk.new }
+    requires shown { IfTold (D.content disk.old) (WindowShows window.old) }
+    ensures only_reads { OnlyReads D.image D.moment D.left_since disk.old disk.new }
     ensures content { OnOk result (D.content disk.new ≡ D.content disk.old) }
     ensures is { IfOk result (IsWalked (D.content disk.old)) }
     ensures no_fewer { D.faults disk.old ≤ D.faults disk.new }
@@ -72,7 +73,7 @@ pub fn read_records<D: Disk>(
                     head,
                     records,
                     end: at,
-                    mend: None,
+                    torn_gate: None,
                 }));
             }
             Frame::Broken => return Ok(Walk::Broken(at)),
@@ -84,7 +85,7 @@ pub fn read_records<D: Disk>(
                         head,
                         records,
                         end: next,
-                        mend: Some(at),
+                        torn_gate: Some(at),
                     }));
                 }
                 at = next;

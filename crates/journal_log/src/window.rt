@@ -1,3 +1,5 @@
+//! The bytes of a disk that were read last.
+
 ghost use Rattle.std.specs.Prelude.{◌≡◌, ◌≤◌, length};
 
 /// Some bytes of a disk, as they were read last.

@@ -1,4 +1,6 @@
+-- kept for the crates above
 pub mod Moments
-pub mod Torn
-mod Making
+pub mod TornWrites
+-- internal
+mod OneMoreCall
 mod Crashing

@@ -2,13 +2,13 @@
 use Rattle.std.proofs.Common.{◌≡◌, ◌≤◌, inl, inr, ⊎_elim, ℕ, List, Option, Some, None, refl, sym, ◌∙◌, subst, rules, arith}
 use Rattle.std.specs.Option.{option_map}
 use Rattle.pod_io.specs.Told.{IfTold}
-use Rattle.pod_disk.specs.Disk.{Each, Passes, LeavesOnly}
+use Rattle.pod_disk.specs.Disk.{EachImage, Passes, LeavesOnly}
 
 module _ {D : Type 0} (image : D → List ℕ → Type 0) (moment : D → ℕ) (left_since : D → ℕ → List ℕ → Type 0) where
   -- one call: what the images have before it and after it, each moment inside has
   pub one_call : (Step : List ℕ → List ℕ → Type 0) (old new : D) (P : List ℕ → Type 0)
       → ((c : List ℕ) → left_since old (moment old) c → image old c)
-      → Passes image moment left_since Step old new → Each (image old) P → Each (image new) P
+      → Passes image moment left_since Step old new → EachImage (image old) P → EachImage (image new) P
       → LeavesOnly moment left_since old new P
   one_call Step old new P only_now passes was is = record {
     later = passes.later;
@@ -18,7 +18,7 @@ module _ {D : Type 0} (image : D → List ℕ → Type 0) (moment : D → ℕ) (
 
   -- a step that leads from P to Q leads each image there
   pub stepped : (Step : List ℕ → List ℕ → Type 0) (old new : D) (P Q : List ℕ → Type 0)
-      → Passes image moment left_since Step old new → ((d c : List ℕ) → Step d c → P d → Q c) → Each (image old) P → Each (image new) Q
+      → Passes image moment left_since Step old new → ((d c : List ℕ) → Step d c → P d → Q c) → EachImage (image old) P → EachImage (image new) Q
   stepped Step old new P Q passes leads was c now =
       let from = passes.images c now in
       leads from.0 c from.2 (was from.0 from.1)
@@ -27,8 +27,8 @@ module _ {D : Type 0} (image : D → List ℕ → Type 0) (moment : D → ℕ) (
   pub call : (Step : List ℕ → List ℕ → Type 0) (old new : D) (P Q R : List ℕ → Type 0)
       → ((c : List ℕ) → left_since old (moment old) c → image old c)
       → Passes image moment left_since Step old new → ((d c : List ℕ) → Step d c → P d → Q c)
-      → ((c : List ℕ) → P c → R c) → ((c : List ℕ) → Q c → R c) → Each (image old) P
-      → LeavesOnly moment left_since old new R × Each (image new) Q
+      → ((c : List ℕ) → P c → R c) → ((c : List ℕ) → Q c → R c) → EachImage (image old) P
+      → LeavesOnly moment left_since old new R × EachImage (image new) Q
   call Step old new P Q R only_now passes leads before after was =
       let is = stepped Step old new P Q passes leads was in (
         one_call Step old new R only_now passes (λ c now. before c (was c now)) (λ c now. after c (is c now)),
@@ -53,11 +53,11 @@ module _ {D : Type 0} (image : D → List ℕ → Type 0) (moment : D → ℕ) (
   -- what holds at every moment holds of the images now
   pub holds_now : (old new : D) (P : List ℕ → Type 0)
       → ((t : ℕ) (c : List ℕ) → t ≤ moment new → image new c → left_since new t c)
-      → LeavesOnly moment left_since old new P → Each (image new) P
+      → LeavesOnly moment left_since old new P → EachImage (image new) P
   holds_now old new P counts_now run c now = run.each c (counts_now (moment old) c run.later now)
 
   -- a run of no call
-  pub no_call : (old : D) (P : List ℕ → Type 0) → ((c : List ℕ) → left_since old (moment old) c → image old c) → Each (image old) P → LeavesOnly moment left_since old old P
+  pub no_call : (old : D) (P : List ℕ → Type 0) → ((c : List ℕ) → left_since old (moment old) c → image old c) → EachImage (image old) P → LeavesOnly moment left_since old old P
   no_call old P only_now was = record { later = omega arith; each = λ c left. was c (only_now c left); before = λ t c le left. inl left }
 
   -- the same, where each run has its own
@@ -78,13 +78,13 @@ told_from f (Some a) p b is told = (a, refl, some_is (sym is ∙ told))
 module _ {D : Type 0} (content : D → Option (List ℕ)) (image : D → List ℕ → Type 0) (reads_image : (disk : D) (b : List ℕ) → content disk ≡ Some b → image disk b) where
   -- what a call makes of the content, where each image had P
   pub reads : (f : List ℕ → List ℕ) (old new : D) (P Q : List ℕ → Type 0)
-      → content new ≡ option_map f (content old) → ((a : List ℕ) → P a → Q (f a)) → Each (image old) P → IfTold (content new) Q
+      → content new ≡ option_map f (content old) → ((a : List ℕ) → P a → Q (f a)) → EachImage (image old) P → IfTold (content new) Q
   reads f old new P Q is leads was b told =
       let from = told_from f (content old) (content new) b is told in
       subst Q from.2 (leads from.0 (was from.0 (reads_image old from.0 from.1)))
 
   -- after a sync each image is what reads give
-  pub synced : (old new : D) (Q : List ℕ → Type 0) → content new ≡ content old → ((c : List ℕ) → image new c → content new ≡ Some c) → IfTold (content old) Q → Each (image new) Q
+  pub synced : (old new : D) (Q : List ℕ → Type 0) → content new ≡ content old → ((c : List ℕ) → image new c → content new ≡ Some c) → IfTold (content old) Q → EachImage (image new) Q
   synced old new Q same durable reads c now = reads c (sym same ∙ durable c now)
 
 -- what a call makes of what reads give, whatever the images are

@@ -1,3 +1,4 @@
 pub mod Disk
-pub mod Record
+pub mod NotedCalls
+-- internal: cited by private clauses alone
 pub mod Laws

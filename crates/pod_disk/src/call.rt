@@ -1,3 +1,5 @@
+//! The calls of a disk as they are noted.
+
 use pod_base::Bytes;
 
 /// A call of a disk.
@@ -12,7 +14,7 @@ pub enum Call {
 
 /// A call that a disk in memory has noted, and whether it succeeded.
 #[derive(Debug, Drop)]
-pub struct Noted {
+pub struct NotedCall {
     pub call: Call,
     pub done: bool,
 }

@@ -1,23 +1,29 @@
+//! The disk over a file of the host.
+
 ghost use Rattle.std.specs.Prelude.{◌≡◌, ◌≤◌, None};
 ghost use Rattle.pod_base.specs.Counts.{CountIncreased};
 ghost use Rattle.pod_disk.specs.Laws.{none_told};
 
-use crate::disk::Disk;
+use crate::disk::{Disk, LENGTH_LIMIT};
 use crate::lazy_file::LazyFile;
 use pod_base::Text;
 use pod_io::Failed;
-use std::fs::Files;
+use std::fs::{File, Files};
 use std::marker::Model;
 
-/// A disk over a file of the host. It tells nothing of what it holds, and counts its errors. It is opened at
-/// its first use, and a missing file is made: it is an empty disk. Contracts see its count of errors.
+/// A disk over a file of the host. It tells contracts nothing of what it holds; they see its count
+/// of errors.
+///
+/// The file is opened at the first use and locked until the disk is dropped, so that another disk
+/// over the same file gives a counted fault at each call. A missing file is an empty disk; it is
+/// made, for its owner alone, by the first write.
 #[derive(Drop)]
-pub struct FileDisk<R: Files + Drop> {
+pub struct FileDisk<R: Files<File = File> + Drop> {
     file: LazyFile<R>,
     faults: u64,
 }
 
-impl<R: Files + Drop> Model for FileDisk<R> {
+impl<R: Files<File = File> + Drop> Model for FileDisk<R> {
     ghost use Rattle.std.specs.Prelude.{ℕ};
 
     ghost Value = { ℕ };
@@ -25,9 +31,7 @@ impl<R: Files + Drop> Model for FileDisk<R> {
     ghost view = { λ d. d.faults };
 }
 
-const END: u64 = 1 << 63;
-
-impl<R: Files + Drop> FileDisk<R> {
+impl<R: Files<File = File> + Drop> FileDisk<R> {
     /// The disk in the file of that path.
     pub fn new(host: R, path: Text) -> FileDisk<R>
         ensures { result ≡ 0 }
@@ -55,7 +59,7 @@ impl<R: Files + Drop> FileDisk<R> {
     }
 }
 
-impl<R: Files + Drop> Disk for FileDisk<R> {
+impl<R: Files<File = File> + Drop> Disk for FileDisk<R> {
     ghost content = { λ _. None };
 
     ghost image = { λ _ _. ⊥ };
@@ -74,7 +78,7 @@ impl<R: Files + Drop> Disk for FileDisk<R> {
 
     fn len(&mut self) -> Result<u64, Failed> {
         match self.file.len() {
-            Ok(len) if len < END => Ok(len),
+            Ok(len) if len < LENGTH_LIMIT => Ok(len),
             _ => Err(self.fault()),
         }
     }
@@ -87,7 +91,7 @@ impl<R: Files + Drop> Disk for FileDisk<R> {
     }
 
     fn write_at(&mut self, at: u64, bytes: &[u8]) -> Result<(), Failed> {
-        if at >= END || bytes.len() as u64 >= END - at {
+        if at >= LENGTH_LIMIT || bytes.len() as u64 >= LENGTH_LIMIT - at {
             return Err(self.fault());
         }
         match self.file.write(at, bytes) {

@@ -1,37 +1,71 @@
-use pod_base::Text;
-use std::fs::{Files, OpenFile, OpenOptions};
-use std::io;
-use std::io::{Read, Seek, SeekFrom, Write};
+//! A file of the host: opened at its first use, made at its first write, locked, and synced before
+//! it is read.
 
-/// A file of the host, which is opened at its first use, and made where it is missing.
+use pod_base::Text;
+use std::fs::{File, Files, OpenFile, OpenOptions};
+use std::io;
+use std::os::fd::AsRawFd;
+use std::os::unix::fs::{FileExt, OpenOptionsExt};
+
+/// The permissions of a file that is made: its owner reads and writes it.
+const MODE: u32 = 0o600;
+
+/// A file of the host, opened at its first use. A missing one is an empty file, made at the first
+/// write.
 #[derive(Drop)]
-pub struct LazyFile<R: Files + Drop> {
+pub struct LazyFile<R: Files<File = File> + Drop> {
     host: R,
     path: Text,
-    file: Option<R::File>,
-    entered: bool,
+    file: Option<File>,
+    // There was no file at the first use. Then one that somebody else made meanwhile is refused.
+    is_missing: bool,
+    // What reads give is on the disk or on its way there: no sync has failed, and no older copies
+    // are kept.
+    is_settled: bool,
+    // The entry of the file in its folder is on the disk.
+    is_entered: bool,
 }
 
-// The file, opened where it was not.
-fn opened<'a, R: Files>(
+/// Opens a file and locks it, so that no other open of it succeeds here until this one is dropped.
+fn open_locked<R: Files<File = File>>(
     host: &R,
     path: &str,
-    file: &'a mut Option<R::File>,
-) -> io::Result<&'a mut R::File> {
-    match file {
-        Some(file) => Ok(file),
-        None => {
-            let made = OpenOptions::new()
-                .read(true)
-                .write(true)
-                .create(true)
-                .open(host, path)?;
-            Ok(file.insert(made))
-        }
+    options: &OpenOptions,
+) -> io::Result<File> {
+    let file = options.open(host, path)?;
+    file.try_lock()?;
+    Ok(file)
+}
+
+/// Opens the file, if there is one.
+fn found<R: Files<File = File>>(host: &R, path: &str) -> io::Result<Option<File>> {
+    let mut options = OpenOptions::new();
+    options.read(true).write(true);
+    match open_locked(host, path, &options) {
+        Ok(file) => Ok(Some(file)),
+        Err(error) if error.kind() == io::ErrorKind::NotFound => Ok(None),
+        Err(error) => Err(error),
     }
 }
 
-// The folder that the path leads to the file through.
+/// MakesCall the file. One that is there already is refused.
+fn made<R: Files<File = File>>(host: &R, path: &str) -> io::Result<File> {
+    let mut options = OpenOptions::new();
+    options.read(true).write(true).create_new(true).mode(MODE);
+    open_locked(host, path, &options)
+}
+
+/// Waits until the file is on the disk, and drops the system's copies of its pages, which a failed
+/// sync may have left other than the disk has them.
+fn settle(file: &File) -> io::Result<()> {
+    file.sync_all()?;
+    match libc::posix_fadvise(file.as_raw_fd(), 0, 0, libc::POSIX_FADV_DONTNEED) {
+        0 => Ok(()),
+        error => Err(io::Error::from_raw_os_error(error)),
+    }
+}
+
+/// The folder that the path leads to the file through.
 fn folder_of(path: &str) -> &str {
     match path.rsplit_once('/') {
         Some(("", _name)) => "/",
@@ -40,49 +74,99 @@ fn folder_of(path: &str) -> &str {
     }
 }
 
-impl<R: Files + Drop> LazyFile<R> {
+fn sync_folder<R: Files<File = File>>(host: &R, path: &str) -> io::Result<()> {
+    OpenOptions::new()
+        .read(true)
+        .open(host, folder_of(path))?
+        .sync_all()
+}
+
+impl<R: Files<File = File> + Drop> LazyFile<R> {
     pub fn new(host: R, path: Text) -> LazyFile<R> {
         LazyFile {
             host,
             path,
             file: None,
-            entered: false,
+            is_missing: false,
+            is_settled: false,
+            is_entered: false,
         }
     }
 
+    /// Opens the file where it was not, and settles it where that is still to be done.
+    fn prepare(&mut self) -> io::Result<()> {
+        if self.file.is_none() && !self.is_missing {
+            self.file = found(&self.host, self.path.as_str())?;
+            self.is_missing = self.file.is_none();
+        }
+        if let Some(file) = &self.file {
+            if !self.is_settled {
+                settle(file)?;
+                self.is_settled = true;
+            }
+        }
+        Ok(())
+    }
+
+    /// MakesCall the file where it is missing.
+    fn prepare_write(&mut self) -> io::Result<()> {
+        self.prepare()?;
+        if self.is_missing {
+            self.file = Some(made(&self.host, self.path.as_str())?);
+            self.is_missing = false;
+            self.is_settled = true;
+        }
+        Ok(())
+    }
+
+    /// How many bytes the file has: 0 where it is missing.
     pub fn len(&mut self) -> io::Result<u64> {
-        let file = opened(&self.host, self.path.as_str(), &mut self.file)?;
-        Ok(file.metadata()?.len())
+        self.prepare()?;
+        match &self.file {
+            Some(file) => Ok(file.metadata()?.len()),
+            None => Ok(0),
+        }
     }
 
     pub fn read(&mut self, at: u64, into: &mut [u8]) -> io::Result<()> {
-        let file = opened(&self.host, self.path.as_str(), &mut self.file)?;
-        file.seek(SeekFrom::Start(at))?;
-        file.read_exact(into)
+        self.prepare()?;
+        match &self.file {
+            Some(file) => file.read_exact_at(into, at),
+            None if into.is_empty() => Ok(()),
+            None => Err(io::ErrorKind::UnexpectedEof.into()),
+        }
     }
 
     pub fn write(&mut self, at: u64, bytes: &[u8]) -> io::Result<()> {
-        let file = opened(&self.host, self.path.as_str(), &mut self.file)?;
-        file.seek(SeekFrom::Start(at))?;
-        file.write_all(bytes)
+        self.prepare_write()?;
+        match &self.file {
+            Some(file) => file.write_all_at(bytes, at),
+            None => Err(io::ErrorKind::NotFound.into()),
+        }
     }
 
     pub fn cut(&mut self, len: u64) -> io::Result<()> {
-        let file = opened(&self.host, self.path.as_str(), &mut self.file)?;
-        file.set_len(len)
+        self.prepare()?;
+        match &self.file {
+            Some(file) => file.set_len(len),
+            None if len == 0 => Ok(()),
+            None => Err(io::ErrorKind::NotFound.into()),
+        }
     }
 
-    /// Waits until the file's bytes and length are on the disk. The first time it waits for its entry in
-    /// the folder too, without which a new file would be lost.
+    /// Waits until the file's bytes and length are on the disk. The first time it waits for its
+    /// entry in the folder too, without which a new file would be lost. Where it fails, the next
+    /// call settles the file first.
     pub fn sync(&mut self) -> io::Result<()> {
-        let file = opened(&self.host, self.path.as_str(), &mut self.file)?;
-        file.sync_all()?;
-        if !self.entered {
-            let folder = OpenOptions::new()
-                .read(true)
-                .open(&self.host, folder_of(self.path.as_str()))?;
-            folder.sync_all()?;
-            self.entered = true;
+        self.prepare()?;
+        if let Some(file) = &self.file {
+            self.is_settled = false;
+            file.sync_all()?;
+            if !self.is_entered {
+                sync_folder(&self.host, self.path.as_str())?;
+                self.is_entered = true;
+            }
+            self.is_settled = true;
         }
         Ok(())
     }

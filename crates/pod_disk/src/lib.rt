@@ -1,7 +1,7 @@
 //! The disks of a store: what their calls do, and what a crash may leave at each moment.
 //!
-//! A disk in memory tells its content and all that a crash may leave of it. One over a real file tells
-//! nothing; it is thin, and trusted.
+//! A disk in memory tells its content and all that a crash may leave of it. One over a real file
+//! tells nothing; it is thin, and trusted.
 #![tactic(auto)]
 
 mod call;
@@ -13,9 +13,9 @@ mod mem_disk;
 mod place;
 mod write;
 
-pub use call::{Call, Noted};
+pub use call::{Call, NotedCall};
 pub use crash::Tear;
-pub use disk::Disk;
+pub use disk::{Disk, LENGTH_LIMIT};
 pub use file_disk::FileDisk;
 pub use mem_disk::MemDisk;
 pub use place::{Disks, Place};

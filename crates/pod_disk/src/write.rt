@@ -1,11 +1,13 @@
+//! What the calls do to the bytes of a disk in memory.
+
 ghost use Rattle.std.specs.Prelude.{◌≡◌, OnOk, OnErr};
 ghost use Rattle.pod_disk.specs.Disk.{overwritten};
-ghost use Rattle.pod_disk.specs.Record.{done_by};
+ghost use Rattle.pod_disk.specs.NotedCalls.{done_by};
 
 use crate::call::Call;
 use pod_base::Mem;
 
-// Writes the bytes over those of the file from that offset on, or behind them where it has fewer.
+// Writes the bytes over those of the file from that offset on, or after them where it has fewer.
 pub fn put(file: &mut Vec<u8>, at: usize, bytes: &[u8]) -> Mem<()>
     ensures done { OnOk result (file.new.items ≡ overwritten at bytes.now file.old.items) }
     ensures kept { OnErr result (file.new.items ≡ file.old.items) }

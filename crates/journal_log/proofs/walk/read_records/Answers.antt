@@ -1,9 +1,9 @@
 use Rattle.std.proofs.Common.{◌≡◌, ◌+◌, ℕ, List, length, drop, refl, sym, ◌∙◌, ap, subst, arith}
 use Rattle.journal_log.specs.Scanning.{IsSeen, FrameFits, IsRecord}
-use Rattle.journal_log.specs.Walking.{IsReadTo, IsToMend}
+use Rattle.journal_log.specs.Walking.{IsReadTo, HasTornGate}
 use Rattle.journal_log.specs.declared.scan.Frame.{Frame}
-use Rattle.journal_log.proofs.QuietRuns.{quiet_none, quiet_then}
-use Rattle.journal_log.proofs.WalkSteps.{read_none, whole, broken, to_mend, read_more}
+use Rattle.journal_log.proofs.ReadRuns.{reads_none, reads_then}
+use Rattle.journal_log.proofs.WalkSteps.{read_none, whole, broken, torn_gate_found, read_more}
 use Rattle.journal_log.proofs.walk.read_records.Goals as goal
 
 pub loop-records-init : goal.loop-records-init
@@ -14,7 +14,7 @@ loop-records-init g c = record {
   size = refl;
   shown = c.requires.shown;
   content = refl;
-  quiet = quiet_none g.D.Disk.image g.D.Disk.moment g.D.Disk.left_since c.args.disk.now;
+  only_reads = reads_none g.D.Disk.image g.D.Disk.moment g.D.Disk.left_since c.args.disk.now;
   no_fewer = omega arith;
 }
 
@@ -41,8 +41,8 @@ returns-then-gate-ne1-clause-is g c =
     record {
       known = c.requires.known;
       room = omega (arith, size, fits.1, c.loop-records.invariant.size, c.requires.small);
-      gates = subst (λ (l : List (List ℕ)). IsToMend content c.args.head l end c.loop-records.at) (sym c.in_ok-keep-in-Record.ensures.kept)
-          (to_mend content c.args.window.now.size c.args.head c.loop-records.records.items c.loop-records.at c.loop-records.invariant.read
+      gates = subst (λ (l : List (List ℕ)). HasTornGate content c.args.head l end c.loop-records.at) (sym c.in_ok-keep-in-Record.ensures.kept)
+          (torn_gate_found content c.args.window.now.size c.args.head c.loop-records.records.items c.loop-records.at c.loop-records.invariant.read
           c.in-Record.gate c.in-Record.body end fits.0 c.if-gate-ne1.true (omega (arith, fits.1, c.loop-records.invariant.size, c.requires.small))
           (omega (arith, size))
           (λ b told. subst (λ (f : Frame). IsSeen f (drop c.loop-records.at b)) c.in-Record.is (c.in_ok-frame_at.ensures.is b (c.loop-records.invariant.content ∙ told))));
@@ -66,6 +66,6 @@ loop-records-preserved g c =
       size = kept.size ∙ c.loop-records.invariant.size;
       shown = kept.shown;
       content = kept.content ∙ c.loop-records.invariant.content;
-      quiet = quiet_then g.D.Disk.image g.D.Disk.moment g.D.Disk.left_since _ _ _ c.loop-records.invariant.quiet c.frame_at.ensures.quiet;
+      only_reads = reads_then g.D.Disk.image g.D.Disk.moment g.D.Disk.left_since _ _ _ c.loop-records.invariant.only_reads c.frame_at.ensures.only_reads;
       no_fewer = omega (arith, c.loop-records.invariant.no_fewer, c.frame_at.ensures.no_fewer);
     }

@@ -1,5 +1,5 @@
 use Rattle.std.proofs.Common.{◌≡◌, drop}
-use Rattle.pod_disk.specs.Record.{content_at}
+use Rattle.pod_disk.specs.NotedCalls.{content_at}
 use Rattle.pod_disk.proofs.crash.replay.Given as goal
 
 abbrev pub invariant-loop-noted : goal.invariant-loop-noted

@@ -1,8 +1,7 @@
-use Rattle.std.proofs.Common.{List, ℕ, length, sym, ap, subst}
+use Rattle.std.proofs.Common.{ℕ, length, sym, ap, subst}
 use Rattle.std.proofs.lemmas.Result.{on_ok_weaker}
-use Rattle.pod_disk.specs.Disk.{Torn, Cut}
-use Rattle.pod_disk.specs.Record.{Step}
-use Rattle.pod_disk.specs.Laws.{whole_is_cut}
+use Rattle.pod_disk.specs.Disk.{Torn}
+use Rattle.pod_disk.specs.NotedCalls.{Step}
 use Rattle.pod_disk.specs.declared.call.Call.{Call}
 use Rattle.pod_disk.proofs.crash.tear_call.Goals as goal
 
@@ -14,5 +13,5 @@ returns-in-Write c =
 
 pub returns-in-Cut : goal.returns-in-Cut
 returns-in-Cut c =
-    subst (λ (call : Call). Step call c.args.image.now.items c.truncate.new.self.items) (sym c.in-Cut.is)
-    (subst (λ (l : List ℕ). Cut c.in-Cut.len c.args.image.now.items l) (sym c.truncate.ensures.items) (whole_is_cut c.in-Cut.len c.args.image.now.items))
+    on_ok_weaker c.tear_cut.result (λ cut.
+    subst (λ (call : Call). Step call c.args.image.now.items c.tear_cut.new.image.items) (sym c.in-Cut.is) cut) c.tear_cut.ensures

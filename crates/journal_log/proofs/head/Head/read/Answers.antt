@@ -1,6 +1,6 @@
 use Rattle.std.proofs.Common.{drop, sym, ◌∙◌}
 use Rattle.journal_log.proofs.HeadBytes.{head_whole, no_head_short, no_head_mark, no_head_epoch}
-use Rattle.journal_log.proofs.AppendRuns.{true_is_false}
+use Rattle.journal_log.proofs.DoubtCases.{true_is_false}
 use Rattle.journal_log.proofs.head.Head.read.Goals as goal
 
 pub returns-then-bytes-lt16-clause-none : goal.returns-then-bytes-lt16-clause-none

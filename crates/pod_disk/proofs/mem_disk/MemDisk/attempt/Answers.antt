@@ -1,6 +1,6 @@
 use Rattle.std.proofs.Common.{◌∙◌, sym, ap}
-use Rattle.pod_disk.specs.Record.{done_by}
-use Rattle.pod_disk.proofs.Making.{replay_done, replay_failed}
+use Rattle.pod_disk.specs.NotedCalls.{done_by}
+use Rattle.pod_disk.proofs.OneMoreCall.{replay_done, replay_failed}
 use Rattle.pod_disk.proofs.mem_disk.MemDisk.attempt.Goals as goal
 
 pub invariant_of-self : goal.invariant_of-self

@@ -1,4 +1,4 @@
-use Rattle.pod_disk.proofs.Making.{passes_made, content_made, content_missed, settles_made}
+use Rattle.pod_disk.proofs.OneMoreCall.{passes_made, content_made, content_missed, settles_made}
 use Rattle.pod_disk.proofs.mem_disk.MemDisk.make.Goals as goal
 
 pub returns-clause-passes : goal.returns-clause-passes

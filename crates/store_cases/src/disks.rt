@@ -1,0 +1,134 @@
+//! Calls of a disk in memory, and what a crash leaves of it. A call is a field: `len`, `read AT
+//! COUNT`, `write AT BYTES`, `cut LEN` or `sync`.
+
+use crate::number;
+use crate::tears::tears;
+use case_lines::{bytes, shown};
+use pod_base::Mem;
+use pod_disk::{Call, Disk, MemDisk};
+use pod_io::Failed;
+use std::alloc::Global;
+
+/// The first word of a field, and what follows it.
+fn first_word(field: &str) -> (&str, &str) {
+    field.split_once(' ').unwrap_or((field, ""))
+}
+
+fn read(disk: &mut MemDisk, at: u64, into: &mut [u8]) -> Result<(), Failed> {
+    let len = disk.bytes().len();
+    if at > len as u64 || into.len() > len - at as usize {
+        return Err(Failed);
+    }
+    disk.read(at, into)
+}
+
+fn write(disk: &mut MemDisk, at: u64, bytes: &[u8]) -> Result<(), Failed> {
+    if at > disk.bytes().len() as u64 {
+        return Err(Failed);
+    }
+    disk.write_at(at, bytes)
+}
+
+fn cut(disk: &mut MemDisk, len: u64) -> Result<(), Failed> {
+    if len > disk.bytes().len() as u64 {
+        return Err(Failed);
+    }
+    disk.cut(len)
+}
+
+fn done(alloc: Global, outcome: Result<(), Failed>) -> Mem<String> {
+    match outcome {
+        Ok(()) => Ok(String::from_str(alloc, "ok")?),
+        Err(Failed) => Ok(String::from_str(alloc, "failed")?),
+    }
+}
+
+fn measured(alloc: Global, disk: &mut MemDisk) -> Mem<String> {
+    match disk.len() {
+        Ok(len) => Ok(format!(in alloc; "{len}")?),
+        Err(failed) => done(alloc, Err(failed)),
+    }
+}
+
+fn bytes_read(alloc: Global, disk: &mut MemDisk, at: u64, count: u64) -> Mem<String> {
+    let mut into = vec![in alloc; 0u8; count.min(65_536) as usize]?;
+    match read(disk, at, &mut into) {
+        Ok(()) => Ok(shown(alloc, &into)?),
+        Err(failed) => done(alloc, Err(failed)),
+    }
+}
+
+/// Makes a call, and gives its outcome. One whose range lies outside the disk fails without a call.
+fn outcome(alloc: Global, disk: &mut MemDisk, field: &str) -> Mem<String> {
+    let (word, rest) = first_word(field);
+    let (first, second) = first_word(rest);
+    match word {
+        "len" => measured(alloc, disk),
+        "read" => bytes_read(alloc, disk, number(first), number(second)),
+        "write" => {
+            let bytes = bytes(alloc, second)?;
+            let written = write(disk, number(first), &bytes);
+            done(alloc, written)
+        }
+        "cut" => {
+            let cut = cut(disk, number(first));
+            done(alloc, cut)
+        }
+        "sync" => {
+            let synced = disk.sync();
+            done(alloc, synced)
+        }
+        _ => Ok(String::from_str(alloc, "no call")?),
+    }
+}
+
+/// A disk of these bytes whose call of this number fails, after these calls.
+pub(crate) fn after(alloc: Global, image: Vec<u8>, failing: u64, calls: &[&str]) -> Mem<MemDisk> {
+    let mut disk = MemDisk::new(alloc, image, vec![in alloc; failing]?)?;
+    for field in calls {
+        let _outcome = outcome(alloc, &mut disk, field)?;
+    }
+    Ok(disk)
+}
+
+/// The outcomes of these calls on a disk of these bytes whose call of this number fails, then how
+/// many calls it has noted, and what it holds.
+pub(crate) fn outcomes(alloc: Global, image: Vec<u8>, failing: u64, calls: &[&str]) -> Mem<String> {
+    let mut disk = MemDisk::new(alloc, image, vec![in alloc; failing]?)?;
+    let mut text = String::new(alloc);
+    for field in calls {
+        let one = outcome(alloc, &mut disk, field)?;
+        text.push_str(one.as_str())?;
+        text.push(' ')?;
+    }
+    let held = shown(alloc, disk.bytes())?;
+    Ok(format!(in alloc; "{text}{} {held}", disk.noted().len())?)
+}
+
+/// What a crash after so many calls leaves of a disk, with these tears.
+pub(crate) fn crash(alloc: Global, disk: &MemDisk, count: u64, field: &str) -> Mem<String> {
+    if count > disk.noted().len() as u64 {
+        return Ok(String::from_str(alloc, "no such call")?);
+    }
+    let left = disk.crash(alloc, count as usize, &tears(alloc, field)?)?;
+    Ok(shown(alloc, left.as_slice())?)
+}
+
+fn letter(call: &Call) -> char {
+    match call {
+        Call::Length => 'l',
+        Call::Read { .. } => 'r',
+        Call::Write { .. } => 'w',
+        Call::Cut { .. } => 'c',
+        Call::Sync => 's',
+    }
+}
+
+/// The calls that a disk has noted, a letter each.
+pub(crate) fn letters(alloc: Global, disk: &MemDisk) -> Mem<String> {
+    let mut letters = String::new(alloc);
+    for noted in disk.noted() {
+        letters.push(letter(&noted.call))?;
+    }
+    Ok(letters)
+}
