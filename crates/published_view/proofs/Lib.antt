@@ -1,2 +1,2 @@
-pub mod Adding
+pub mod Appending
 pub mod Prefixes

@@ -18,11 +18,11 @@ struct Counted {
 }
 
 impl Told for Counted {
-    ghost use Rattle.std.specs.Prelude.{◌≡◌, length};
+    ghost use Rattle.std.specs.Prelude.{◌≡◌, ◌+◌, length};
 
     type Item = u64;
 
-    ghost stands = { λ v list. v.number ≡ length list };
+    ghost stands = { λ v first list. v.number ≡ first + length list };
 }
 
 fn version_of(alloc: Global, number: u64) -> Mem<Arc<Counted>>
@@ -103,7 +103,7 @@ fn a_view_opens_and_each_look_gives_what_was_published(rt: HostRuntime) -> Resul
     Ok(())
 }
 
-/// Looks until it has found the version with this number. False where there is no looker, a look gives none, or the
+/// LookRecord until it has found the version with this number. False where there is no looker, a look gives none, or the
 /// numbers fall.
 fn follow<N: ViewName<u64>, R: Wait>(
     rt: &R,

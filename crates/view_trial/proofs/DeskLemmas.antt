@@ -1,5 +1,5 @@
 -- Desks beside each other.
-use Rattle.std.proofs.Common.{◌≡◌, ℕ, ◌+◌, All, List, [], ◌∷◌, ◌++◌, ap, ap₂, refl, ◌∙◌, sym}
+use Rattle.std.proofs.Common.{◌≡◌, arith, ℕ, ◌+◌, All, List, [], ◌∷◌, ◌++◌, ap, ap₂, refl, ◌∙◌, sym}
 use Rattle.std.specs.Prelude.{sum_by}
 use Rattle.std.proofs.lemmas.List.Elements.{All-cons, All-nil}
 use Rattle.std.proofs.lemmas.List.Sums.{sum_by-cons}
@@ -49,7 +49,7 @@ module _ {A : Type 0} (visit : A → Visit) (entered : A → ℕ) where
   pub served_then_met : (guests : List ℕ) (xs ys zs : List A) → EachTo ServedAt xs ys → EachTo (MetAt guests) ys zs → EachTo ServedAt xs zs
   served_then_met guests =
       EachTo-then ServedAt (MetAt guests) ServedAt
-      (λ x y z s m. (prefix_trans (visit x).seen (visit y).seen (visit z).seen s.0 m.0.0, m.0.2 ∙ (s.1 ∙ ap (λ n. (visit x).changes + n) (sym m.1))))
+      (λ x y z s m. (prefix_trans (visit x).seen (visit y).seen (visit z).seen s.0 m.0.0, m.0.2 ∙ (s.1 ∙ ap (λ n. (visit x).changes + n) (sym m.1)), omega (arith, s.2, m.0.3)))
 
   pub all_met : (guests : List ℕ) (xs ys : List A) → EachTo (MetAt guests) xs ys → All (λ d. (visit d).seen ≡ guests) ys
   all_met guests = All-EachTo (MetAt guests) (λ d. (visit d).seen ≡ guests) (λ x y m. m.0.1)

@@ -5,7 +5,7 @@ ghost use Rattle.view_trial.specs.Desks.{EachTo, Served};
 
 use crate::live::Rounds;
 use crate::session::Session;
-use crate::version::{Done, Reply};
+use crate::version::{Done, Opened, Reply};
 use published_view::ViewName;
 use std::alloc::Global;
 use std::sync::Wait;
@@ -14,7 +14,7 @@ use std::thread::{Threads, join_mut};
 
 /// A session with the guests that it is to enter, and how many of them it entered when it was served last.
 #[derive(Drop)]
-pub struct Desk<N: ViewName<u64> + Ledger> {
+pub struct Desk<N: ViewName<u64> + Opened + Ledger> {
     pub session: Session<N>,
     pub guest: u64,
     pub wanted: u64,
@@ -22,7 +22,7 @@ pub struct Desk<N: ViewName<u64> + Ledger> {
 }
 
 /// Enters the guests of one desk.
-fn serve_one<N: ViewName<u64> + Ledger, L: Rounds<N>, R: Wait>(
+fn serve_one<N: ViewName<u64> + Opened + Ledger, L: Rounds<N>, R: Wait>(
     rt: &R,
     alloc: &Global,
     live: &L,
@@ -47,7 +47,7 @@ fn serve_one<N: ViewName<u64> + Ledger, L: Rounds<N>, R: Wait>(
 
 /// Enters the guests of all desks, the halves beside each other.
 fn serve_beside<
-    N: ViewName<u64> + Ledger + Send + Sync,
+    N: ViewName<u64> + Opened + Ledger + Send + Sync,
     L: Rounds<N> + Sync,
     R: Threads + Wait + Sync,
 >(rt: &R, alloc: &Global, live: &L, desks: &mut [Desk<N>])
@@ -77,7 +77,7 @@ fn serve_beside<
 /// Enters the guests of all desks, the halves beside each other. The desks hold all sessions. Afterwards all of them have
 /// seen one list of guests, whose length is what the book opened with and all that the sessions ever entered.
 pub fn serve<
-    N: ViewName<u64> + Ledger + Send + Sync,
+    N: ViewName<u64> + Opened + Ledger + Send + Sync,
     L: Rounds<N> + Sync,
     R: Threads + Wait + Sync,
 >(rt: &R, alloc: Global, live: &L, desks: &mut [Desk<N>])

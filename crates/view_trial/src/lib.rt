@@ -16,4 +16,4 @@ pub use desk::{Desk, serve};
 pub use keeper::Keeper;
 pub use live::{Live, Rounds};
 pub use session::Session;
-pub use version::{Done, ROOM, Reply, Version};
+pub use version::{Done, Opened, ROOM, Reply, Version};
