@@ -4,7 +4,7 @@ use Rattle.std.specs.List.{AllByRecursion}
 use Rattle.pod_base.specs.declared.request.Request.{Request}
 use Rattle.pod_base.specs.declared.heard.Heard.{Heard}
 use Rattle.pod_base.specs.declared.heard.Heard.TheVariants as heard
-use Rattle.http_head.specs.Framing.{framing}
+use Rattle.http_head.specs.BodyFraming.{framing}
 use Rattle.http_conn.specs.Messages.{IsBad, bad_head, bad_body, status_of, IsPartial, in_head, in_body, IsOpen, IsEnd, EndsThere, StaysOpen, Messages, heard_of, heard_one, interim_of, waits_for, closes_behind, most_requests}
 use Rattle.http_conn.proofs.Readings.{Reads, partly, badly, last, next, reads_of}
 

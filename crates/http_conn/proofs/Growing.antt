@@ -4,8 +4,8 @@ use Rattle.std.proofs.lemmas.List.{append-nil, drop-append-le}
 use Rattle.pod_base.specs.declared.request.Request.{Request}
 use Rattle.pod_base.specs.declared.heard.Heard.{Heard}
 use Rattle.pod_base.specs.declared.heard.Heard.TheVariants as heard
-use Rattle.http_head.specs.declared.head.RequestHead.{RequestHead}
-use Rattle.http_head.specs.declared.form.BodyForm.{BodyForm}
+use Rattle.http_head.specs.declared.request_head.RequestHead.{RequestHead}
+use Rattle.http_head.specs.declared.body_form.BodyForm.{BodyForm}
 use Rattle.http_conn.specs.Messages.{HasHead, IsFirst, IsBad, bad_head, bad_body, status_of, IsPartial, in_head, in_body, Messages, FirstHeard, heard_one, interim_of}
 use Rattle.http_conn.proofs.Reading.{head_stays, first_stays, bad_stays}
 use Rattle.http_conn.proofs.Readings.{Reads, partly, badly, last, next, head_not_bad, one_head, not_yet_no_head, first_one, partial_not_first, bad_not_first, last_not_next, reads_one, reads_of}

@@ -1,5 +1,4 @@
 pub mod Endings
 pub mod Growing
-pub mod HeadEnds
 pub mod Reading
 pub mod Readings

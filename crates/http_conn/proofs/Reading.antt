@@ -9,16 +9,17 @@ use Rattle.std.proofs.Math.Seq.{drop-length, take-length, take-append-add}
 use Rattle.pod_base.specs.declared.request.Request.{Request}
 use Rattle.pod_base.specs.declared.heard.Heard.{Heard}
 use Rattle.pod_base.specs.declared.heard.Heard.TheVariants as heard
-use Rattle.http_head.specs.declared.ends.HeadEnd.TheVariants.{Whole, NotYet, TooLong}
-use Rattle.http_head.specs.declared.head.RequestHead.{RequestHead}
-use Rattle.http_head.specs.declared.form.BodyForm.{BodyForm}
-use Rattle.http_head.specs.declared.framed.FramingFault.TheVariants as framing_fault
-use Rattle.http_head.specs.Ends.{head_end}
-use Rattle.http_head.specs.Heads.{IsTooMany, IsMalformed, LacksHost, Says}
-use Rattle.http_head.specs.Framing.{framing}
-use Rattle.http_head.specs.Wishes.{closes, expects_continue}
-use Rattle.http_head.specs.Search.{HasSeen}
-use Rattle.http_payload.specs.declared.fault.PayloadFault.{PayloadFault}
+use Rattle.http_head.specs.declared.head_ends.HeadEnd.TheVariants.{Whole, NotYet, TooLong}
+use Rattle.http_head.specs.declared.request_head.RequestHead.{RequestHead}
+use Rattle.http_head.specs.declared.body_form.BodyForm.{BodyForm}
+use Rattle.http_head.specs.declared.body_framing.FramingFault.TheVariants as framing_fault
+use Rattle.http_head.specs.HeadEnds.{head_end}
+use Rattle.http_head.specs.Heads.{HasTooManyLines, IsMalformedHead, LacksHost, ParsesTo}
+use Rattle.http_head.specs.BodyFraming.{framing}
+use Rattle.http_head.specs.Persistence.{closes}
+use Rattle.http_head.specs.Expectation.{expects_continue}
+use Rattle.http_head.specs.HeadScan.{HasScanned}
+use Rattle.http_payload.specs.declared.payload_fault.PayloadFault.{PayloadFault}
 use Rattle.http_payload.specs.Bodies.{IsBody, IsFault, IsPartial as IsPartialBody}
 use Rattle.http_payload.proofs.LawLemmas.{fault_stays}
 use Rattle.http_conn.specs.Messages.{HasHead, IsFirst, Requests, IsBadHead, too_long, too_many, malformed, host, conflict, coding, too_large, IsBad, bad_head, bad_body, status_of, in_head, in_body, IsEnd, IsOpen, Messages, unfinished, refused, ended, heard_of, heard_one, interim_of, waits_for, with_body, rest_length, closes_behind, most_requests}
@@ -26,18 +27,18 @@ use Rattle.http_conn.specs.declared.stage.Stage.{Stage}
 use Rattle.http_conn.specs.declared.stage.Stage.TheVariants.{Head, Body, Over, Failed}
 use Rattle.http_conn.specs.declared.stage.OpenHead.{OpenHead}
 use Rattle.http_conn.specs.declared.stage.OpenBody.{OpenBody}
-use Rattle.http_payload.specs.Held as payload
+use Rattle.http_payload.specs.PayloadState as payload
 use Rattle.http_conn.specs.Held.{InBody, HasEnded, Stands, rest_of, Goes, GoesBehind, GoesBehindHead, AwaitsBehindHead, EndsRequest}
-use Rattle.http_conn.proofs.HeadEnds.{whole_stays, whole_there, long_stays, blank_stays, blank_fits}
+use Rattle.http_head.proofs.HeadEndLaws.{whole_stays, whole_within, long_stays, blank_stays, blank_fits}
 
 -- ---- longer texts
 
 pub head_stays : (text more : List ℕ) (len : ℕ) (said : RequestHead) (form : BodyForm) → HasHead text len said form → HasHead (text ++ more) len said form
 head_stays text more len said form h =
-    let there = whole_there text len h.ends in
+    let there = whole_within text len h.ends in
     record {
       ends = whole_stays text more len h.ends;
-      says = subst (λ front. Says front said) (sym (take-append-le len text more there)) h.says;
+      says = subst (λ front. ParsesTo front said) (sym (take-append-le len text more there)) h.says;
       framed = h.framed;
     }
 
@@ -74,20 +75,20 @@ requests_snoc (request ∷ requests) text left rest last len h first is = (h.0, 
 
 bad_head_stays : (text more : List ℕ) (status : ℕ) → IsBadHead text status → IsBadHead (text ++ more) status
 bad_head_stays text more _ (too_long e) = too_long (long_stays text more e)
-bad_head_stays text more _ (too_many len e h) = too_many len (whole_stays text more len e) (subst IsTooMany (sym (take-append-le len text more (whole_there text len e))) h)
-bad_head_stays text more _ (malformed len e h) = malformed len (whole_stays text more len e) (subst IsMalformed (sym (take-append-le len text more (whole_there text len e))) h)
-bad_head_stays text more _ (host len e h) = host len (whole_stays text more len e) (subst LacksHost (sym (take-append-le len text more (whole_there text len e))) h)
+bad_head_stays text more _ (too_many len e h) = too_many len (whole_stays text more len e) (subst HasTooManyLines (sym (take-append-le len text more (whole_within text len e))) h)
+bad_head_stays text more _ (malformed len e h) = malformed len (whole_stays text more len e) (subst IsMalformedHead (sym (take-append-le len text more (whole_within text len e))) h)
+bad_head_stays text more _ (host len e h) = host len (whole_stays text more len e) (subst LacksHost (sym (take-append-le len text more (whole_within text len e))) h)
 bad_head_stays text more _ (conflict len said e h f) =
-    conflict len said (whole_stays text more len e) (subst (λ front. Says front said) (sym (take-append-le len text more (whole_there text len e))) h) f
+    conflict len said (whole_stays text more len e) (subst (λ front. ParsesTo front said) (sym (take-append-le len text more (whole_within text len e))) h) f
 bad_head_stays text more _ (coding len said e h f) =
-    coding len said (whole_stays text more len e) (subst (λ front. Says front said) (sym (take-append-le len text more (whole_there text len e))) h) f
+    coding len said (whole_stays text more len e) (subst (λ front. ParsesTo front said) (sym (take-append-le len text more (whole_within text len e))) h) f
 bad_head_stays text more _ (too_large len said e h f) =
-    too_large len said (whole_stays text more len e) (subst (λ front. Says front said) (sym (take-append-le len text more (whole_there text len e))) h) f
+    too_large len said (whole_stays text more len e) (subst (λ front. ParsesTo front said) (sym (take-append-le len text more (whole_within text len e))) h) f
 
 pub bad_stays : (text more : List ℕ) (hears : List Heard) (status : ℕ) → IsBad text hears status → IsBad (text ++ more) hears status
 bad_stays text more _ _ (bad_head status h) = bad_head status (bad_head_stays text more status h)
 bad_stays text more _ _ (bad_body len said form fault h f) =
-    let cut : drop len (text ++ more) ≡ drop len text ++ more = drop-append-le len text more (whole_there text len h.ends) in
+    let cut : drop len (text ++ more) ≡ drop len text ++ more = drop-append-le len text more (whole_within text len h.ends) in
     bad_body len said form fault (head_stays text more len said form h) (subst (λ t. IsFault form t fault) (sym cut) (fault_stays form (drop len text) more fault f))
 
 -- ---- the ends
@@ -164,7 +165,7 @@ finishes_over count said body told new ends new_is text before requests reads st
 
 -- a whole request is told, and a head is waited for
 pub finishes_head : (count : ℕ) (said : RequestHead) (body : List ℕ) (told new : List Heard) (begun : OpenHead) → (closes said.minor said.fields || nat_le 10_000 (count + 1)) ≡ false
-    → new ≡ told ++ heard.Request (with_body said body) ∷ [] → begun.bytes.items ≡ [] → HasSeen begun.search [] → begun.count ≡ count + 1
+    → new ≡ told ++ heard.Request (with_body said body) ∷ [] → begun.bytes.items ≡ [] → HasScanned begun.search [] → begun.count ≡ count + 1
     → EndsRequest count said body told (Head begun) new
 finishes_head count said body told new begun ends new_is none seen next text before requests reads stays count_is is =
     let last : Request = with_body said body in
@@ -177,7 +178,7 @@ finishes_head count said body told new begun ends new_is none seen next text bef
       count = omega (arith, next, count_is, length-append requests (last ∷ []));
       is = ap (λ h. before ++ h) new_is ∙ heard_snoc requests last before told is;
       not_yet = subst (λ b. head_end b ≡ NotYet) (sym none) refl;
-      seen = subst (HasSeen begun.search) (sym none) seen;
+      seen = subst (HasScanned begun.search) (sym none) seen;
     }
 
 waits_as : (said : RequestHead) (form : BodyForm) → framing said.minor said.fields ≡ Ok form
@@ -191,9 +192,9 @@ told_interim before told interim new requests said form framed new_is is =
     let some : List Heard = if expects_continue said.minor said.fields form then heard.Interim ∷ [] else [] in
     ap (λ h. before ++ h) new_is ∙ sym (append_assoc before told some) ∙ ap (λ h. h ++ some) is ∙ ap (λ h. heard_of requests ++ h) (sym (waits_as said form framed))
 
-whole_has_head : (left : List ℕ) (said : RequestHead) (form : BodyForm) → head_end left ≡ Whole (length left) → Says left said → framing said.minor said.fields ≡ Ok form
+whole_has_head : (left : List ℕ) (said : RequestHead) (form : BodyForm) → head_end left ≡ Whole (length left) → ParsesTo left said → framing said.minor said.fields ≡ Ok form
     → HasHead left (length left) said form
-whole_has_head left said form ends says framed = record { ends = ends; says = subst (λ t. Says t said) (sym (take-length left)) says; framed = framed }
+whole_has_head left said form ends says framed = record { ends = ends; says = subst (λ t. ParsesTo t said) (sym (take-length left)) says; framed = framed }
 
 -- a body that is empty is whole at once
 pub awaits_none : (count len : ℕ) (said : RequestHead) (form : BodyForm) (told interim hears : List Heard) (new : Stage) (body : List ℕ)
@@ -217,7 +218,7 @@ awaits_none count len said form told interim hears new body interim_is is_body f
 
 -- a body that is waited for
 pub awaits_body : (count len : ℕ) (said : RequestHead) (form : BodyForm) (told new : List Heard) (begun : OpenBody)
-    → new ≡ told ++ (if expects_continue said.minor said.fields form then heard.Interim ∷ [] else []) → IsPartialBody form [] → payload.Stands form begun.payload []
+    → new ≡ told ++ (if expects_continue said.minor said.fields form then heard.Interim ∷ [] else []) → IsPartialBody form [] → payload.Represents form begun.payload []
     → begun.said ≡ said → begun.len ≡ len → begun.count ≡ count → AwaitsBehindHead count len said form told (Body begun) new
 awaits_body count len said form told new begun new_is partial stands said_is len_same count_same left ends says framed len_is text before r =
     let none : drop (length left) left ≡ [] = drop-length left in
@@ -233,7 +234,7 @@ awaits_body count len said form told new begun new_is partial stands said_is len
       there = omega arith;
       begins = subst (λ s. HasHead left (length left) s form) (sym said_is) (whole_has_head left said form ends says framed);
       body = subst (IsPartialBody form) (sym none) partial;
-      stands = subst (payload.Stands form begun.payload) (sym none) stands;
+      stands = subst (payload.Represents form begun.payload) (sym none) stands;
       rest = len_same ∙ len_is;
     }
 
@@ -253,7 +254,7 @@ head_goes begun bytes told new next goes text before s =
     goes (text ++ bytes) before (record { requests = s.requests; reads = requests_stay s.requests text begun.bytes.items bytes s.reads; stays = s.stays; count_is = s.count; is = s.is })
 
 -- a head that has not ended goes on
-pub head_waits : (count : ℕ) (left : List ℕ) (told : List Heard) (begun : OpenHead) → begun.bytes.items ≡ left → head_end left ≡ NotYet → HasSeen begun.search left → begun.count ≡ count
+pub head_waits : (count : ℕ) (left : List ℕ) (told : List Heard) (begun : OpenHead) → begun.bytes.items ≡ left → head_end left ≡ NotYet → HasScanned begun.search left → begun.count ≡ count
     → GoesBehind count left told (Head begun) told
 head_waits count left told begun bytes not_yet seen same text before r = record {
   requests = r.requests;
@@ -262,14 +263,14 @@ head_waits count left told begun bytes not_yet seen same text before r = record 
   count = same ∙ r.count_is;
   is = r.is;
   not_yet = subst (λ b. head_end b ≡ NotYet) (sym bytes) not_yet;
-  seen = subst (HasSeen begun.search) (sym bytes) seen;
+  seen = subst (HasScanned begun.search) (sym bytes) seen;
 }
 
 refuses_fault : (count len : ℕ) (said : RequestHead) (told new : List Heard) (status : ℕ)
-    → ((left : List ℕ) → head_end left ≡ Whole (length left) → Says (take (length left) left) said → IsBadHead left status)
+    → ((left : List ℕ) → head_end left ≡ Whole (length left) → ParsesTo (take (length left) left) said → IsBadHead left status)
     → new ≡ told ++ heard.Bad status ∷ [] → GoesBehindHead count len said told Over new
 refuses_fault count len said told new status bad new_is left ends says len_is =
-    refuses_head count left told new status (bad left ends (subst (λ t. Says t said) (sym (take-length left)) says)) new_is
+    refuses_head count left told new status (bad left ends (subst (λ t. ParsesTo t said) (sym (take-length left)) says)) new_is
 
 pub refuses_conflict : (count len : ℕ) (said : RequestHead) (told new : List Heard) → framing said.minor said.fields ≡ Err framing_fault.Conflict → new ≡ told ++ heard.Bad 400 ∷ []
     → GoesBehindHead count len said told Over new
@@ -286,11 +287,11 @@ refuses_large count len said told new f = refuses_fault count len said told new 
 whole_of : (P : List ℕ → Type 0) (left : List ℕ) → P left → P (take (length left) left)
 whole_of P left p = subst P (sym (take-length left)) p
 
-pub refuses_many : (count : ℕ) (left : List ℕ) (told new : List Heard) → head_end left ≡ Whole (length left) → IsTooMany left → new ≡ told ++ heard.Bad 431 ∷ [] → GoesBehind count left told Over new
-refuses_many count left told new ends h = refuses_head count left told new 431 (too_many (length left) ends (whole_of IsTooMany left h))
+pub refuses_many : (count : ℕ) (left : List ℕ) (told new : List Heard) → head_end left ≡ Whole (length left) → HasTooManyLines left → new ≡ told ++ heard.Bad 431 ∷ [] → GoesBehind count left told Over new
+refuses_many count left told new ends h = refuses_head count left told new 431 (too_many (length left) ends (whole_of HasTooManyLines left h))
 
-pub refuses_malformed : (count : ℕ) (left : List ℕ) (told new : List Heard) → head_end left ≡ Whole (length left) → IsMalformed left → new ≡ told ++ heard.Bad 400 ∷ [] → GoesBehind count left told Over new
-refuses_malformed count left told new ends h = refuses_head count left told new 400 (malformed (length left) ends (whole_of IsMalformed left h))
+pub refuses_malformed : (count : ℕ) (left : List ℕ) (told new : List Heard) → head_end left ≡ Whole (length left) → IsMalformedHead left → new ≡ told ++ heard.Bad 400 ∷ [] → GoesBehind count left told Over new
+refuses_malformed count left told new ends h = refuses_head count left told new 400 (malformed (length left) ends (whole_of IsMalformedHead left h))
 
 pub refuses_host : (count : ℕ) (left : List ℕ) (told new : List Heard) → head_end left ≡ Whole (length left) → LacksHost left → new ≡ told ++ heard.Bad 400 ∷ [] → GoesBehind count left told Over new
 refuses_host count left told new ends h = refuses_head count left told new 400 (host (length left) ends (whole_of LacksHost left h))
@@ -306,7 +307,7 @@ body_grows begun text hears s bytes = drop-append-le s.head s.left bytes s.there
 
 -- the body has ended
 pub body_ends : (begun : OpenBody) (front body : List ℕ) (told new : List Heard) (next : Stage)
-    → ((form : BodyForm) (text : List ℕ) → payload.Stands form begun.payload text → IsBody form (text ++ front) body)
+    → ((form : BodyForm) (text : List ℕ) → payload.Represents form begun.payload text → IsBody form (text ++ front) body)
     → EndsRequest begun.count begun.said body told next new → Goes (Body begun) told front next new
 body_ends begun front body told new next whole finishes text before s =
     let left : List ℕ = s.left ++ front in
@@ -333,8 +334,8 @@ body_ends begun front body told new next whole finishes text before s =
 
 -- the body goes on
 pub body_waits : (begun new : OpenBody) (bytes : List ℕ) (told : List Heard) → new.said ≡ begun.said → new.count ≡ begun.count → new.len ≡ begun.len + length bytes
-    → ((form : BodyForm) (text : List ℕ) → payload.Stands form begun.payload text → IsPartialBody form (text ++ bytes))
-    → ((form : BodyForm) (text : List ℕ) → payload.Stands form begun.payload text → payload.Stands form new.payload (text ++ bytes))
+    → ((form : BodyForm) (text : List ℕ) → payload.Represents form begun.payload text → IsPartialBody form (text ++ bytes))
+    → ((form : BodyForm) (text : List ℕ) → payload.Represents form begun.payload text → payload.Represents form new.payload (text ++ bytes))
     → Goes (Body begun) told bytes (Body new) told
 body_waits begun new bytes told said_is count_is len_is partial stands text before s =
     let left : List ℕ = s.left ++ bytes in
@@ -351,13 +352,13 @@ body_waits begun new bytes told said_is count_is len_is partial stands text befo
       there = omega (arith, s.there, length-append s.left bytes);
       begins = subst (λ h. HasHead left s.head h s.form) (sym said_is) (head_stays s.left bytes s.head begun.said s.form s.begins);
       body = subst (IsPartialBody s.form) (sym cut) (partial s.form (drop s.head s.left) s.stands);
-      stands = subst (payload.Stands s.form new.payload) (sym cut) (stands s.form (drop s.head s.left) s.stands);
+      stands = subst (payload.Represents s.form new.payload) (sym cut) (stands s.form (drop s.head s.left) s.stands);
       rest = omega (arith, len_is, s.rest, blank_stays s.left bytes s.head s.begins.ends, blank_fits s.left, length-append s.left bytes);
     }
 
 -- the body is refused
 pub body_refused : (begun : OpenBody) (bytes : List ℕ) (told new : List Heard) (fault : PayloadFault)
-    → ((form : BodyForm) (text : List ℕ) → payload.Stands form begun.payload text → IsFault form (text ++ bytes) fault)
+    → ((form : BodyForm) (text : List ℕ) → payload.Represents form begun.payload text → IsFault form (text ++ bytes) fault)
     → new ≡ told ++ heard.Bad (status_of fault) ∷ [] → Goes (Body begun) told bytes Over new
 body_refused begun bytes told new fault bad new_is text before s =
     let left : List ℕ = s.left ++ bytes in

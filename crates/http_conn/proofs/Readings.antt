@@ -6,19 +6,19 @@ use Rattle.std.proofs.lemmas.Grind.{flat_map-append}
 use Rattle.pod_base.specs.declared.request.Request.{Request}
 use Rattle.pod_base.specs.declared.heard.Heard.{Heard}
 use Rattle.pod_base.specs.declared.heard.Heard.TheVariants as heard
-use Rattle.http_head.specs.declared.ends.HeadEnd.{HeadEnd}
-use Rattle.http_head.specs.declared.ends.HeadEnd.TheVariants.{Whole, NotYet, TooLong}
-use Rattle.http_head.specs.declared.head.RequestHead.{RequestHead}
-use Rattle.http_head.specs.declared.form.BodyForm.{BodyForm}
-use Rattle.http_head.specs.declared.framed.FramingFault.{FramingFault}
-use Rattle.http_head.specs.declared.framed.FramingFault.TheVariants as framing_fault
-use Rattle.http_head.specs.Ends.{head_end}
-use Rattle.http_head.specs.Heads.{IsTooMany, IsMalformed, LacksHost, Says}
-use Rattle.http_head.specs.Framing.{framing}
-use Rattle.http_head.proofs.HeadsLemmas.{same_said, lacks_says}
+use Rattle.http_head.specs.declared.head_ends.HeadEnd.{HeadEnd}
+use Rattle.http_head.specs.declared.head_ends.HeadEnd.TheVariants.{Whole, NotYet, TooLong}
+use Rattle.http_head.specs.declared.request_head.RequestHead.{RequestHead}
+use Rattle.http_head.specs.declared.body_form.BodyForm.{BodyForm}
+use Rattle.http_head.specs.declared.body_framing.FramingFault.{FramingFault}
+use Rattle.http_head.specs.declared.body_framing.FramingFault.TheVariants as framing_fault
+use Rattle.http_head.specs.HeadEnds.{head_end}
+use Rattle.http_head.specs.Heads.{HasTooManyLines, IsMalformedHead, LacksHost, ParsesTo}
+use Rattle.http_head.specs.BodyFraming.{framing}
+use Rattle.http_head.proofs.HeadLaws.{one_parsed_head, lacks_no_head}
 use Rattle.http_payload.specs.Chunks as chunks
 use Rattle.http_payload.specs.Bodies.{IsBody, IsFault, IsPartial as IsPartialBody}
-use Rattle.http_payload.proofs.LawLemmas.{one_reading, one_fault, no_fault_at_body, no_fault_at_partial, no_body_at_partial}
+use Rattle.http_payload.proofs.LawLemmas.{one_outcome, one_fault, no_fault_at_body, no_fault_at_partial, no_body_at_partial}
 use Rattle.http_conn.specs.Messages.{HasHead, IsFirst, Requests, IsBadHead, too_long, too_many, malformed, host, conflict, coding, too_large, IsBad, bad_head, bad_body, status_of, IsPartial, in_head, in_body, Messages, unfinished, refused, ended, heard_of, heard_one, interim_of, with_body, rest_length, closes_behind, most_requests, IsEnd}
 
 length_of : HeadEnd → ℕ
@@ -33,21 +33,21 @@ same_length text n m x y = ap length_of (sym x ∙ y)
 
 -- why a whole head is bad, and the status
 data Finding (head : List ℕ) : ℕ → Type 0 where
-  many : IsTooMany head → Finding head 431
-  bad : IsMalformed head → Finding head 400
+  many : HasTooManyLines head → Finding head 431
+  bad : IsMalformedHead head → Finding head 400
   lacks : LacksHost head → Finding head 400
-  conflicts : (said : RequestHead) → Says head said → framing said.minor said.fields ≡ Err framing_fault.Conflict → Finding head 400
-  codes : (said : RequestHead) → Says head said → framing said.minor said.fields ≡ Err framing_fault.Coding → Finding head 501
-  large : (said : RequestHead) → Says head said → framing said.minor said.fields ≡ Err framing_fault.TooLarge → Finding head 413
+  conflicts : (said : RequestHead) → ParsesTo head said → framing said.minor said.fields ≡ Err framing_fault.Conflict → Finding head 400
+  codes : (said : RequestHead) → ParsesTo head said → framing said.minor said.fields ≡ Err framing_fault.Coding → Finding head 501
+  large : (said : RequestHead) → ParsesTo head said → framing said.minor said.fields ≡ Err framing_fault.TooLarge → Finding head 413
 
-many_says : (head : List ℕ) (said : RequestHead) → IsTooMany head → Says head said → ⊥
+many_says : (head : List ℕ) (said : RequestHead) → HasTooManyLines head → ParsesTo head said → ⊥
 many_says head said h s = omega (arith, h, s.lines)
 
-bad_says : (head : List ℕ) (said : RequestHead) → IsMalformed head → Says head said → ⊥
+bad_says : (head : List ℕ) (said : RequestHead) → IsMalformedHead head → ParsesTo head said → ⊥
 bad_says head said h s = h.never s.parts s.whole
 
-framed_once : (head : List ℕ) (a b : RequestHead) (r s : Result BodyForm FramingFault) → Says head a → Says head b → framing a.minor a.fields ≡ r → framing b.minor b.fields ≡ s → r ≡ s
-framed_once head a b r s x y f g = sym f ∙ ap (λ (h : RequestHead). framing h.minor h.fields) (same_said head a b x y) ∙ g
+framed_once : (head : List ℕ) (a b : RequestHead) (r s : Result BodyForm FramingFault) → ParsesTo head a → ParsesTo head b → framing a.minor a.fields ≡ r → framing b.minor b.fields ≡ s → r ≡ s
+framed_once head a b r s x y f g = sym f ∙ ap (λ (h : RequestHead). framing h.minor h.fields) (one_parsed_head head a b x y) ∙ g
 
 one_finding : (head : List ℕ) (s t : ℕ) → Finding head s → Finding head t → s ≡ t
 one_finding head _ _ (many h) (many k) = refl
@@ -66,8 +66,8 @@ one_finding head _ _ (lacks h) (many k) = absurd (omega (arith, k, h.lines))
 one_finding head _ _ (lacks h) (bad k) = refl
 one_finding head _ _ (lacks h) (lacks k) = refl
 one_finding head _ _ (lacks h) (conflicts b y g) = refl
-one_finding head _ _ (lacks h) (codes b y g) = absurd (lacks_says head b h y)
-one_finding head _ _ (lacks h) (large b y g) = absurd (lacks_says head b h y)
+one_finding head _ _ (lacks h) (codes b y g) = absurd (lacks_no_head head b h y)
+one_finding head _ _ (lacks h) (large b y g) = absurd (lacks_no_head head b h y)
 one_finding head _ _ (conflicts a x f) (many k) = absurd (many_says head a k x)
 one_finding head _ _ (conflicts a x f) (bad k) = refl
 one_finding head _ _ (conflicts a x f) (lacks k) = refl
@@ -76,13 +76,13 @@ one_finding head _ _ (conflicts a x f) (codes b y g) = let e = framed_once head 
 one_finding head _ _ (conflicts a x f) (large b y g) = let e = framed_once head a b (Err framing_fault.Conflict) (Err framing_fault.TooLarge) x y f g in cc
 one_finding head _ _ (codes a x f) (many k) = absurd (many_says head a k x)
 one_finding head _ _ (codes a x f) (bad k) = absurd (bad_says head a k x)
-one_finding head _ _ (codes a x f) (lacks k) = absurd (lacks_says head a k x)
+one_finding head _ _ (codes a x f) (lacks k) = absurd (lacks_no_head head a k x)
 one_finding head _ _ (codes a x f) (conflicts b y g) = let e = framed_once head a b (Err framing_fault.Coding) (Err framing_fault.Conflict) x y f g in cc
 one_finding head _ _ (codes a x f) (codes b y g) = refl
 one_finding head _ _ (codes a x f) (large b y g) = let e = framed_once head a b (Err framing_fault.Coding) (Err framing_fault.TooLarge) x y f g in cc
 one_finding head _ _ (large a x f) (many k) = absurd (many_says head a k x)
 one_finding head _ _ (large a x f) (bad k) = absurd (bad_says head a k x)
-one_finding head _ _ (large a x f) (lacks k) = absurd (lacks_says head a k x)
+one_finding head _ _ (large a x f) (lacks k) = absurd (lacks_no_head head a k x)
 one_finding head _ _ (large a x f) (conflicts b y g) = let e = framed_once head a b (Err framing_fault.TooLarge) (Err framing_fault.Conflict) x y f g in cc
 one_finding head _ _ (large a x f) (codes b y g) = let e = framed_once head a b (Err framing_fault.TooLarge) (Err framing_fault.Coding) x y f g in cc
 one_finding head _ _ (large a x f) (large b y g) = refl
@@ -108,10 +108,10 @@ one_bad text _ _ (whole n s e h) (long f) = cc
 one_bad text _ _ (whole n s e h) (whole m t f k) = one_finding (take n text) s t h (subst (λ i. Finding (take i text) t) (sym (same_length text n m e f)) k)
 
 -- a finding on a head that is framed
-framed_not_found : (head : List ℕ) (said : RequestHead) (form : BodyForm) (s : ℕ) → Says head said → framing said.minor said.fields ≡ Ok form → Finding head s → ⊥
+framed_not_found : (head : List ℕ) (said : RequestHead) (form : BodyForm) (s : ℕ) → ParsesTo head said → framing said.minor said.fields ≡ Ok form → Finding head s → ⊥
 framed_not_found head said form _ x f (many h) = many_says head said h x
 framed_not_found head said form _ x f (bad h) = bad_says head said h x
-framed_not_found head said form _ x f (lacks h) = lacks_says head said h x
+framed_not_found head said form _ x f (lacks h) = lacks_no_head head said h x
 framed_not_found head said form _ x f (conflicts b y g) = let e = framed_once head said b (Ok form) (Err framing_fault.Conflict) x y f g in cc
 framed_not_found head said form _ x f (codes b y g) = let e = framed_once head said b (Ok form) (Err framing_fault.Coding) x y f g in cc
 framed_not_found head said form _ x f (large b y g) = let e = framed_once head said b (Ok form) (Err framing_fault.TooLarge) x y f g in cc
@@ -138,9 +138,9 @@ pub record OneHead (n m : ℕ) (a b : RequestHead) (f g : BodyForm) : Type 0 whe
 pub one_head : (text : List ℕ) (n m : ℕ) (a b : RequestHead) (f g : BodyForm) → HasHead text n a f → HasHead text m b g → OneHead n m a b f g
 one_head text n m a b f g x y =
     let len = same_length text n m x.ends y.ends in
-    let says : Says (take n text) b = subst (λ i. Says (take i text) b) (sym len) y.says in
+    let says : ParsesTo (take n text) b = subst (λ i. ParsesTo (take i text) b) (sym len) y.says in
     let form : Ok f ≡ Ok g = framed_once (take n text) a b (Ok f) (Ok g) x.says says x.framed y.framed in
-    record { len = len; said = same_said (take n text) a b x.says says; form = cc }
+    record { len = len; said = one_parsed_head (take n text) a b x.says says; form = cc }
 
 pub not_yet_no_head : (text : List ℕ) (n : ℕ) (a : RequestHead) (f : BodyForm) → head_end text ≡ NotYet → HasHead text n a f → ⊥
 not_yet_no_head text n a f e x = let never : NotYet ≡ Whole n = sym e ∙ x.ends in cc
@@ -158,7 +158,7 @@ one_body : (form : BodyForm) (text : List ℕ) (n m : ℕ) (a b : List ℕ) → 
 unfolding body_of
 one_body form text n m a b n_there m_there x y =
     let both : take n text ++ drop n text ≡ take m text ++ drop m text = take-append-drop n text ∙ sym (take-append-drop m text) in
-    let one = one_reading form (take n text) (take m text) (drop n text) (drop m text) (chunks.Whole a) (chunks.Whole b) x y both in
+    let one = one_outcome form (take n text) (take m text) (drop n text) (drop m text) (chunks.Whole a) (chunks.Whole b) x y both in
     record {
       size = sym (length-take-le n text n_there) ∙ ap length one.0 ∙ length-take-le m text m_there;
       same = ap body_of one.2;

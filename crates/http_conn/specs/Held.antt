@@ -1,15 +1,15 @@
 use Rattle.std.specs.Prelude.{◌≡◌, ℕ, ◌+◌, ◌-◌, ◌*◌, ◌<◌, ◌≤◌, List, [], ◌∷◌, ◌++◌, length, drop, Ok}
 use Rattle.pod_base.specs.declared.request.Request.{Request}
 use Rattle.pod_base.specs.declared.heard.Heard.{Heard}
-use Rattle.http_head.specs.declared.ends.HeadEnd.TheVariants.{Whole, NotYet}
-use Rattle.http_head.specs.declared.head.RequestHead.{RequestHead}
-use Rattle.http_head.specs.declared.form.BodyForm.{BodyForm}
-use Rattle.http_head.specs.Ends.{head_end}
-use Rattle.http_head.specs.Heads.{Says}
-use Rattle.http_head.specs.Framing.{framing}
-use Rattle.http_head.specs.Search.{HasSeen}
+use Rattle.http_head.specs.declared.head_ends.HeadEnd.TheVariants.{Whole, NotYet}
+use Rattle.http_head.specs.declared.request_head.RequestHead.{RequestHead}
+use Rattle.http_head.specs.declared.body_form.BodyForm.{BodyForm}
+use Rattle.http_head.specs.HeadEnds.{head_end}
+use Rattle.http_head.specs.Heads.{ParsesTo}
+use Rattle.http_head.specs.BodyFraming.{framing}
+use Rattle.http_head.specs.HeadScan.{HasScanned}
 use Rattle.http_payload.specs.Bodies.{IsPartial as IsPartialBody}
-use Rattle.http_payload.specs.Held as payload
+use Rattle.http_payload.specs.PayloadState as payload
 use Rattle.http_conn.specs.Messages.{HasHead, Requests, IsOpen, Messages, heard_of, interim_of, rest_length, with_body}
 use Rattle.http_conn.specs.declared.stage.Stage.{Stage}
 use Rattle.http_conn.specs.declared.stage.Stage.TheVariants.{Head, Body, Over, Failed}
@@ -20,7 +20,7 @@ use Rattle.http_conn.specs.declared.stage.OpenBody.{OpenBody}
 
 -- what is true of each connection: the search of an open head has seen what has come of it, and found no end
 abbrev pub IsSound : Stage → Type 0
-IsSound (Head begun) = (head_end begun.bytes.items ≡ NotYet) × HasSeen begun.search begun.bytes.items
+IsSound (Head begun) = (head_end begun.bytes.items ≡ NotYet) × HasScanned begun.search begun.bytes.items
 IsSound (Body begun) = Unit {0}
 IsSound Over = Unit {0}
 IsSound Failed = Unit {0}
@@ -45,7 +45,7 @@ pub record InHead (begun : OpenHead) (text : List ℕ) (hears : List Heard) : Ty
   pub count : begun.count ≡ length requests
   pub is : hears ≡ heard_of requests
   pub not_yet : head_end begun.bytes.items ≡ NotYet
-  pub seen : HasSeen begun.search begun.bytes.items
+  pub seen : HasScanned begun.search begun.bytes.items
 
 -- It is in a body: the text is requests, and then a head and a body that has not ended.
 pub record InBody (begun : OpenBody) (text : List ℕ) (hears : List Heard) : Type 0 where
@@ -60,7 +60,7 @@ pub record InBody (begun : OpenBody) (text : List ℕ) (hears : List Heard) : Ty
   pub there : head ≤ length left
   pub begins : HasHead left head begun.said form
   pub body : IsPartialBody form (drop head left)
-  pub stands : payload.Stands form begun.payload (drop head left)
+  pub stands : payload.Represents form begun.payload (drop head left)
   pub rest : begun.len ≡ rest_length left
 
 -- Nothing more is heard, however the text goes on.
@@ -100,12 +100,12 @@ GoesBehind count left heard new hears = (text : List ℕ) (before : List Heard) 
 -- a head that says this is left behind requests, and nothing else
 abbrev pub GoesBehindHead : ℕ → ℕ → RequestHead → List Heard → Stage → List Heard → Type 0
 GoesBehindHead count len said heard new hears =
-    (left : List ℕ) → head_end left ≡ Whole (length left) → Says left said → len ≡ rest_length left → GoesBehind count left heard new hears
+    (left : List ℕ) → head_end left ≡ Whole (length left) → ParsesTo left said → len ≡ rest_length left → GoesBehind count left heard new hears
 
 -- the head of a body of that form is left behind requests, and nothing else
 abbrev pub AwaitsBehindHead : ℕ → ℕ → RequestHead → BodyForm → List Heard → Stage → List Heard → Type 0
 AwaitsBehindHead count len said form heard new hears =
-    (left : List ℕ) → head_end left ≡ Whole (length left) → Says left said → framing said.minor said.fields ≡ Ok form → len ≡ rest_length left
+    (left : List ℕ) → head_end left ≡ Whole (length left) → ParsesTo left said → framing said.minor said.fields ≡ Ok form → len ≡ rest_length left
     → GoesBehind count left heard new hears
 
 -- a whole request was left behind requests, and its interim was heard

@@ -4,17 +4,18 @@ use Rattle.pod_base.specs.declared.field.Field.{Field}
 use Rattle.pod_base.specs.declared.request.Request.{Request}
 use Rattle.pod_base.specs.declared.heard.Heard.{Heard}
 use Rattle.pod_base.specs.declared.heard.Heard.TheVariants as heard
-use Rattle.http_head.specs.declared.ends.HeadEnd.TheVariants.{Whole, NotYet, TooLong}
-use Rattle.http_head.specs.declared.head.RequestHead.{RequestHead}
-use Rattle.http_head.specs.declared.form.BodyForm.{BodyForm}
-use Rattle.http_head.specs.declared.framed.FramingFault.{FramingFault}
-use Rattle.http_head.specs.declared.framed.FramingFault.TheVariants as framing_fault
-use Rattle.http_head.specs.Ends.{blank_length, head_end}
-use Rattle.http_head.specs.Heads.{IsTooMany, IsMalformed, LacksHost, Says}
-use Rattle.http_head.specs.Framing.{framing}
-use Rattle.http_head.specs.Wishes.{closes, expects_continue}
-use Rattle.http_payload.specs.declared.fault.PayloadFault.{PayloadFault}
-use Rattle.http_payload.specs.declared.fault.PayloadFault.TheVariants as payload_fault
+use Rattle.http_head.specs.declared.head_ends.HeadEnd.TheVariants.{Whole, NotYet, TooLong}
+use Rattle.http_head.specs.declared.request_head.RequestHead.{RequestHead}
+use Rattle.http_head.specs.declared.body_form.BodyForm.{BodyForm}
+use Rattle.http_head.specs.declared.body_framing.FramingFault.{FramingFault}
+use Rattle.http_head.specs.declared.body_framing.FramingFault.TheVariants as framing_fault
+use Rattle.http_head.specs.HeadEnds.{blank_length, head_end}
+use Rattle.http_head.specs.Heads.{HasTooManyLines, IsMalformedHead, LacksHost, ParsesTo}
+use Rattle.http_head.specs.BodyFraming.{framing}
+use Rattle.http_head.specs.Persistence.{closes}
+use Rattle.http_head.specs.Expectation.{expects_continue}
+use Rattle.http_payload.specs.declared.payload_fault.PayloadFault.{PayloadFault}
+use Rattle.http_payload.specs.declared.payload_fault.PayloadFault.TheVariants as payload_fault
 use Rattle.http_payload.specs.Bodies.{IsBody, IsFault, IsPartial as IsPartialBody}
 
 -- What is heard in a text: the whole text split into requests, and what is left behind them.
@@ -22,7 +23,7 @@ use Rattle.http_payload.specs.Bodies.{IsBody, IsFault, IsPartial as IsPartialBod
 -- A head of that length stands at the front, says this, and a body of that form follows it.
 pub record HasHead (text : List ℕ) (len : ℕ) (said : RequestHead) (form : BodyForm) : Type 0 where
   pub ends : head_end text ≡ Whole len
-  pub says : Says (take len text) said
+  pub says : ParsesTo (take len text) said
   pub framed : framing said.minor said.fields ≡ Ok form
 
 -- the request of a head and a body
@@ -66,12 +67,12 @@ heard_of requests = flat_map heard_one requests
 -- The text is no request, however it goes on, since of its head: the status of the refusal.
 pub data IsBadHead (text : List ℕ) : ℕ → Type 0 where
   too_long : head_end text ≡ TooLong → IsBadHead text 431
-  too_many : (len : ℕ) → head_end text ≡ Whole len → IsTooMany (take len text) → IsBadHead text 431
-  malformed : (len : ℕ) → head_end text ≡ Whole len → IsMalformed (take len text) → IsBadHead text 400
+  too_many : (len : ℕ) → head_end text ≡ Whole len → HasTooManyLines (take len text) → IsBadHead text 431
+  malformed : (len : ℕ) → head_end text ≡ Whole len → IsMalformedHead (take len text) → IsBadHead text 400
   host : (len : ℕ) → head_end text ≡ Whole len → LacksHost (take len text) → IsBadHead text 400
-  conflict : (len : ℕ) (said : RequestHead) → head_end text ≡ Whole len → Says (take len text) said → framing said.minor said.fields ≡ Err framing_fault.Conflict → IsBadHead text 400
-  coding : (len : ℕ) (said : RequestHead) → head_end text ≡ Whole len → Says (take len text) said → framing said.minor said.fields ≡ Err framing_fault.Coding → IsBadHead text 501
-  too_large : (len : ℕ) (said : RequestHead) → head_end text ≡ Whole len → Says (take len text) said → framing said.minor said.fields ≡ Err framing_fault.TooLarge → IsBadHead text 413
+  conflict : (len : ℕ) (said : RequestHead) → head_end text ≡ Whole len → ParsesTo (take len text) said → framing said.minor said.fields ≡ Err framing_fault.Conflict → IsBadHead text 400
+  coding : (len : ℕ) (said : RequestHead) → head_end text ≡ Whole len → ParsesTo (take len text) said → framing said.minor said.fields ≡ Err framing_fault.Coding → IsBadHead text 501
+  too_large : (len : ℕ) (said : RequestHead) → head_end text ≡ Whole len → ParsesTo (take len text) said → framing said.minor said.fields ≡ Err framing_fault.TooLarge → IsBadHead text 413
 
 -- the status that refuses a body. No body is at fault for want of memory.
 abbrev pub status_of : PayloadFault → ℕ

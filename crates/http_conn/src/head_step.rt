@@ -1,6 +1,6 @@
 ghost use Rattle.std.specs.Prelude.{◌≡◌, ◌<◌, ◌≤◌, ◌++◌, ◌∷◌, [], length, take, min, IfOk};
-ghost use Rattle.http_head.specs.Ends.{head_end};
-ghost use Rattle.http_head.specs.declared.ends.HeadEnd.TheVariants as end;
+ghost use Rattle.http_head.specs.HeadEnds.{head_end};
+ghost use Rattle.http_head.specs.declared.head_ends.HeadEnd.TheVariants as end;
 ghost use Rattle.http_conn.specs.declared.stage.Stage.TheVariants as stage;
 ghost use Rattle.http_conn.specs.Held.{Goes, GoesBehind, GoesBehindHead, AwaitsBehindHead, IsSound};
 
@@ -29,7 +29,8 @@ fn await_body(
     tell_interim(alloc, heard, &said, form)?;
     let payload = Payload::new(alloc, form);
     if payload.is_done() {
-        return finish(alloc, heard, count, said, payload.body());
+        let body = payload.body(alloc)?;
+        return finish(alloc, heard, count, said, body);
     }
     Ok(Stage::Body(OpenBody {
         said,
@@ -89,7 +90,7 @@ fn fresh_head(
     ensures goes { IfOk result (λ r. GoesBehind count (take r.0 bytes.now) heard.old.items r.1 heard.new.items) }
 {
     let mut search = HeadSearch::new();
-    match search.look(bytes) {
+    match search.scan(bytes) {
         HeadEnd::Whole(len) => {
             let next = whole_head(alloc, heard, count, front(bytes, len))?;
             Ok((len, next))
@@ -152,7 +153,7 @@ fn kept_head(
     let kept = head.len();
     let window = up_to(bytes, HEAD_LIMIT.saturating_sub(kept));
     head.extend_from_slice(window)?;
-    match search.look(head.as_slice()) {
+    match search.scan(head.as_slice()) {
         HeadEnd::Whole(len) => {
             let next = whole_head(alloc, heard, count, front(head.as_slice(), len))?;
             Ok((len - kept, next))

@@ -1,5 +1,5 @@
 ghost use Rattle.std.specs.Prelude.{◌≡◌, []};
-ghost use Rattle.http_head.specs.Search.{HasSeen};
+ghost use Rattle.http_head.specs.HeadScan.{HasScanned};
 
 use http_head::{HeadSearch, RequestHead};
 use http_payload::Payload;
@@ -20,7 +20,7 @@ impl OpenHead {
     /// A head of which nothing has come, behind so many requests.
     pub(crate) fn new(alloc: Global, count: u64) -> OpenHead
         ensures bytes { result.bytes.items ≡ [] }
-        ensures seen { HasSeen result.search [] }
+        ensures seen { HasScanned result.search [] }
         ensures count { result.count ≡ count }
     {
         OpenHead {

@@ -1,6 +1,7 @@
 ghost use Rattle.std.specs.Prelude.{◌≡◌, ◌+◌, ◌++◌, ◌∷◌, ◌||◌, nat_le, [], if◌then◌else◌, IfOk, OnOk};
 ghost use Rattle.pod_base.specs.declared.heard.Heard.TheVariants as hears;
-ghost use Rattle.http_head.specs.Wishes as wishes;
+ghost use Rattle.http_head.specs.Expectation as expectation;
+ghost use Rattle.http_head.specs.Persistence as persistence;
 ghost use Rattle.http_conn.specs.Held.{EndsRequest, IsSound, weight};
 
 use crate::stage::{OpenHead, Stage};
@@ -38,7 +39,7 @@ pub(crate) fn tell_interim(
     form: BodyForm,
 ) -> Mem<()>
     ensures { OnOk result (heard.new.items ≡ heard.old.items
-        ++ (if wishes.expects_continue said.now.minor said.now.fields form then hears.Interim ∷ [] else [])) }
+        ++ (if expectation.expects_continue said.now.minor said.now.fields form then hears.Interim ∷ [] else [])) }
 {
     if expects_continue(said.minor, &said.fields, form) {
         tell(alloc, heard, Heard::Interim)
@@ -49,7 +50,7 @@ pub(crate) fn tell_interim(
 
 /// Whether nothing more is heard behind a request, which so many are before.
 fn is_last(count: u64, said: &RequestHead) -> bool
-    ensures { result ≡ (wishes.closes said.now.minor said.now.fields || nat_le REQUEST_LIMIT (count + 1)) }
+    ensures { result ≡ (persistence.closes said.now.minor said.now.fields || nat_le REQUEST_LIMIT (count + 1)) }
 {
     closes(said.minor, &said.fields) || count >= REQUEST_LIMIT - 1
 }

@@ -6,8 +6,9 @@ use Rattle.httparse.specs.Spans.{name_and_value}
 use Rattle.pod_base.specs.declared.field.Field.{Field}
 use Rattle.pod_base.specs.declared.method.Method.{Method}
 use Rattle.pod_base.specs.declared.method.Method.TheVariants.{Get, Head, Options, Post, Put, Patch, Delete, Other}
-use Rattle.http_head.specs.Ends.{blank_length}
-use Rattle.http_head.specs.declared.head.RequestHead.{RequestHead}
+use Rattle.http_head.specs.declared.head_parser.TheConstants.{HEAD_LINE_LIMIT, FIELD_LIMIT}
+use Rattle.http_head.specs.HeadEnds.{blank_length}
+use Rattle.http_head.specs.declared.request_head.RequestHead.{RequestHead}
 
 -- What a head says (RFC 9112, sections 3 and 5).
 
@@ -16,9 +17,9 @@ abbrev pub line_count : List ℕ → ℕ
 line_count head = count_by (λ b. b == 10) (drop (blank_length head) head)
 
 -- the head is these parts by the grammar of RFC 9112, with at most 64 fields
-pub record IsWhole (head : List ℕ) (parts : grammar.RequestHead) : Type 0 where
+pub record HasParts (head : List ℕ) (parts : grammar.RequestHead) : Type 0 where
   pub reads : ReadsRequest head parts []
-  pub room : length parts.fields ≤ 64
+  pub room : length parts.fields ≤ FIELD_LIMIT
 
 -- the method of a word (RFC 9110, section 9.1): methods are told by their case
 abbrev pub method_of : List ℕ → Method
@@ -40,11 +41,11 @@ abbrev pub field_of : List ℕ × List ℕ → Field
 field_of line = record { name = str_to_ascii_lowercase line.0; value = line.1 }
 
 -- what a head of these parts says
-abbrev pub said_by : List ℕ → List ℕ → ℕ → List (List ℕ × List ℕ) → RequestHead
-said_by word target minor lines = record { method = method_of word; target = target; minor = minor; fields = map field_of lines }
+abbrev pub head_with : List ℕ → List ℕ → ℕ → List (List ℕ × List ℕ) → RequestHead
+head_with word target minor lines = record { method = method_of word; target = target; minor = minor; fields = map field_of lines }
 
 abbrev pub head_of : grammar.RequestHead → RequestHead
-head_of parts = said_by parts.method parts.target parts.minor (lines_of parts)
+head_of parts = head_with parts.method parts.target parts.minor (lines_of parts)
 
 -- how many of the fields are Host, in any case
 abbrev pub host_count : List (List ℕ × List ℕ) → ℕ
@@ -53,26 +54,26 @@ host_count lines = count_by (λ line. str_eq_ignore_ascii_case line.0 (codes "ho
 -- The four findings on a head. They exclude each other, and one of them holds.
 
 -- too many lines
-abbrev pub IsTooMany : List ℕ → Type 0
-IsTooMany head = 66 < line_count head
+abbrev pub HasTooManyLines : List ℕ → Type 0
+HasTooManyLines head = HEAD_LINE_LIMIT < line_count head
 
 -- no head of the grammar
-pub record IsMalformed (head : List ℕ) : Type 0 where
-  pub lines : line_count head ≤ 66
-  pub never : (parts : grammar.RequestHead) → IsWhole head parts → ⊥
+pub record IsMalformedHead (head : List ℕ) : Type 0 where
+  pub lines : line_count head ≤ HEAD_LINE_LIMIT
+  pub never : (parts : grammar.RequestHead) → HasParts head parts → ⊥
 
 -- a head of HTTP/1.1 with no Host or several (RFC 9112, section 3.2)
 pub record LacksHost (head : List ℕ) : Type 0 where
-  pub lines : line_count head ≤ 66
+  pub lines : line_count head ≤ HEAD_LINE_LIMIT
   pub parts : grammar.RequestHead
-  pub whole : IsWhole head parts
+  pub whole : HasParts head parts
   pub minor : parts.minor ≡ 1
   pub hosts : host_count (lines_of parts) ≡ 1 → ⊥
 
 -- a head that says this
-pub record Says (head : List ℕ) (said : RequestHead) : Type 0 where
-  pub lines : line_count head ≤ 66
+pub record ParsesTo (head : List ℕ) (parsed : RequestHead) : Type 0 where
+  pub lines : line_count head ≤ HEAD_LINE_LIMIT
   pub parts : grammar.RequestHead
-  pub whole : IsWhole head parts
+  pub whole : HasParts head parts
   pub hosts : parts.minor ≡ 1 → host_count (lines_of parts) ≡ 1
-  pub is : said ≡ head_of parts
+  pub is : parsed ≡ head_of parts

@@ -9,7 +9,7 @@ fn byte_by_byte(text: &[u8]) -> HeadEnd {
     let mut search = HeadSearch::new();
     let mut found = HeadEnd::NotYet;
     for i in 0..text.len() {
-        found = search.look(&text[..i + 1]);
+        found = search.scan(&text[..i + 1]);
     }
     found
 }
@@ -64,7 +64,7 @@ fn a_head_has_a_limit(rt: HostRuntime) -> Result<(), Fail> {
 fn verdict(alloc: Global, head: &[u8]) -> &'static str {
     match head_end(head) {
         HeadEnd::Whole(len) if len == head.len() => match read_head(alloc, head) {
-            Ok(said) => form(&said),
+            Ok(parsed) => form(&parsed),
             Err(HeadFault::Malformed) => "malformed",
             Err(HeadFault::TooMany) => "too many",
             Err(HeadFault::Host) => "host",
@@ -74,8 +74,8 @@ fn verdict(alloc: Global, head: &[u8]) -> &'static str {
     }
 }
 
-fn form(said: &RequestHead) -> &'static str {
-    match framing(said) {
+fn form(parsed: &RequestHead) -> &'static str {
+    match framing(parsed) {
         Ok(BodyForm::Empty) => "empty",
         Ok(BodyForm::Length(5)) => "five",
         Ok(BodyForm::Length(8_388_608)) => "most",
@@ -337,7 +337,7 @@ fn check_method(rt: &impl Abort, alloc: Global, word: &[u8], wanted: Method) -> 
         _ => Err(HeadFault::Malformed),
     };
     match found {
-        Ok(said) => assert_eq!(rt; said.method, wanted),
+        Ok(parsed) => assert_eq!(rt; parsed.method, wanted),
         Err(fault) => assert!(rt; false, "{fault}"),
     }
     Ok(())
@@ -366,12 +366,12 @@ fn a_head_is_read_whole(rt: HostRuntime) -> Result<(), Fail> {
         HeadEnd::Whole(len) if len == head.len() => read_head(alloc, head),
         _ => Err(HeadFault::Malformed),
     };
-    let Ok(said) = found else {
+    let Ok(parsed) = found else {
         return Err(Fail::from("not read"));
     };
-    assert_eq!(rt; said.target.as_slice(), b"/a?b".as_slice());
-    assert_eq!(rt; said.minor, 1);
-    let fields = said.fields.list.as_slice();
+    assert_eq!(rt; parsed.target.as_slice(), b"/a?b".as_slice());
+    assert_eq!(rt; parsed.minor, 1);
+    let fields = parsed.fields.list.as_slice();
     assert_eq!(rt; fields.len(), 3);
     assert_eq!(rt; fields[0].name.as_str(), "host");
     assert_eq!(rt; fields[0].value.as_slice(), b"pod.example".as_slice());

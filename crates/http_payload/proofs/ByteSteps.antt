@@ -3,16 +3,17 @@ use Rattle.std.proofs.Common.{◌≡◌, ◌≢◌, ℕ, ◌+◌, ◌<◌, ◌�
 use Rattle.std.proofs.lemmas.Bool.{cases_eq}
 use Rattle.http_payload.specs.declared.stage.Stage.{Stage}
 use Rattle.http_payload.specs.declared.stage.Stage.TheVariants.{Rest, Line, Chunk, ChunkEnd, Trailers, Trailer, TrailerEnd, LastEnd}
-use Rattle.http_payload.specs.Chunks.{Ending, Whole, line_end, longest_trailers, trailer_texts, IsTrailers, InTrailer, EndsInChunks}
-use Rattle.http_payload.specs.Held.{Held, held, Left, IsOpenLine}
+use Rattle.http_payload.specs.declared.stage.TheConstants.{TRAILERS_LIMIT}
+use Rattle.http_payload.specs.Chunks.{Ending, Whole, crlf, trailer_texts, IsTrailers, InTrailer, EndsInChunks}
+use Rattle.http_payload.specs.PayloadState.{PayloadState, payload_state, Left, IsOpenLine}
 use Rattle.http_payload.specs.Steps.{Never, TakesByte}
 use Rattle.http_payload.proofs.LineFacts.{open_at_first}
-use Rattle.http_payload.proofs.TrailerSteps.{stays, behind_cr, empty_line, no_lf, in_line, from_line, in_trailer, from_trailer, trailer_ends, trailer_ended, no_lf_inside, has_room}
+use Rattle.http_payload.proofs.TrailerSteps.{stays, after_cr, empty_line, no_lf, in_line, from_line, in_trailer, from_trailer, trailer_ends, trailer_ended, no_lf_inside, has_room}
 
-pub takes_last_cr : (used : ℕ) → used ≤ longest_trailers → TakesByte (Trailers used) 13 LastEnd
+pub takes_last_cr : (used : ℕ) → used ≤ TRAILERS_LIMIT → TakesByte (Trailers used) 13 LastEnd
 takes_last_cr used fits line body sound = (
   record {
-    left = λ more ending h. (behind_cr h.0, h.1);
+    left = λ more ending h. (after_cr h.0, h.1);
     back = λ more ending h. (subst (λ (t : List ℕ). IsTrailers used (13 ∷ t)) (sym h.0) (empty_line used fits), h.1);
   },
   tt,
@@ -37,7 +38,7 @@ takes_last_lf line body sound = (
     nothing [] e = refl
     nothing (x ∷ t) e = absurd (omega arith)
 
-pub takes_in_line : (used byte : ℕ) → used + 3 ≤ longest_trailers → byte ≢ 13 → byte ≢ 10
+pub takes_in_line : (used byte : ℕ) → used + 3 ≤ TRAILERS_LIMIT → byte ≢ 13 → byte ≢ 10
     → TakesByte (Trailers used) byte (Trailer (used + 1))
 takes_in_line used byte room cr lf line body sound = (
   record {
@@ -48,7 +49,7 @@ takes_in_line used byte room cr lf line body sound = (
   refl,
 )
 
-pub takes_in_trailer : (used byte : ℕ) → used + 3 ≤ longest_trailers → byte ≢ 13 → byte ≢ 10
+pub takes_in_trailer : (used byte : ℕ) → used + 3 ≤ TRAILERS_LIMIT → byte ≢ 13 → byte ≢ 10
     → TakesByte (Trailer used) byte (Trailer (used + 1))
 takes_in_trailer used byte room cr lf line body sound = (
   record {
@@ -114,8 +115,8 @@ takes_chunk_cr line body sound = (
 )
   where
     ended : (bytes body more rest : List ℕ) (ending : Ending) → length bytes ≡ 0
-        → 13 ∷ more ≡ bytes ++ (line_end ++ rest) → EndsInChunks (body ++ bytes) rest ending
-        → (after : List ℕ) × (more ≡ 10 ∷ after) × EndsInChunks body after ending
+        → 13 ∷ more ≡ bytes ++ (crlf ++ rest) → EndsInChunks (body ++ bytes) rest ending
+        → (later : List ℕ) × (more ≡ 10 ∷ later) × EndsInChunks body later ending
     ended [] body more rest ending size text ends =
         (rest, cc, subst (λ t. EndsInChunks t rest ending) (append-nil body) ends)
     ended (x ∷ bytes) body more rest ending size text ends = absurd (omega arith)
@@ -123,45 +124,45 @@ takes_chunk_cr line body sound = (
 -- ---- bytes that no body has there
 
 -- Nothing that begins with this byte leads to an end, where there is more to come and it doesn't begin so.
-never_byte : (h : Held) (byte : ℕ) → ((ending : Ending) → Left h [] ending → ⊥)
+never_byte : (h : PayloadState) (byte : ℕ) → ((ending : Ending) → Left h [] ending → ⊥)
     → ((more : List ℕ) (ending : Ending) → Left h (byte ∷ more) ending → ⊥) → Never h (byte ∷ [])
 never_byte h byte none other more [] rest ending e left = none ending left
-never_byte h byte none other more (x ∷ front) rest ending e left =
+never_byte h byte none other more (x ∷ prefix) rest ending e left =
     let same : x ≡ byte = cc (e) in
-    other front ending (subst (λ b. Left h (b ∷ front) ending) same left)
+    other prefix ending (subst (λ b. Left h (b ∷ prefix) ending) same left)
 
 -- a text with a last part isn't empty
 pub some_end : (a b : List ℕ) (x : ℕ) → [] ≡ a ++ (x ∷ b) → ⊥
 some_end [] b x e = cc
 some_end (y ∷ a) b x e = cc
 
-pub never_chunk : (byte : ℕ) → byte ≢ 13 → (line body : List ℕ) → Never (held (Chunk 0) line body) (byte ∷ [])
+pub never_chunk : (byte : ℕ) → byte ≢ 13 → (line body : List ℕ) → Never (payload_state (Chunk 0) line body) (byte ∷ [])
 never_chunk byte other line body =
-    never_byte (held (Chunk 0) line body) byte (λ ending h. some_end h.bytes (10 ∷ h.rest) 13 h.text_is)
+    never_byte (payload_state (Chunk 0) line body) byte (λ ending h. some_end h.bytes (10 ∷ h.rest) 13 h.text_is)
     (λ more ending h. wrong h.bytes more h.rest h.size h.text_is)
   where
-    wrong : (bytes more rest : List ℕ) → length bytes ≡ 0 → byte ∷ more ≡ bytes ++ (line_end ++ rest) → ⊥
+    wrong : (bytes more rest : List ℕ) → length bytes ≡ 0 → byte ∷ more ≡ bytes ++ (crlf ++ rest) → ⊥
     wrong [] more rest size text = other (cc)
     wrong (x ∷ bytes) more rest size text = omega arith
 
-pub never_chunk_end : (byte : ℕ) → byte ≢ 10 → (line body : List ℕ) → Never (held ChunkEnd line body) (byte ∷ [])
+pub never_chunk_end : (byte : ℕ) → byte ≢ 10 → (line body : List ℕ) → Never (payload_state ChunkEnd line body) (byte ∷ [])
 never_chunk_end byte other line body =
-    never_byte (held ChunkEnd line body) byte (λ ending h. let e = h.1 in cc) (λ more ending h. let e = h.1 in other (cc))
+    never_byte (payload_state ChunkEnd line body) byte (λ ending h. let e = h.1 in cc) (λ more ending h. let e = h.1 in other (cc))
 
-pub never_trailers : (used byte : ℕ) → byte ≢ 13 → (byte ≢ 10 → longest_trailers < used + 3) → (line body : List ℕ)
-    → Never (held (Trailers used) line body) (byte ∷ [])
+pub never_trailers : (used byte : ℕ) → byte ≢ 13 → (byte ≢ 10 → TRAILERS_LIMIT < used + 3) → (line body : List ℕ)
+    → Never (payload_state (Trailers used) line body) (byte ∷ [])
 never_trailers used byte cr full line body =
-    never_byte (held (Trailers used) line body) byte
+    never_byte (payload_state (Trailers used) line body) byte
     (λ ending h. some_end (trailer_texts h.0.lines) (10 ∷ []) 13 h.0.text_is)
     (λ more ending h. elim (cases_eq byte 10) [
       | inl lf ↦ no_lf (subst (λ b. IsTrailers used (b ∷ more)) lf h.0)
       | inr other ↦ let room = has_room used (in_line cr h.0) in omega (arith, full other)
     ])
 
-pub never_trailer : (used byte : ℕ) → byte ≢ 13 → (byte ≢ 10 → longest_trailers < used + 3) → (line body : List ℕ)
-    → Never (held (Trailer used) line body) (byte ∷ [])
+pub never_trailer : (used byte : ℕ) → byte ≢ 13 → (byte ≢ 10 → TRAILERS_LIMIT < used + 3) → (line body : List ℕ)
+    → Never (payload_state (Trailer used) line body) (byte ∷ [])
 never_trailer used byte cr full line body =
-    never_byte (held (Trailer used) line body) byte
+    never_byte (payload_state (Trailer used) line body) byte
     (λ ending h. some_end h.0.bytes (10 ∷ h.0.rest) 13 h.0.text_is)
     (λ more ending h. elim (cases_eq byte 10) [
       | inl lf ↦ no_lf_inside (subst (λ b. InTrailer used (b ∷ more)) lf h.0)
@@ -169,13 +170,13 @@ never_trailer used byte cr full line body =
     ])
 
 pub never_trailer_end : (used byte : ℕ) → byte ≢ 10 → (line body : List ℕ)
-    → Never (held (TrailerEnd used) line body) (byte ∷ [])
+    → Never (payload_state (TrailerEnd used) line body) (byte ∷ [])
 never_trailer_end used byte other line body =
-    never_byte (held (TrailerEnd used) line body) byte (λ ending h. let e = h.1 in cc) (λ more ending h. let e = h.1 in other (cc))
+    never_byte (payload_state (TrailerEnd used) line body) byte (λ ending h. let e = h.1 in cc) (λ more ending h. let e = h.1 in other (cc))
 
-pub never_last_end : (byte : ℕ) → byte ≢ 10 → (line body : List ℕ) → Never (held LastEnd line body) (byte ∷ [])
+pub never_last_end : (byte : ℕ) → byte ≢ 10 → (line body : List ℕ) → Never (payload_state LastEnd line body) (byte ∷ [])
 never_last_end byte other line body =
-    never_byte (held LastEnd line body) byte (λ ending h. let e = h.0 in cc) (λ more ending h. let e = h.0 in other (cc))
+    never_byte (payload_state LastEnd line body) byte (λ ending h. let e = h.0 in cc) (λ more ending h. let e = h.0 in other (cc))
 
 -- ---- what the calls below tell
 
@@ -187,7 +188,7 @@ taken_if stage next byte wanted takes (Some found) e =
 
 -- nothing that begins with this byte at that stage is a body
 abbrev pub RefusesByte : Stage → ℕ → Type 0
-RefusesByte stage byte = (line body : List ℕ) → Never (held stage line body) (byte ∷ [])
+RefusesByte stage byte = (line body : List ℕ) → Never (payload_state stage line body) (byte ∷ [])
 
 pub refused_if : (stage : Stage) (byte : ℕ) {A : Type 0} → (A → RefusesByte stage byte) → (r : Option Stage) → IfNone r A
     → IfNone r (RefusesByte stage byte)
@@ -195,7 +196,7 @@ refused_if stage byte never None e = never e
 refused_if stage byte never (Some found) e = tt
 
 pub taken_in : (stage : Stage) (byte used : ℕ) → byte ≢ 13
-    → (used + 3 ≤ longest_trailers → byte ≢ 10 → TakesByte stage byte (Trailer (used + 1))) → (r : Option Stage)
-    → IfSome r (λ next. (next ≡ Trailer (used + 1)) × (used + 3 ≤ longest_trailers) × (byte ≢ 10)) → IfSome r (TakesByte stage byte)
+    → (used + 3 ≤ TRAILERS_LIMIT → byte ≢ 10 → TakesByte stage byte (Trailer (used + 1))) → (r : Option Stage)
+    → IfSome r (λ next. (next ≡ Trailer (used + 1)) × (used + 3 ≤ TRAILERS_LIMIT) × (byte ≢ 10)) → IfSome r (TakesByte stage byte)
 taken_in stage byte used cr takes None e = tt
 taken_in stage byte used cr takes (Some found) e = subst (λ n. TakesByte stage byte n) (sym e.0) (takes e.1 e.2)

@@ -5,73 +5,74 @@ use Rattle.std.specs.List.{AllByRecursion}
 use Rattle.httparse.specs.Grammar.{ChunkLine, print_chunk_line, chunk_size}
 use Rattle.httparse.proofs.ChunkLemmas.{chunk_line_unique}
 use Rattle.http_payload.specs.declared.stage.Stage.TheVariants.{Rest, Line, Chunk as InTheChunk, Trailers}
-use Rattle.http_payload.specs.Chunks.{longest_body, line_end, IsLine, Chunk, chunk_text, IsChunk, chunk_texts, chunk_bytes, IsTrailers, IsLast, IsOverLine, Ending, Whole, Over, EndsAs, EndsInChunks, InChunk}
-use Rattle.http_payload.specs.Held.{held}
-use Rattle.http_payload.specs.Lines.{NeverLine, IsLineOf}
+use Rattle.http_head.specs.declared.content_length.TheConstants.{BODY_LIMIT}
+use Rattle.http_payload.specs.Chunks.{crlf, IsShortLine, Chunk, chunk_text, IsChunk, chunk_texts, chunk_bytes, IsTrailers, IsLast, IsOverLine, Ending, Whole, Over, EndsAs, EndsInChunks, InChunk}
+use Rattle.http_payload.specs.PayloadState.{payload_state}
+use Rattle.http_payload.specs.ChunkLines.{NeverLine, IsLineOf}
 use Rattle.http_payload.specs.Steps.{Steps, Never, Passes}
-use Rattle.http_payload.proofs.Fronts.{fronts}
+use Rattle.http_payload.proofs.Prefixes.{prefixes}
 
 -- one line stands at the front of a text
-pub one_line : (l k : ChunkLine) (r q : List ℕ) → IsLine l → IsLine k
+pub one_line : (l k : ChunkLine) (r q : List ℕ) → IsShortLine l → IsShortLine k
     → print_chunk_line l ++ r ≡ print_chunk_line k ++ q → (l ≡ k) × (r ≡ q)
 one_line l k r q is_l is_k e =
     chunk_line_unique (print_chunk_line l ++ r) l k r q (is_l.grammar, refl) (is_k.grammar, e)
 
 -- how a text of chunks begins
 pub data Opens (before text : List ℕ) (ending : Ending) : Type 0 where
-  at_last : IsLast text → ending ≡ Whole before → length before ≤ longest_body → Opens before text ending
-  at_over : IsOverLine (length before) text → ending ≡ Over → length before ≤ longest_body → Opens before text ending
+  at_last : IsLast text → ending ≡ Whole before → length before ≤ BODY_LIMIT → Opens before text ending
+  at_over : IsOverLine (length before) text → ending ≡ Over → length before ≤ BODY_LIMIT → Opens before text ending
   at_chunk : (chunk : Chunk) (rest : List ℕ) → IsChunk chunk → text ≡ chunk_text chunk ++ rest
       → EndsInChunks (before ++ chunk.bytes) rest ending → Opens before text ending
 
-pub opens_as : (before text : List ℕ) (ending : Ending) (chunks : List Chunk) (behind : List ℕ)
-    → AllByRecursion IsChunk chunks → length (before ++ chunk_bytes chunks) ≤ longest_body
-    → EndsAs (before ++ chunk_bytes chunks) behind ending → text ≡ chunk_texts chunks ++ behind → Opens before text ending
-opens_as before text (Whole body) [] behind each fits ends text_is =
+pub opens_as : (before text : List ℕ) (ending : Ending) (chunks : List Chunk) (after : List ℕ)
+    → AllByRecursion IsChunk chunks → length (before ++ chunk_bytes chunks) ≤ BODY_LIMIT
+    → EndsAs (before ++ chunk_bytes chunks) after ending → text ≡ chunk_texts chunks ++ after → Opens before text ending
+opens_as before text (Whole body) [] after each fits ends text_is =
     let same : before ++ [] ≡ before = append-nil before in
     at_last (subst IsLast (sym text_is) ends.0) (ap Whole (ends.1 ∙ same)) (omega (arith, fits, ap length same))
-opens_as before text Over [] behind each fits ends text_is =
+opens_as before text Over [] after each fits ends text_is =
     let same : before ++ [] ≡ before = append-nil before in
-    at_over (subst (λ t. IsOverLine (length before) t) (sym text_is) (subst (λ (t : List ℕ). IsOverLine (length t) behind) same ends))
+    at_over (subst (λ t. IsOverLine (length before) t) (sym text_is) (subst (λ (t : List ℕ). IsOverLine (length t) after) same ends))
     refl (omega (arith, fits, ap length same))
-opens_as before text ending (c ∷ chunks) behind each fits ends text_is =
+opens_as before text ending (c ∷ chunks) after each fits ends text_is =
     let regroup : before ++ (c.bytes ++ chunk_bytes chunks) ≡ (before ++ c.bytes) ++ chunk_bytes chunks =
     sym (append_assoc before c.bytes (chunk_bytes chunks)) in
-    at_chunk c (chunk_texts chunks ++ behind) each.0 (text_is ∙ append_assoc (chunk_text c) (chunk_texts chunks) behind)
+    at_chunk c (chunk_texts chunks ++ after) each.0 (text_is ∙ append_assoc (chunk_text c) (chunk_texts chunks) after)
     (record {
       chunks = chunks;
-      behind = behind;
+      after = after;
       each = each.1;
-      fits = subst (λ (t : List ℕ). length t ≤ longest_body) regroup fits;
-      ends = subst (λ t. EndsAs t behind ending) regroup ends;
+      fits = subst (λ (t : List ℕ). length t ≤ BODY_LIMIT) regroup fits;
+      ends = subst (λ t. EndsAs t after ending) regroup ends;
       text_is = refl;
     })
 
 pub opened : {before text : List ℕ} {ending : Ending} → EndsInChunks before text ending → Opens before text ending
-opened {before} {text} {ending} h = opens_as before text ending h.chunks h.behind h.each h.fits h.ends h.text_is
+opened {before} {text} {ending} h = opens_as before text ending h.chunks h.after h.each h.fits h.ends h.text_is
 
 -- and back
-pub closed_last : {before text : List ℕ} → IsLast text → length before ≤ longest_body → EndsInChunks before text (Whole before)
+pub closed_last : {before text : List ℕ} → IsLast text → length before ≤ BODY_LIMIT → EndsInChunks before text (Whole before)
 closed_last {before} {text} last fits =
     let same : before ++ [] ≡ before = append-nil before in
     record {
       chunks = [];
-      behind = text;
+      after = text;
       each = tt;
-      fits = subst (λ (t : List ℕ). length t ≤ longest_body) (sym same) fits;
+      fits = subst (λ (t : List ℕ). length t ≤ BODY_LIMIT) (sym same) fits;
       ends = (last, sym same);
       text_is = refl;
     }
 
-pub closed_over : {before text : List ℕ} → IsOverLine (length before) text → length before ≤ longest_body
+pub closed_over : {before text : List ℕ} → IsOverLine (length before) text → length before ≤ BODY_LIMIT
     → EndsInChunks before text Over
 closed_over {before} {text} over fits =
     let same : before ++ [] ≡ before = append-nil before in
     record {
       chunks = [];
-      behind = text;
+      after = text;
       each = tt;
-      fits = subst (λ (t : List ℕ). length t ≤ longest_body) (sym same) fits;
+      fits = subst (λ (t : List ℕ). length t ≤ BODY_LIMIT) (sym same) fits;
       ends = subst (λ (t : List ℕ). IsOverLine (length t) text) (sym same) over;
       text_is = refl;
     }
@@ -83,82 +84,82 @@ closed_chunk {before} {rest} {ending} c is_chunk h =
     append_assoc before c.bytes (chunk_bytes h.chunks) in
     record {
       chunks = c ∷ h.chunks;
-      behind = h.behind;
+      after = h.after;
       each = (is_chunk, h.each);
-      fits = subst (λ (t : List ℕ). length t ≤ longest_body) regroup h.fits;
-      ends = subst (λ t. EndsAs t h.behind ending) regroup h.ends;
-      text_is = ap (λ (t : List ℕ). chunk_text c ++ t) h.text_is ∙ sym (append_assoc (chunk_text c) (chunk_texts h.chunks) h.behind);
+      fits = subst (λ (t : List ℕ). length t ≤ BODY_LIMIT) regroup h.fits;
+      ends = subst (λ t. EndsAs t h.after ending) regroup h.ends;
+      text_is = ap (λ (t : List ℕ). chunk_text c ++ t) h.text_is ∙ sym (append_assoc (chunk_text c) (chunk_texts h.chunks) h.after);
     }
 
 -- a text of chunks begins with a line
 pub record LineFirst (text : List ℕ) : Type 0 where
   pub line : ChunkLine
   pub rest : List ℕ
-  pub is_line : IsLine line
+  pub is_line : IsShortLine line
   pub text_is : text ≡ print_chunk_line line ++ rest
 
 pub line_first : {before text : List ℕ} {ending : Ending} → EndsInChunks before text ending → LineFirst text
 line_first {before} {text} {ending} h = by_case (opened h)
   where
     by_case : Opens before text ending → LineFirst text
-    by_case (at_last last whole fits) = record { line = last.line; rest = last.behind; is_line = last.is_line; text_is = last.text_is }
+    by_case (at_last last whole fits) = record { line = last.line; rest = last.after; is_line = last.is_line; text_is = last.text_is }
     by_case (at_over over is_over fits) =
         record { line = over.line; rest = []; is_line = over.is_line; text_is = over.text_is ∙ sym (append-nil (print_chunk_line over.line)) }
     by_case (at_chunk c rest is_chunk text_is ends) = record {
       line = c.line;
-      rest = (c.bytes ++ line_end) ++ rest;
+      rest = (c.bytes ++ crlf) ++ rest;
       is_line = is_chunk.line;
-      text_is = text_is ∙ append_assoc (print_chunk_line c.line) (c.bytes ++ line_end) rest;
+      text_is = text_is ∙ append_assoc (print_chunk_line c.line) (c.bytes ++ crlf) rest;
     }
 
--- behind a line of size 0 stand the trailers
-pub behind_zero : {before rest : List ℕ} {ending : Ending} (line : ChunkLine) → IsLine line → chunk_size line ≡ 0
+-- after a line of size 0 stand the trailers
+pub after_zero : {before rest : List ℕ} {ending : Ending} (line : ChunkLine) → IsShortLine line → chunk_size line ≡ 0
     → EndsInChunks before (print_chunk_line line ++ rest) ending → IsTrailers 0 rest × (ending ≡ Whole before)
-behind_zero {before} {rest} {ending} line is_line zero h = by_case (opened h)
+after_zero {before} {rest} {ending} line is_line zero h = by_case (opened h)
   where
     by_case : Opens before (print_chunk_line line ++ rest) ending → IsTrailers 0 rest × (ending ≡ Whole before)
     by_case (at_last last whole fits) =
-        let same = one_line line last.line rest last.behind is_line last.is_line last.text_is in
+        let same = one_line line last.line rest last.after is_line last.is_line last.text_is in
         (subst (IsTrailers 0) (sym same.1) last.trailers, whole)
     by_case (at_over over is_over fits) =
         let same = one_line line over.line rest [] is_line over.is_line (over.text_is ∙ sym (append-nil (print_chunk_line over.line))) in
         absurd (omega (arith, over.over, ap chunk_size same.0, zero, fits))
-    by_case (at_chunk c after is_chunk text_is ends) =
-        let same = one_line line c.line rest ((c.bytes ++ line_end) ++ after) is_line is_chunk.line
-        (text_is ∙ append_assoc (print_chunk_line c.line) (c.bytes ++ line_end) after) in
+    by_case (at_chunk c later is_chunk text_is ends) =
+        let same = one_line line c.line rest ((c.bytes ++ crlf) ++ later) is_line is_chunk.line
+        (text_is ∙ append_assoc (print_chunk_line c.line) (c.bytes ++ crlf) later) in
         absurd (omega (arith, is_chunk.some, is_chunk.size, ap chunk_size same.0, zero))
 
--- behind a line of another size that fits stands the chunk
-pub behind_size : {before rest : List ℕ} {ending : Ending} (line : ChunkLine) → IsLine line → 0 < chunk_size line
-    → length before + chunk_size line ≤ longest_body
+-- after a line of another size that fits stands the chunk
+pub after_size : {before rest : List ℕ} {ending : Ending} (line : ChunkLine) → IsShortLine line → 0 < chunk_size line
+    → length before + chunk_size line ≤ BODY_LIMIT
     → EndsInChunks before (print_chunk_line line ++ rest) ending → InChunk (chunk_size line) before rest ending
-behind_size {before} {rest} {ending} line is_line some room h = by_case (opened h)
+after_size {before} {rest} {ending} line is_line some room h = by_case (opened h)
   where
     by_case : Opens before (print_chunk_line line ++ rest) ending → InChunk (chunk_size line) before rest ending
     by_case (at_last last whole fits) =
-        let same = one_line line last.line rest last.behind is_line last.is_line last.text_is in
+        let same = one_line line last.line rest last.after is_line last.is_line last.text_is in
         absurd (omega (arith, last.zero, ap chunk_size same.0, some))
     by_case (at_over over is_over fits) =
         let same = one_line line over.line rest [] is_line over.is_line (over.text_is ∙ sym (append-nil (print_chunk_line over.line))) in
         absurd (omega (arith, over.over, ap chunk_size same.0, room))
-    by_case (at_chunk c after is_chunk text_is ends) =
-        let same = one_line line c.line rest ((c.bytes ++ line_end) ++ after) is_line is_chunk.line
-        (text_is ∙ append_assoc (print_chunk_line c.line) (c.bytes ++ line_end) after) in
+    by_case (at_chunk c later is_chunk text_is ends) =
+        let same = one_line line c.line rest ((c.bytes ++ crlf) ++ later) is_line is_chunk.line
+        (text_is ∙ append_assoc (print_chunk_line c.line) (c.bytes ++ crlf) later) in
         record {
           bytes = c.bytes;
-          rest = after;
+          rest = later;
           size = sym is_chunk.size ∙ sym (ap chunk_size same.0);
           ends = ends;
-          text_is = same.1 ∙ append_assoc c.bytes line_end after;
+          text_is = same.1 ∙ append_assoc c.bytes crlf later;
         }
 
-pub from_size : {before rest : List ℕ} {ending : Ending} (line : ChunkLine) → IsLine line → 0 < chunk_size line
+pub from_size : {before rest : List ℕ} {ending : Ending} (line : ChunkLine) → IsShortLine line → 0 < chunk_size line
     → InChunk (chunk_size line) before rest ending → EndsInChunks before (print_chunk_line line ++ rest) ending
 from_size {before} {rest} {ending} line is_line some h =
     let chunk : Chunk = record { line = line; bytes = h.bytes } in
     let text : chunk_text chunk ++ h.rest ≡ print_chunk_line line ++ rest =
-    append_assoc (print_chunk_line line) (h.bytes ++ line_end) h.rest
-    ∙ ap (λ (t : List ℕ). print_chunk_line line ++ t) (append_assoc h.bytes line_end h.rest ∙ sym h.text_is) in
+    append_assoc (print_chunk_line line) (h.bytes ++ crlf) h.rest
+    ∙ ap (λ (t : List ℕ). print_chunk_line line ++ t) (append_assoc h.bytes crlf h.rest ∙ sym h.text_is) in
     subst (λ t. EndsInChunks before t ending) text
     (closed_chunk chunk (record { line = is_line; size = sym h.size; some = omega (arith, some, h.size) }) h.ends)
 
@@ -166,10 +167,10 @@ from_size {before} {rest} {ending} line is_line some h =
 
 -- bytes of a chunk
 pub chunk_bytes_step : (n : ℕ) (line body bytes : List ℕ) → length bytes ≤ n
-    → Steps (held (InTheChunk n) line body) bytes (held (InTheChunk (n - length bytes)) line (body ++ bytes))
+    → Steps (payload_state (InTheChunk n) line body) bytes (payload_state (InTheChunk (n - length bytes)) line (body ++ bytes))
 chunk_bytes_step n line body bytes fits = record {
   left = λ more ending h.
-      let cut = fronts bytes h.bytes more (line_end ++ h.rest) h.text_is (omega (arith, fits, h.size)) in
+      let cut = prefixes bytes h.bytes more (crlf ++ h.rest) h.text_is (omega (arith, fits, h.size)) in
       let regroup : body ++ h.bytes ≡ (body ++ bytes) ++ cut.0 =
       ap (λ (t : List ℕ). body ++ t) cut.1 ∙ sym (append_assoc body bytes cut.0) in
       record {
@@ -184,13 +185,13 @@ chunk_bytes_step n line body bytes fits = record {
     rest = h.rest;
     size = omega (arith, h.size, length-append bytes h.bytes, fits);
     ends = subst (λ t. EndsInChunks t h.rest ending) (append_assoc body bytes h.bytes) h.ends;
-    text_is = ap (λ (t : List ℕ). bytes ++ t) h.text_is ∙ sym (append_assoc bytes h.bytes (line_end ++ h.rest));
+    text_is = ap (λ (t : List ℕ). bytes ++ t) h.text_is ∙ sym (append_assoc bytes h.bytes (crlf ++ h.rest));
   };
 }
 
 -- bytes of a body of a told length
 pub rest_step : (n : ℕ) (line body bytes : List ℕ) → length bytes ≤ n
-    → Steps (held (Rest n) line body) bytes (held (Rest (n - length bytes)) line (body ++ bytes))
+    → Steps (payload_state (Rest n) line body) bytes (payload_state (Rest (n - length bytes)) line (body ++ bytes))
 rest_step n line body bytes fits = record {
   left = λ more ending h. (
     omega (arith, h.0, length-append bytes more),
@@ -203,7 +204,7 @@ rest_step n line body bytes fits = record {
 }
 
 -- more bytes of a line
-pub line_step : (line body bytes new : List ℕ) → new ≡ line ++ bytes → Steps (held Line line body) bytes (held Line new body)
+pub line_step : (line body bytes new : List ℕ) → new ≡ line ++ bytes → Steps (payload_state Line line body) bytes (payload_state Line new body)
 line_step line body bytes new is_new = record {
   left = λ more ending h.
       subst (λ t. EndsInChunks body t ending) (sym (append_assoc line bytes more) ∙ ap (λ (t : List ℕ). t ++ more) (sym is_new)) h;
@@ -212,28 +213,28 @@ line_step line body bytes new is_new = record {
 }
 
 -- the end of the last line
-pub last_line_step : (line body bytes : List ℕ) → IsLineOf (line ++ bytes) 0 → length body ≤ longest_body
-    → Steps (held Line line body) bytes (held (Trailers 0) [] body)
+pub last_line_step : (line body bytes : List ℕ) → IsLineOf (line ++ bytes) 0 → length body ≤ BODY_LIMIT
+    → Steps (payload_state Line line body) bytes (payload_state (Trailers 0) [] body)
 last_line_step line body bytes l fits =
     let text = λ (more : List ℕ). sym (append_assoc line bytes more) ∙ ap (λ (t : List ℕ). t ++ more) l.text_is in
     record {
-      left = λ more ending h. behind_zero l.line l.is_line l.size_is (subst (λ t. EndsInChunks body t ending) (text more) h);
+      left = λ more ending h. after_zero l.line l.is_line l.size_is (subst (λ t. EndsInChunks body t ending) (text more) h);
       back = λ more ending h.
           subst (λ e. EndsInChunks body (line ++ (bytes ++ more)) e) (sym h.1)
           (subst (λ t. EndsInChunks body t (Whole body)) (sym (text more))
-          (closed_last (record { line = l.line; behind = more; is_line = l.is_line; zero = l.size_is; trailers = h.0; text_is = refl }) fits));
+          (closed_last (record { line = l.line; after = more; is_line = l.is_line; zero = l.size_is; trailers = h.0; text_is = refl }) fits));
     }
 
 -- the end of another line
 pub size_line_step : (line body bytes : List ℕ) (size : ℕ) → IsLineOf (line ++ bytes) size → 0 < size
-    → length body + size ≤ longest_body → Steps (held Line line body) bytes (held (InTheChunk size) [] body)
+    → length body + size ≤ BODY_LIMIT → Steps (payload_state Line line body) bytes (payload_state (InTheChunk size) [] body)
 size_line_step line body bytes size l some room =
     let text = λ (more : List ℕ). sym (append_assoc line bytes more) ∙ ap (λ (t : List ℕ). t ++ more) l.text_is in
     let is_some : 0 < chunk_size l.line = omega (arith, some, l.size_is) in
     record {
       left = λ more ending h.
           subst (λ n. InChunk n body more ending) l.size_is
-          (behind_size l.line l.is_line is_some (omega (arith, room, l.size_is)) (subst (λ t. EndsInChunks body t ending) (text more) h));
+          (after_size l.line l.is_line is_some (omega (arith, room, l.size_is)) (subst (λ t. EndsInChunks body t ending) (text more) h));
       back = λ more ending h.
           subst (λ t. EndsInChunks body t ending) (sym (text more))
           (from_size l.line l.is_line is_some (subst (λ n. InChunk n body more ending) (sym l.size_is) h));
@@ -241,7 +242,7 @@ size_line_step line body bytes size l some room =
 
 -- a line whose size is too large
 pub over_line_passes : (line body bytes : List ℕ) (taken size : ℕ) → IsLineOf (line ++ take taken bytes) size
-    → longest_body < length body + size → length body ≤ longest_body → Passes (held Line line body) bytes
+    → BODY_LIMIT < length body + size → length body ≤ BODY_LIMIT → Passes (payload_state Line line body) bytes
 over_line_passes line body bytes taken size l over fits = (
   take taken bytes,
   drop taken bytes,
@@ -250,9 +251,9 @@ over_line_passes line body bytes taken size l over fits = (
 )
 
 -- where no line goes on so, no body does
-pub never_line : (line body bytes : List ℕ) → NeverLine (line ++ bytes) → Never (held Line line body) bytes
-never_line line body bytes never more front rest ending e h =
+pub never_line : (line body bytes : List ℕ) → NeverLine (line ++ bytes) → Never (payload_state Line line body) bytes
+never_line line body bytes never more prefix rest ending e h =
     let first = line_first h in
     never more (first.rest ++ rest) first.line first.is_line
-    (append_assoc line bytes more ∙ ap (λ (t : List ℕ). line ++ t) e ∙ sym (append_assoc line front rest)
+    (append_assoc line bytes more ∙ ap (λ (t : List ℕ). line ++ t) e ∙ sym (append_assoc line prefix rest)
     ∙ ap (λ (t : List ℕ). t ++ rest) first.text_is ∙ append_assoc (print_chunk_line first.line) first.rest rest)

@@ -1,61 +1,61 @@
 -- What each answer of a feed says, and that no other comes.
 use Rattle.std.proofs.Common.{◌≡◌, ◌≢◌, ℕ, ◌-◌, ◌≤◌, Bool, true, false, IsTrue, List, ◌++◌, length, take, drop, refl, sym, ap, ◌∙◌, subst, arith, length-append, append_assoc, inl, inr, None, Option, Result, Ok, Err, IfSome}
 use Rattle.std.proofs.lemmas.List.{take-append-drop, length-take-le, take_all}
-use Rattle.http_head.specs.declared.form.BodyForm.{BodyForm}
-use Rattle.http_payload.specs.declared.fault.PayloadFault.{PayloadFault}
-use Rattle.http_payload.specs.declared.fault.PayloadFault.TheVariants.{Malformed, TooLarge, NoMemory}
+use Rattle.http_head.specs.declared.body_form.BodyForm.{BodyForm}
+use Rattle.http_payload.specs.declared.payload_fault.PayloadFault.{PayloadFault}
+use Rattle.http_payload.specs.declared.payload_fault.PayloadFault.TheVariants.{Malformed, TooLarge, NoMemory}
 use Rattle.http_payload.specs.declared.payload.Fed.{Fed}
 use Rattle.http_payload.specs.declared.stage.Stage.{Stage}
 use Rattle.http_payload.specs.declared.stage.Stage.TheVariants.{Rest, Line, Chunk, ChunkEnd, Trailers, Trailer, TrailerEnd, LastEnd, Failed}
 use Rattle.http_payload.specs.Chunks.{Whole}
-use Rattle.http_payload.specs.Bodies.{IsBody, IsFault, IsPartial, Tells}
-use Rattle.http_payload.specs.Held.{Held, held, IsSound, Stands, IsDone, fault_at}
-use Rattle.http_payload.proofs.Standing.{partial_of}
-use Rattle.http_payload.proofs.LawLemmas.{one_reading, no_fault_at_body, one_fault, no_fault_at_partial, no_body_at_partial}
+use Rattle.http_payload.specs.Bodies.{IsBody, IsFault, IsPartial, IsOrOutOfMemory}
+use Rattle.http_payload.specs.PayloadState.{PayloadState, payload_state, IsSound, Represents, IsDone, fault_at}
+use Rattle.http_payload.proofs.Representation.{partial_of}
+use Rattle.http_payload.proofs.LawLemmas.{one_outcome, no_fault_at_body, one_fault, no_fault_at_partial, no_body_at_partial}
 
 abbrev pub fed : ℕ → Bool → Fed
 fed taken done = record { taken = taken; done = done }
 
 -- a whole piece that was taken without an end
-pub partial_at : (form : BodyForm) (new : Held) (text piece : List ℕ) (taken : ℕ) → Stands form new (text ++ take taken piece)
+pub partial_at : (form : BodyForm) (new : PayloadState) (text piece : List ℕ) (taken : ℕ) → Represents form new (text ++ take taken piece)
     → IsSound new → (IsDone new → ⊥) → taken ≡ length piece → IsPartial form (text ++ piece)
-partial_at form new text piece taken stands sound not_done all =
+partial_at form new text piece taken represents sound not_done all =
     subst (λ (t : List ℕ). IsPartial form (text ++ t)) (take_all taken piece (omega arith))
-    (partial_of form new (text ++ take taken piece) stands sound not_done)
+    (partial_of form new (text ++ take taken piece) represents sound not_done)
 
 -- the front that was taken, and the rest
 whole_piece : (text piece : List ℕ) (taken : ℕ) → (text ++ take taken piece) ++ drop taken piece ≡ text ++ piece
 whole_piece text piece taken =
     append_assoc text (take taken piece) (drop taken piece) ∙ ap (λ (t : List ℕ). text ++ t) (take-append-drop taken piece)
 
-pub whole_told : (form : BodyForm) (text piece : List ℕ) (taken : ℕ) (done : Bool) (spelled : List ℕ) → taken ≤ length piece
-    → (IsTrue done → IsBody form (text ++ take taken piece) spelled) → (done ≡ false → IsPartial form (text ++ piece))
-    → (front rest body : List ℕ) → text ++ piece ≡ front ++ rest → IsBody form front body
-    → Tells {A = Fed} (Ok (fed taken done)) (Ok (fed (length front - length text) true))
-whole_told form text piece taken true spelled within whole partial front rest body e is_body =
-    let one = one_reading form (text ++ take taken piece) front (drop taken piece) rest (Whole spelled) (Whole body) (whole refl) is_body
+pub whole_told : (form : BodyForm) (text piece : List ℕ) (taken : ℕ) (done : Bool) (decodes : List ℕ) → taken ≤ length piece
+    → (IsTrue done → IsBody form (text ++ take taken piece) decodes) → (done ≡ false → IsPartial form (text ++ piece))
+    → (prefix rest body : List ℕ) → text ++ piece ≡ prefix ++ rest → IsBody form prefix body
+    → IsOrOutOfMemory {A = Fed} (Ok (fed taken done)) (Ok (fed (length prefix - length text) true))
+whole_told form text piece taken true decodes within whole partial prefix rest body e is_body =
+    let one = one_outcome form (text ++ take taken piece) prefix (drop taken piece) rest (Whole decodes) (Whole body) (whole refl) is_body
     (whole_piece text piece taken ∙ e) in
-    let size : taken ≡ length front - length text =
+    let size : taken ≡ length prefix - length text =
     omega (arith, ap length one.0, length-append text (take taken piece), length-take-le taken piece within) in
     inl (ap (λ n. Ok (fed n true)) size)
-whole_told form text piece taken false spelled within whole partial front rest body e is_body =
-    absurd (no_body_at_partial form front rest body (subst (IsPartial form) e (partial refl)) is_body)
+whole_told form text piece taken false decodes within whole partial prefix rest body e is_body =
+    absurd (no_body_at_partial form prefix rest body (subst (IsPartial form) e (partial refl)) is_body)
 
-pub partial_told : (form : BodyForm) (text piece : List ℕ) (taken : ℕ) (done : Bool) (spelled : List ℕ)
-    → (IsTrue done → IsBody form (text ++ take taken piece) spelled) → (done ≡ false → taken ≡ length piece)
-    → IsPartial form (text ++ piece) → Tells {A = Fed} (Ok (fed taken done)) (Ok (fed (length piece) false))
-partial_told form text piece taken true spelled whole all partial =
-    absurd (no_body_at_partial form (text ++ take taken piece) (drop taken piece) spelled
+pub partial_told : (form : BodyForm) (text piece : List ℕ) (taken : ℕ) (done : Bool) (decodes : List ℕ)
+    → (IsTrue done → IsBody form (text ++ take taken piece) decodes) → (done ≡ false → taken ≡ length piece)
+    → IsPartial form (text ++ piece) → IsOrOutOfMemory {A = Fed} (Ok (fed taken done)) (Ok (fed (length piece) false))
+partial_told form text piece taken true decodes whole all partial =
+    absurd (no_body_at_partial form (text ++ take taken piece) (drop taken piece) decodes
     (subst (IsPartial form) (sym (whole_piece text piece taken)) partial) (whole refl))
-partial_told form text piece taken false spelled whole all partial = inl (ap (λ n. Ok (fed n false)) (all refl))
+partial_told form text piece taken false decodes whole all partial = inl (ap (λ n. Ok (fed n false)) (all refl))
 
-pub fault_told : (form : BodyForm) (text piece : List ℕ) (taken : ℕ) (done : Bool) (spelled : List ℕ) (fault : PayloadFault)
-    → (IsTrue done → IsBody form (text ++ take taken piece) spelled) → (done ≡ false → IsPartial form (text ++ piece))
-    → IsFault form (text ++ piece) fault → Tells {A = Fed} (Ok (fed taken done)) (Err fault)
-fault_told form text piece taken true spelled fault whole partial is_fault =
-    absurd (no_fault_at_body form (text ++ take taken piece) (drop taken piece) spelled fault (whole refl)
+pub fault_told : (form : BodyForm) (text piece : List ℕ) (taken : ℕ) (done : Bool) (decodes : List ℕ) (fault : PayloadFault)
+    → (IsTrue done → IsBody form (text ++ take taken piece) decodes) → (done ≡ false → IsPartial form (text ++ piece))
+    → IsFault form (text ++ piece) fault → IsOrOutOfMemory {A = Fed} (Ok (fed taken done)) (Err fault)
+fault_told form text piece taken true decodes fault whole partial is_fault =
+    absurd (no_fault_at_body form (text ++ take taken piece) (drop taken piece) decodes fault (whole refl)
     (subst (λ t. IsFault form t fault) (sym (whole_piece text piece taken)) is_fault))
-fault_told form text piece taken false spelled fault whole partial is_fault =
+fault_told form text piece taken false decodes fault whole partial is_fault =
     absurd (no_fault_at_partial form (text ++ piece) fault (partial refl) is_fault)
 
 -- ---- after a fault
@@ -64,17 +64,17 @@ abbrev pub Blames : BodyForm → List ℕ → PayloadFault → Type 0
 Blames form text fault = fault ≢ NoMemory → IsFault form text fault
 
 pub whole_failed : (form : BodyForm) (text piece : List ℕ) (fault : PayloadFault) (answer : Fed) → Blames form (text ++ piece) fault
-    → (front rest body : List ℕ) → text ++ piece ≡ front ++ rest → IsBody form front body → Tells (Err fault) (Ok answer)
-whole_failed form text piece NoMemory answer blames front rest body e is_body = inr refl
-whole_failed form text piece Malformed answer blames front rest body e is_body =
-    absurd (no_fault_at_body form front rest body Malformed is_body
+    → (prefix rest body : List ℕ) → text ++ piece ≡ prefix ++ rest → IsBody form prefix body → IsOrOutOfMemory (Err fault) (Ok answer)
+whole_failed form text piece NoMemory answer blames prefix rest body e is_body = inr refl
+whole_failed form text piece Malformed answer blames prefix rest body e is_body =
+    absurd (no_fault_at_body form prefix rest body Malformed is_body
     (subst (λ t. IsFault form t Malformed) e (blames (λ (same : Malformed ≡ NoMemory). cc))))
-whole_failed form text piece TooLarge answer blames front rest body e is_body =
-    absurd (no_fault_at_body form front rest body TooLarge is_body
+whole_failed form text piece TooLarge answer blames prefix rest body e is_body =
+    absurd (no_fault_at_body form prefix rest body TooLarge is_body
     (subst (λ t. IsFault form t TooLarge) e (blames (λ (same : TooLarge ≡ NoMemory). cc))))
 
 pub partial_failed : (form : BodyForm) (text piece : List ℕ) (fault : PayloadFault) (answer : Fed)
-    → Blames form (text ++ piece) fault → IsPartial form (text ++ piece) → Tells (Err fault) (Ok answer)
+    → Blames form (text ++ piece) fault → IsPartial form (text ++ piece) → IsOrOutOfMemory (Err fault) (Ok answer)
 partial_failed form text piece NoMemory answer blames partial = inr refl
 partial_failed form text piece Malformed answer blames partial =
     absurd (no_fault_at_partial form (text ++ piece) Malformed partial (blames (λ (same : Malformed ≡ NoMemory). cc)))
@@ -82,7 +82,7 @@ partial_failed form text piece TooLarge answer blames partial =
     absurd (no_fault_at_partial form (text ++ piece) TooLarge partial (blames (λ (same : TooLarge ≡ NoMemory). cc)))
 
 pub fault_failed : (form : BodyForm) (text piece : List ℕ) (fault other : PayloadFault)
-    → Blames form (text ++ piece) fault → IsFault form (text ++ piece) other → Tells {A = Fed} (Err fault) (Err other)
+    → Blames form (text ++ piece) fault → IsFault form (text ++ piece) other → IsOrOutOfMemory {A = Fed} (Err fault) (Err other)
 fault_failed form text piece NoMemory other blames is_fault = inr refl
 fault_failed form text piece Malformed other blames is_fault =
     inl (ap Err (one_fault form (text ++ piece) Malformed other (blames (λ (same : Malformed ≡ NoMemory). cc)) is_fault))
@@ -101,9 +101,9 @@ no_fault_at (TrailerEnd used) other = refl
 no_fault_at LastEnd other = refl
 no_fault_at (Failed fault) other = absurd (other fault refl)
 
-pub same_held : {s t : Stage} {l m b d : List ℕ} → s ≡ t → l ≡ m → b ≡ d → held s l b ≡ held t m d
+pub same_held : {s t : Stage} {l m b d : List ℕ} → s ≡ t → l ≡ m → b ≡ d → payload_state s l b ≡ payload_state t m d
 same_held {s} {t} {l} {m} {b} {d} stage line body =
-    ap (λ x. held x l b) stage ∙ ap (λ x. held t x b) line ∙ ap (λ x. held t m x) body
+    ap (λ x. payload_state x l b) stage ∙ ap (λ x. payload_state t x b) line ∙ ap (λ x. payload_state t m x) body
 
 pub must_be_true : (b : Bool) → (b ≡ false → ⊥) → b ≡ true
 must_be_true true other = refl

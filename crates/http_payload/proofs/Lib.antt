@@ -1,12 +1,12 @@
 pub mod ByteSteps
 pub mod ChunkSteps
 pub mod Feeding
-pub mod Fronts
+pub mod Prefixes
 pub mod LawLemmas
 pub mod LineFacts
 pub mod LineLimits
 pub mod LineSteps
 pub mod RunSteps
-pub mod Standing
+pub mod Representation
 pub mod TrailerSteps
 pub mod Uniqueness

@@ -3,8 +3,8 @@ use Rattle.std.proofs.Common.{◌≡◌, ◌≤◌, IsTrue, [], ◌∷◌, ◌++
 use Rattle.std.proofs.lemmas.List.Elements.{All-nil, All-cons}
 use Rattle.httparse.specs.Grammar.{ChunkLine, IsChunkLine, print_chunk_line, print_extension, print_end, crlf, is_ows}
 use Rattle.std.specs.Char.{is_ascii_hexdigit}
-use Rattle.http_payload.specs.Chunks.{IsLine}
-use Rattle.http_payload.specs.Held.{IsOpenLine}
+use Rattle.http_payload.specs.Chunks.{IsShortLine}
+use Rattle.http_payload.specs.PayloadState.{IsOpenLine}
 
 -- a line has a digit and its end
 pub length-print_chunk_line : (line : ChunkLine) → IsChunkLine line → 3 ≤ length (print_chunk_line line)
@@ -29,7 +29,7 @@ pub zero_text : print_chunk_line zero_line ≡ 48 ∷ 13 ∷ 10 ∷ []
 unfolding print_chunk_line
 zero_text = refl
 
-pub zero_is_line : IsLine zero_line
+pub zero_is_line : IsShortLine zero_line
 zero_is_line = record {
   grammar = record {
     digits = (omega arith, omega arith, All-cons (λ b. IsTrue (is_ascii_hexdigit b)) 48 [] refl (All-nil (λ b. IsTrue (is_ascii_hexdigit b))));
@@ -47,5 +47,5 @@ open_at_first = record {
   more = 48 ∷ 13 ∷ 10 ∷ [];
   line = zero_line;
   is_line = zero_is_line;
-  goes_on = sym zero_text;
+  continues = sym zero_text;
 }

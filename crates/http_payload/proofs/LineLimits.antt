@@ -9,10 +9,10 @@ use Rattle.std.proofs.lemmas.List.Elements.{All-nil, All-cons, All-append, All-w
 use Rattle.std.proofs.Math.Seq.{get_or-append_seam}
 use Rattle.httparse.specs.Grammar.{ChunkLine, IsChunkLine, print_chunk_line, print_extension, is_ows, is_extension_byte, HasNoChunkLine, IsExtension, ReadsChunkLine}
 use Rattle.httparse.proofs.ChunkLemmas.{chunk_line_unique}
-use Rattle.http_payload.specs.Chunks.{longest_line}
-use Rattle.http_payload.specs.Held.{IsOpenLine}
-use Rattle.http_payload.specs.Lines.{CanEnd, NeverLine}
-use Rattle.http_payload.proofs.Fronts.{fronts, All-front}
+use Rattle.http_payload.specs.declared.chunk_line.TheConstants.{CHUNK_LINE_LIMIT}
+use Rattle.http_payload.specs.PayloadState.{IsOpenLine}
+use Rattle.http_payload.specs.ChunkLines.{CanEnd, NeverLine}
+use Rattle.http_payload.proofs.Prefixes.{prefixes, All-prefix}
 use Rattle.http_payload.proofs.LineFacts.{open_at_first}
 
 -- a line without its end
@@ -43,7 +43,7 @@ in_extension digits pad (Some all) (x ∷ text) more g e =
       grammar = record {
         digits = g.digits;
         pad = g.pad;
-        extension = All-front (λ b. IsTrue (is_extension_byte b)) text more (subst (All (λ b. IsTrue (is_extension_byte b))) tail g.extension);
+        extension = All-prefix (λ b. IsTrue (is_extension_byte b)) text more (subst (All (λ b. IsTrue (is_extension_byte b))) tail g.extension);
       };
       text_is = ap (λ b. digits ++ (pad ++ (b ∷ text))) (sym first);
     }
@@ -54,15 +54,15 @@ in_pad : (digits pad : List ℕ) (extension : Option (List ℕ)) (text more : Li
 in_pad digits pad extension text more g e =
     elim (cases_lt (length pad) (length text)) [
       | inl longer ↦
-          let cut = fronts pad text (print_extension extension) more e (omega arith) in
+          let cut = prefixes pad text (print_extension extension) more e (omega arith) in
           subst (λ (t : List ℕ). IsCore (digits ++ t)) (sym cut.1) (in_extension digits pad extension cut.0 more g cut.2)
       | inr shorter ↦
-          let cut = fronts text pad more (print_extension extension) (sym e) shorter in
+          let cut = prefixes text pad more (print_extension extension) (sym e) shorter in
           record {
             line = record { digits = digits; pad = text; extension = None };
             grammar = record {
               digits = g.digits;
-              pad = All-front (λ b. IsTrue (is_ows b)) text cut.0 (subst (All (λ b. IsTrue (is_ows b))) cut.1 g.pad);
+              pad = All-prefix (λ b. IsTrue (is_ows b)) text cut.0 (subst (All (λ b. IsTrue (is_ows b))) cut.1 g.pad);
               extension = tt;
             };
             text_is = ap (λ (t : List ℕ). digits ++ t) (sym (append-nil text));
@@ -73,17 +73,17 @@ pub front_is_core : (l : ChunkLine) (text more : List ℕ) → IsChunkLine l →
 front_is_core l text more g some e =
     elim (cases_lt (length l.digits) (length text)) [
       | inl longer ↦
-          let cut = fronts l.digits text (l.pad ++ print_extension l.extension) more e (omega arith) in
+          let cut = prefixes l.digits text (l.pad ++ print_extension l.extension) more e (omega arith) in
           subst IsCore (sym cut.1) (in_pad l.digits l.pad l.extension cut.0 more g cut.2)
       | inr shorter ↦
-          let cut = fronts text l.digits more (l.pad ++ print_extension l.extension) (sym e) shorter in
+          let cut = prefixes text l.digits more (l.pad ++ print_extension l.extension) (sym e) shorter in
           record {
             line = record { digits = text; pad = []; extension = None };
             grammar = record {
               digits = (
                 some,
                 omega (arith, shorter, g.digits.1),
-                All-front (λ b. IsTrue (is_ascii_hexdigit b)) text cut.0
+                All-prefix (λ b. IsTrue (is_ascii_hexdigit b)) text cut.0
                     (subst (All (λ b. IsTrue (is_ascii_hexdigit b))) cut.1 g.digits.2),
               );
               pad = All-nil (λ b. IsTrue (is_ows b));
@@ -134,7 +134,7 @@ inside (x ∷ tail) more l none g e (inl short) =
       more = 13 ∷ 10 ∷ [];
       line = is_core.line;
       is_line = record { grammar = is_core.grammar; short = omega (arith, short, ap length whole, length-append text (13 ∷ 10 ∷ [])) };
-      goes_on = whole;
+      continues = whole;
     }
 inside (x ∷ tail) more l none g e (inr full) =
     let text : List ℕ = x ∷ tail in
@@ -158,11 +158,11 @@ open_line text (x ∷ []) l none reads can =
       more = x ∷ [];
       line = l;
       is_line = record { grammar = reads.0; short = omega (arith, lengths.1, at_most text can) };
-      goes_on = reads.1 ∙ append-nil (print_chunk_line l);
+      continues = reads.1 ∙ append-nil (print_chunk_line l);
     }
 open_line text (x ∷ y ∷ more) l none reads can =
     let lengths = length-line_text text (x ∷ y ∷ more) l reads in
-    let cut = fronts text (core l) (x ∷ y ∷ more) (13 ∷ 10 ∷ []) (line_text text (x ∷ y ∷ more) l reads) (omega (arith, lengths.0)) in
+    let cut = prefixes text (core l) (x ∷ y ∷ more) (13 ∷ 10 ∷ []) (line_text text (x ∷ y ∷ more) l reads) (omega (arith, lengths.0)) in
     inside text cut.0 l none reads.0 cut.1 can
 
 -- a beginning that can't is never a line
@@ -170,10 +170,10 @@ pub never_open : (text : List ℕ) → HasNoChunkLine text → (CanEnd text → 
 never_open text none full more rest line is_line e =
     elim (cases_lt (length text) (length (print_chunk_line line))) [
       | inr longer ↦
-          let cut = fronts (print_chunk_line line) text rest more (sym e) longer in
+          let cut = prefixes (print_chunk_line line) text rest more (sym e) longer in
           none line cut.0 (is_line.grammar, cut.1)
       | inl shorter ↦
-          let cut = fronts text (print_chunk_line line) more rest e (omega arith) in
+          let cut = prefixes text (print_chunk_line line) more rest e (omega arith) in
           let long : 255 ≤ length text = not_short text full in
           let sizes : length (print_chunk_line line) ≡ length text + length cut.0 = ap length cut.1 ∙ length-append text cut.0 in
           let one : length cut.0 ≡ 1 = omega (arith, sizes, long, shorter, is_line.short) in
@@ -196,10 +196,10 @@ never_open text none full more rest line is_line e =
         ∙ ap (λ n. get_or (core l ++ (13 ∷ 10 ∷ [])) n 0) (sym at) ∙ get_or-append_seam (core l) 13 (10 ∷ []) 0
 
 -- a line that is too long
-pub too_long : (text rest : List ℕ) (l : ChunkLine) → ReadsChunkLine text l rest → longest_line < length (print_chunk_line l)
+pub too_long : (text rest : List ℕ) (l : ChunkLine) → ReadsChunkLine text l rest → CHUNK_LINE_LIMIT < length (print_chunk_line l)
     → NeverLine text
-too_long text rest l reads long more after line is_line e =
+too_long text rest l reads long more later line is_line e =
     let whole : text ++ more ≡ print_chunk_line l ++ (rest ++ more) =
     ap (λ (t : List ℕ). t ++ more) reads.1 ∙ append_assoc (print_chunk_line l) rest more in
-    let same = chunk_line_unique (text ++ more) l line (rest ++ more) after (reads.0, whole) (is_line.grammar, e) in
+    let same = chunk_line_unique (text ++ more) l line (rest ++ more) later (reads.0, whole) (is_line.grammar, e) in
     omega (arith, long, is_line.short, ap (λ k. length (print_chunk_line k)) same.0)

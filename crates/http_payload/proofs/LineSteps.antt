@@ -4,11 +4,11 @@ use Rattle.std.proofs.lemmas.Bool.{cases_lt}
 use Rattle.std.proofs.Math.Seq.{take-append_seam}
 use Rattle.std.proofs.lemmas.List.{take-append-drop, length-take-le}
 use Rattle.httparse.specs.Grammar.{print_chunk_line}
-use Rattle.http_payload.specs.declared.fault.PayloadFault.{PayloadFault}
-use Rattle.http_payload.specs.declared.fault.PayloadFault.TheVariants.{Malformed, TooLarge, NoMemory}
-use Rattle.http_payload.specs.Held.{IsOpenLine}
-use Rattle.http_payload.specs.Lines.{LineFault, IsLineOf, BeginsWithLine}
-use Rattle.http_payload.proofs.Fronts.{fronts}
+use Rattle.http_payload.specs.declared.payload_fault.PayloadFault.{PayloadFault}
+use Rattle.http_payload.specs.declared.payload_fault.PayloadFault.TheVariants.{Malformed, TooLarge, NoMemory}
+use Rattle.http_payload.specs.PayloadState.{IsOpenLine}
+use Rattle.http_payload.specs.ChunkLines.{LineFault, IsLineOf, BeginsWithLine}
+use Rattle.http_payload.proofs.Prefixes.{prefixes}
 use Rattle.http_payload.proofs.LineFacts.{length-print_chunk_line}
 
 -- a fault of a window is one of the bytes that it begins
@@ -24,7 +24,7 @@ fault_wider old bytes n NoMemory always = tt
 
 -- a line in a window, of which the first bytes were kept
 pub record KeptLine (old bytes : List ℕ) (len size : ℕ) : Type 0 where
-  pub behind : length old < len
+  pub after : length old < len
   pub within : len ≤ length old + length bytes
   pub line : IsLineOf (old ++ take (len - length old) bytes) size
 
@@ -39,18 +39,18 @@ kept_line old bytes n len size is_open begins fits =
     let past : length old < len = elim (cases_lt (length old) len) [
       | inl past ↦ past
       | inr short ↦
-          let cut = fronts (print_chunk_line begins.line.line) old (drop len text) (take n bytes) (sym whole)
+          let cut = prefixes (print_chunk_line begins.line.line) old (drop len text) (take n bytes) (sym whole)
           (omega (arith, short, printed, ap length begins.line.text_is)) in
           absurd (is_open.none begins.line.line cut.0 begins.line.is_line cut.1)
     ] in
-    let cut = fronts old (take len text) (take n bytes) (drop len text) (sym (take-append-drop len text)) (omega (arith, past, printed)) in
+    let cut = prefixes old (take len text) (take n bytes) (drop len text) (sym (take-append-drop len text)) (omega (arith, past, printed)) in
     let more : length cut.0 ≡ len - length old = omega (arith, printed, ap length cut.1, length-append old cut.0) in
     let taken : cut.0 ≡ take (len - length old) bytes =
     sym (take-append_seam cut.0 (drop len text ++ drop n bytes)) ∙ ap (λ k. take k (cut.0 ++ (drop len text ++ drop n bytes))) more
     ∙ ap (λ (t : List ℕ). take (len - length old) t)
     (sym (append_assoc cut.0 (drop len text) (drop n bytes)) ∙ ap (λ (t : List ℕ). t ++ drop n bytes) (sym cut.2) ∙ take-append-drop n bytes) in
     record {
-      behind = past;
+      after = past;
       within = omega (arith, begins.within, sizes, fits);
       line = record {
         line = begins.line.line;

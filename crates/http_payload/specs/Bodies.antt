@@ -1,8 +1,8 @@
 use Rattle.std.specs.Prelude.{ℕ, ◌≡◌, ◌⊎◌, List, [], ◌++◌, length, Result, Err}
-use Rattle.http_head.specs.declared.form.BodyForm.{BodyForm}
-use Rattle.http_head.specs.declared.form.BodyForm.TheVariants.{Empty, Length, Chunked}
-use Rattle.http_payload.specs.declared.fault.PayloadFault.{PayloadFault}
-use Rattle.http_payload.specs.declared.fault.PayloadFault.TheVariants.{Malformed, TooLarge, NoMemory}
+use Rattle.http_head.specs.declared.body_form.BodyForm.{BodyForm}
+use Rattle.http_head.specs.declared.body_form.BodyForm.TheVariants.{Empty, Length, Chunked}
+use Rattle.http_payload.specs.declared.payload_fault.PayloadFault.{PayloadFault}
+use Rattle.http_payload.specs.declared.payload_fault.PayloadFault.TheVariants.{Malformed, TooLarge, NoMemory}
 use Rattle.http_payload.specs.Chunks.{Ending, Whole, Over, EndsInChunks}
 
 -- The bodies of each form (RFC 9112, section 6). All speak of whole texts.
@@ -19,13 +19,13 @@ IsBody form text body = Ends form text (Whole body)
 
 -- No beginning of the text is an end.
 abbrev pub HasNoEnd : BodyForm → List ℕ → Type 0
-HasNoEnd form text = (front rest : List ℕ) (ending : Ending) → text ≡ front ++ rest → Ends form front ending → ⊥
+HasNoEnd form text = (prefix rest : List ℕ) (ending : Ending) → text ≡ prefix ++ rest → Ends form prefix ending → ⊥
 
 -- A fault of the text. It is malformed as soon as nothing that follows leads to an end, and it is too large from the line
 -- on that says so.
 abbrev pub IsFault : BodyForm → List ℕ → PayloadFault → Type 0
 IsFault form text Malformed = (more : List ℕ) → HasNoEnd form (text ++ more)
-IsFault form text TooLarge = (front : List ℕ) × (rest : List ℕ) × (text ≡ front ++ rest) × Ends form front Over
+IsFault form text TooLarge = (prefix : List ℕ) × (rest : List ℕ) × (text ≡ prefix ++ rest) × Ends form prefix Over
 IsFault form text NoMemory = ⊥
 
 -- The text is no whole body and no fault, and something that follows leads to an end.
@@ -33,8 +33,8 @@ pub record IsPartial (form : BodyForm) (text : List ℕ) : Type 0 where
   pub no_end : HasNoEnd form text
   pub more : List ℕ
   pub ending : Ending
-  pub goes_on : Ends form (text ++ more) ending
+  pub continues : Ends form (text ++ more) ending
 
 -- A call told that answer, unless memory ran out.
-abbrev pub Tells : {A : Type 0} → Result A PayloadFault → Result A PayloadFault → Type 0
-Tells result answer = (result ≡ answer) ⊎ (result ≡ Err NoMemory)
+abbrev pub IsOrOutOfMemory : {A : Type 0} → Result A PayloadFault → Result A PayloadFault → Type 0
+IsOrOutOfMemory result answer = (result ≡ answer) ⊎ (result ≡ Err NoMemory)

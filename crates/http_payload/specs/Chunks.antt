@@ -1,28 +1,21 @@
 use Rattle.std.specs.Prelude.{ℕ, ◌≡◌, ◌+◌, ◌<◌, ◌≤◌, ◌==◌, ◌||◌, not, Bool, IsTrue, List, [], ◌∷◌, ◌++◌, length}
 use Rattle.std.specs.List.{flat_map, AllByRecursion}
+use Rattle.http_head.specs.declared.content_length.TheConstants.{BODY_LIMIT}
+use Rattle.http_payload.specs.declared.chunk_line.TheConstants.{CHUNK_LINE_LIMIT}
+use Rattle.http_payload.specs.declared.stage.TheConstants.{TRAILERS_LIMIT}
 use Rattle.httparse.specs.Grammar.{ChunkLine, IsChunkLine, print_chunk_line, chunk_size}
 
 -- A body in chunks (RFC 9112, section 7.1). A line before a chunk is one to sixteen hexadecimal digits, then blanks, then
 -- optionally a semicolon and any bytes but CR and LF, then CR LF: `ChunkLine` is what such a line says.
 
--- the most bytes of all chunks, of one line before a chunk, and of all trailer lines, their ends counted
-abbrev pub longest_body : ℕ
-longest_body = 8_388_608
-
-abbrev pub longest_line : ℕ
-longest_line = 256
-
-abbrev pub longest_trailers : ℕ
-longest_trailers = 16_384
-
 -- CR LF
-abbrev pub line_end : List ℕ
-line_end = 13 ∷ 10 ∷ []
+abbrev pub crlf : List ℕ
+crlf = 13 ∷ 10 ∷ []
 
 -- a line before a chunk, and it isn't too long
-pub record IsLine (line : ChunkLine) : Type 0 where
+pub record IsShortLine (line : ChunkLine) : Type 0 where
   pub grammar : IsChunkLine line
-  pub short : length (print_chunk_line line) ≤ longest_line
+  pub short : length (print_chunk_line line) ≤ CHUNK_LINE_LIMIT
 
 -- a chunk: the line before it, and its bytes
 pub record Chunk : Type 0 where
@@ -30,11 +23,11 @@ pub record Chunk : Type 0 where
   pub bytes : List ℕ
 
 abbrev pub chunk_text : Chunk → List ℕ
-chunk_text chunk = print_chunk_line chunk.line ++ (chunk.bytes ++ line_end)
+chunk_text chunk = print_chunk_line chunk.line ++ (chunk.bytes ++ crlf)
 
 -- A chunk has as many bytes as its line says, and it has some.
 pub record IsChunk (chunk : Chunk) : Type 0 where
-  pub line : IsLine chunk.line
+  pub line : IsShortLine chunk.line
   pub size : chunk_size chunk.line ≡ length chunk.bytes
   pub some : 0 < length chunk.bytes
 
@@ -46,48 +39,48 @@ abbrev pub chunk_bytes : List Chunk → List ℕ
 chunk_bytes chunks = flat_map (λ chunk. chunk.bytes) chunks
 
 -- any byte but CR and LF
-abbrev pub stays_in_line : ℕ → Bool
-stays_in_line b = not (b == 13 || b == 10)
+abbrev pub is_line_byte : ℕ → Bool
+is_line_byte b = not (b == 13 || b == 10)
 
-abbrev pub StayInLine : List ℕ → Type 0
-StayInLine bytes = AllByRecursion (λ b. IsTrue (stays_in_line b)) bytes
+abbrev pub AreLineBytes : List ℕ → Type 0
+AreLineBytes bytes = AllByRecursion (λ b. IsTrue (is_line_byte b)) bytes
 
 -- a trailer line without its end: it isn't empty
 abbrev pub IsTrailer : List ℕ → Type 0
-IsTrailer line = (0 < length line) × StayInLine line
+IsTrailer line = (0 < length line) × AreLineBytes line
 
 abbrev pub trailer_texts : List (List ℕ) → List ℕ
-trailer_texts lines = flat_map (λ line. line ++ line_end) lines
+trailer_texts lines = flat_map (λ line. line ++ crlf) lines
 
 -- The text is trailer lines and the empty line. Behind `used` bytes of trailer lines it isn't too long.
 pub record IsTrailers (used : ℕ) (text : List ℕ) : Type 0 where
   pub lines : List (List ℕ)
   pub each : AllByRecursion IsTrailer lines
-  pub fits : used + length (trailer_texts lines) ≤ longest_trailers
-  pub text_is : text ≡ trailer_texts lines ++ line_end
+  pub fits : used + length (trailer_texts lines) ≤ TRAILERS_LIMIT
+  pub text_is : text ≡ trailer_texts lines ++ crlf
 
--- what follows in a trailer line behind `used` bytes of trailer lines: the rest of it, its end, and the others
+-- what follows in a trailer line after `used` bytes of trailer lines: the rest of it, its end, and the others
 pub record InTrailer (used : ℕ) (text : List ℕ) : Type 0 where
   pub bytes : List ℕ
   pub rest : List ℕ
-  pub stay : StayInLine bytes
+  pub stay : AreLineBytes bytes
   pub others : IsTrailers (used + length bytes + 2) rest
-  pub text_is : text ≡ bytes ++ (line_end ++ rest)
+  pub text_is : text ≡ bytes ++ (crlf ++ rest)
 
 -- The text is the last line, whose size is 0, and the trailers.
 pub record IsLast (text : List ℕ) : Type 0 where
   pub line : ChunkLine
-  pub behind : List ℕ
-  pub is_line : IsLine line
+  pub after : List ℕ
+  pub is_line : IsShortLine line
   pub zero : chunk_size line ≡ 0
-  pub trailers : IsTrailers 0 behind
-  pub text_is : text ≡ print_chunk_line line ++ behind
+  pub trailers : IsTrailers 0 after
+  pub text_is : text ≡ print_chunk_line line ++ after
 
--- The text is a line whose size is too large behind `used` bytes of chunks.
+-- The text is a line whose size is too large after `used` bytes of chunks.
 pub record IsOverLine (used : ℕ) (text : List ℕ) : Type 0 where
   pub line : ChunkLine
-  pub is_line : IsLine line
-  pub over : longest_body < used + chunk_size line
+  pub is_line : IsShortLine line
+  pub over : BODY_LIMIT < used + chunk_size line
   pub text_is : text ≡ print_chunk_line line
 
 -- How a text ends: as a whole body that spells these bytes, or at a line whose size is too large.
@@ -95,7 +88,7 @@ pub data Ending : Type 0 where
   Whole : List ℕ → Ending
   Over : Ending
 
--- what stands behind chunks that spell these bytes
+-- what stands after chunks that spell these bytes
 abbrev pub EndsAs : List ℕ → List ℕ → Ending → Type 0
 EndsAs bytes text (Whole body) = IsLast text × (body ≡ bytes)
 EndsAs bytes text Over = IsOverLine (length bytes) text
@@ -103,16 +96,16 @@ EndsAs bytes text Over = IsOverLine (length bytes) text
 -- Behind chunks that spell the bytes before, the text is chunks and such an ending.
 pub record EndsInChunks (before text : List ℕ) (ending : Ending) : Type 0 where
   pub chunks : List Chunk
-  pub behind : List ℕ
+  pub after : List ℕ
   pub each : AllByRecursion IsChunk chunks
-  pub fits : length (before ++ chunk_bytes chunks) ≤ longest_body
-  pub ends : EndsAs (before ++ chunk_bytes chunks) behind ending
-  pub text_is : text ≡ chunk_texts chunks ++ behind
+  pub fits : length (before ++ chunk_bytes chunks) ≤ BODY_LIMIT
+  pub ends : EndsAs (before ++ chunk_bytes chunks) after ending
+  pub text_is : text ≡ chunk_texts chunks ++ after
 
--- what follows in a chunk of which `left` bytes are still to come, behind the bytes before: these, the end, and the rest
+-- what follows in a chunk of which `left` bytes are still to come, after the bytes before: these, the end, and the rest
 pub record InChunk (left : ℕ) (before text : List ℕ) (ending : Ending) : Type 0 where
   pub bytes : List ℕ
   pub rest : List ℕ
   pub size : length bytes ≡ left
   pub ends : EndsInChunks (before ++ bytes) rest ending
-  pub text_is : text ≡ bytes ++ (line_end ++ rest)
+  pub text_is : text ≡ bytes ++ (crlf ++ rest)

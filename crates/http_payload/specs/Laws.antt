@@ -1,7 +1,7 @@
 -- What holds of all texts.
 use Rattle.std.specs.Prelude.{◌≡◌, ◌≢◌, ℕ, List, [], ◌++◌}
-use Rattle.http_head.specs.declared.form.BodyForm.{BodyForm}
-use Rattle.http_payload.specs.declared.fault.PayloadFault.{PayloadFault}
+use Rattle.http_head.specs.declared.body_form.BodyForm.{BodyForm}
+use Rattle.http_payload.specs.declared.payload_fault.PayloadFault.{PayloadFault}
 use Rattle.http_payload.specs.Chunks.{Ending}
 use Rattle.http_payload.specs.Bodies.{Ends, IsBody, IsFault, IsPartial}
 
@@ -22,15 +22,15 @@ HasOneFault = (form : BodyForm) (text : List ℕ) (fault other : PayloadFault) �
 
 -- No fault stands in a text that has a body at its front.
 abbrev pub BodyHasNoFault : Type 0
-BodyHasNoFault = (form : BodyForm) (front rest body : List ℕ) (fault : PayloadFault) → IsBody form front body
-    → IsFault form (front ++ rest) fault → ⊥
+BodyHasNoFault = (form : BodyForm) (prefix rest body : List ℕ) (fault : PayloadFault) → IsBody form prefix body
+    → IsFault form (prefix ++ rest) fault → ⊥
 
 -- What is partial has no fault, and no body stands at its front.
 abbrev pub PartialHasNoFault : Type 0
 PartialHasNoFault = (form : BodyForm) (text : List ℕ) (fault : PayloadFault) → IsPartial form text → IsFault form text fault → ⊥
 
 abbrev pub PartialHasNoBody : Type 0
-PartialHasNoBody = (form : BodyForm) (front rest body : List ℕ) → IsPartial form (front ++ rest) → IsBody form front body → ⊥
+PartialHasNoBody = (form : BodyForm) (prefix rest body : List ℕ) → IsPartial form (prefix ++ rest) → IsBody form prefix body → ⊥
 
 -- Each beginning of a body is partial but the body itself, and so is each beginning of what is partial.
 abbrev pub BodyBeginsPartial : Type 0

@@ -1,6 +1,6 @@
 pub mod Bodies
 pub mod Chunks
-pub mod Held
+pub mod PayloadState
 pub mod Laws
-pub mod Lines
+pub mod ChunkLines
 pub mod Steps

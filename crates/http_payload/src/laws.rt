@@ -2,8 +2,9 @@
 
 ghost use Rattle.http_payload.specs.Laws.{HasOneEnd, FaultStays, HasOneFault, BodyHasNoFault, PartialHasNoFault, PartialHasNoBody, BodyBeginsPartial, PartialBeginsPartial};
 
-/// A text has one reading: a body at its front, or a fault, or neither of them yet, and not two of these.
-pub fn one_reading()
+/// A text has one outcome: a body as its prefix, or a fault, or it is a prefix of a body, and not two
+/// of these.
+pub fn one_outcome()
     ensures one_end { HasOneEnd }
     ensures one_fault { HasOneFault }
     ensures body { BodyHasNoFault }
@@ -16,7 +17,7 @@ pub fn fault_stays()
     ensures { FaultStays }
 {}
 
-/// What comes before a body's end, or before what is partial, is partial.
+/// Each prefix of a body but the body itself is partial, and so is each prefix of what is partial.
 pub fn partial_before()
     ensures body { BodyBeginsPartial }
     ensures partial { PartialBeginsPartial }

@@ -1,19 +1,35 @@
-//! The body of a request as its bytes come in (RFC 9112, sections 6 and 7.1): bytes of a told length, or chunks.
+//! The body of a request, fed in pieces (RFC 9112, sections 6 and 7.1): bytes of a known length, or
+//! chunks.
 //!
-//! [`Payload`] is fed the bytes in any pieces. It keeps the body, and of the line before a chunk what has come of it;
-//! all else is dropped as it is read. Contracts speak of the whole text that was fed: which texts are whole bodies,
-//! which ones are at fault, and which ones are the beginning of a body.
+//! ```ignore
+//! let mut payload = Payload::new(alloc, form);
+//! while !payload.is_done() {
+//!     let fed = payload.feed(alloc, next_piece())?;
+//! }
+//! let body = payload.body(alloc)?;
+//! ```
+//!
+//! [`Payload`] keeps the body, and of the line before a chunk what has come of it; all else is dropped
+//! once it is parsed. Proved of [`Payload::feed`], of the whole text that was fed and however it was
+//! cut: which texts are complete bodies (`whole`, `exact_whole`), which are malformed or too large
+//! (`fault`, `exact_fault`), and which are a prefix of a body (`partial`, `exact_partial`). [`laws`]
+//! says that a text is one of these, and stays complete or faulty whatever follows.
+//!
+//! It stands on `httparse` for the line before a chunk, on `http_head` for the form of a body, and on
+//! `pod_base`.
 #![tactic(auto)]
 
-mod fault;
+mod chunk_line;
+mod feed_loop;
 pub mod laws;
-mod line;
 mod payload;
-mod run;
+mod payload_fault;
 mod stage;
 
-pub use fault::PayloadFault;
+pub use chunk_line::CHUNK_LINE_LIMIT;
 pub use payload::{Fed, Payload};
+pub use payload_fault::PayloadFault;
+pub use stage::TRAILERS_LIMIT;
 
 #[cfg(test)]
 mod tests;

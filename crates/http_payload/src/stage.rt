@@ -1,17 +1,19 @@
+//! How far a body has come, and what one more byte makes of it.
+
 ghost use Rattle.std.specs.Prelude.{◌≡◌, ◌≢◌, ◌<◌, ◌≤◌, ◌+◌, ◌∷◌, [], List, ℕ, false, IsTrue, IfSome, IfNone};
-ghost use Rattle.http_payload.specs.Held.{held, TakesBytes, first_stage};
+ghost use Rattle.http_payload.specs.PayloadState.{payload_state, TakesBytes, first_stage};
 ghost use Rattle.http_payload.specs.Steps.{Never, TakesByte};
 
-use crate::fault::PayloadFault;
+use crate::payload_fault::PayloadFault;
 use http_head::BodyForm;
 
-/// The most bytes of all trailer lines, their ends counted.
-const LONGEST_TRAILERS: u64 = 16_384;
+/// The most bytes of the trailer lines of a body, their ends included.
+pub const TRAILERS_LIMIT: u64 = 16_384;
 
-/// Where in a body the bytes so far end.
+/// The position in a body after the bytes so far.
 #[derive(Clone, Copy, Debug, PartialEq, Eq)]
 pub(crate) enum Stage {
-    /// So many bytes are still to come, all of them of the body. Where none is, the body is whole.
+    /// So many bytes are still to come, all of them of the body. At 0 the body is complete.
     Rest(u64),
     /// In the line before a chunk.
     Line,
@@ -19,7 +21,7 @@ pub(crate) enum Stage {
     Chunk(u64),
     /// Behind the CR after a chunk.
     ChunkEnd,
-    /// At the beginning of a line behind the last chunk, after so many bytes of trailer lines.
+    /// At the beginning of a line after the last chunk, after so many bytes of trailer lines.
     Trailers(u64),
     /// In a trailer line, after so many bytes of trailer lines.
     Trailer(u64),
@@ -27,12 +29,12 @@ pub(crate) enum Stage {
     TrailerEnd(u64),
     /// Behind the CR of the empty line.
     LastEnd,
-    /// That fault was told.
+    /// That fault was returned.
     Failed(PayloadFault),
 }
 
 impl Stage {
-    /// Whether the body is whole.
+    /// Whether the body is complete.
     pub(crate) fn is_end(self) -> bool
         ensures yes { IsTrue result → self ≡ Stage.Rest 0 }
         ensures no { result ≡ false → self ≢ Stage.Rest 0 }
@@ -52,35 +54,37 @@ impl Stage {
     }
 }
 
-/// That stage where the byte is the one that is wanted.
-fn behind(byte: u8, wanted: u8, next: Stage) -> Option<Stage>
+/// The next stage where the byte is the wanted one.
+fn expect_byte(byte: u8, wanted: u8, next: Stage) -> Option<Stage>
     ensures some { IfSome result (λ stage. (stage ≡ next) × (byte ≡ wanted)) }
     ensures none { IfNone result (byte ≢ wanted) }
 {
     if byte == wanted { Some(next) } else { None }
 }
 
-/// The stage behind one more byte of a trailer line, after so many bytes of trailer lines. The byte isn't CR.
+/// The stage after one more byte of a trailer line, with `used` bytes of trailer lines before it. The
+/// byte isn't CR.
 fn in_trailer(used: u64, byte: u8) -> Option<Stage>
-    ensures some { IfSome result (λ next. (next ≡ Stage.Trailer (used + 1)) × (used + 3 ≤ LONGEST_TRAILERS) × (byte ≢ 10)) }
-    ensures none { IfNone result (byte ≢ 10 → LONGEST_TRAILERS < used + 3) }
+    ensures some { IfSome result (λ next. (next ≡ Stage.Trailer (used + 1)) × (used + 3 ≤ TRAILERS_LIMIT) × (byte ≢ 10)) }
+    ensures none { IfNone result (byte ≢ 10 → TRAILERS_LIMIT < used + 3) }
 {
-    if byte != b'\n' && used <= LONGEST_TRAILERS - 3 {
+    if byte != b'\n' && used <= TRAILERS_LIMIT - 3 {
         Some(Stage::Trailer(used + 1))
     } else {
         None
     }
 }
 
-/// The stage behind one more byte, where a stage takes bytes one by one; none where nothing that begins so is a body.
+/// The stage after one more byte, at a stage that takes bytes one by one; none where no body goes on
+/// with that byte.
 pub(crate) fn after_byte(stage: Stage, byte: u8) -> Option<Stage>
     requires { TakesBytes stage }
     ensures some { IfSome result (TakesByte stage byte) }
-    ensures none { IfNone result ((line body : List ℕ) → Never (held stage line body) (byte ∷ [])) }
+    ensures none { IfNone result ((line body : List ℕ) → Never (payload_state stage line body) (byte ∷ [])) }
 {
     match stage {
-        Stage::Chunk(0) => behind(byte, b'\r', Stage::ChunkEnd),
-        Stage::ChunkEnd => behind(byte, b'\n', Stage::Line),
+        Stage::Chunk(0) => expect_byte(byte, b'\r', Stage::ChunkEnd),
+        Stage::ChunkEnd => expect_byte(byte, b'\n', Stage::Line),
         Stage::Trailers(used) => {
             if byte == b'\r' {
                 Some(Stage::LastEnd)
@@ -95,8 +99,8 @@ pub(crate) fn after_byte(stage: Stage, byte: u8) -> Option<Stage>
                 in_trailer(used, byte)
             }
         }
-        Stage::TrailerEnd(used) => behind(byte, b'\n', Stage::Trailers(used + 1)),
-        Stage::LastEnd => behind(byte, b'\n', Stage::Rest(0)),
+        Stage::TrailerEnd(used) => expect_byte(byte, b'\n', Stage::Trailers(used + 1)),
+        Stage::LastEnd => expect_byte(byte, b'\n', Stage::Rest(0)),
         _ => None,
     }
 }

@@ -1,4 +1,6 @@
-use Rattle.std.specs.Prelude.{ℕ, Bool, ◌&&◌, ◌||◌, ◌==◌, nat_le, List, [], ◌∷◌, length, map, filter, reverse, Option, Some, None, IsTrue, if◌then◌else◌, codes}
+-- The type of a body.
+use Rattle.std.specs.Prelude.{ℕ, Bool, ◌&&◌, ◌||◌, ◌==◌, nat_le, List, [], ◌∷◌, length, map, filter}
+use Rattle.std.specs.Prelude.{reverse, Option, Some, None, IsTrue, if◌then◌else◌, codes}
 use Rattle.std.specs.List.{list_all, before_first}
 use Rattle.std.specs.Str.{str_eq_ignore_ascii_case}
 use Rattle.pod_base.specs.Fields.{is_named}

@@ -1,3 +1,4 @@
+//! Blanks around a field's value.
 ghost use Rattle.std.specs.Prelude.{◌≡◌, reverse};
 ghost use Rattle.pod_core.specs.Types.{is_blank, skip_blanks, trimmed};
 

@@ -1,3 +1,4 @@
+//! [`ContentType`]: the type of a body.
 ghost use Rattle.std.specs.Prelude.{◌≡◌, ◌==◌, if◌then◌else◌, length, Some, None, IfOk, IsTrue};
 ghost use Rattle.std.specs.List.{list_all, before_first};
 ghost use Rattle.http_out.specs.Text.{stays_in_line};
@@ -61,9 +62,10 @@ fn before_parameters(text: &str) -> &str
 impl ContentType {
     /// The type of a body, by the fields that came with it.
     ///
-    /// Where one Content-Type field stands, it is its value, without the spaces at both ends. Nothing is told where there
-    /// are several, and where the value isn't 1 to 256 bytes from space to `~`. Where there is none, the type is
-    /// `application/octet-stream` if the body is empty, and nothing is told else.
+    /// Where one Content-Type field stands, it is its value, without the spaces at both ends.
+    /// Nothing is told where there are several, and where the value isn't 1 to 256 bytes from space
+    /// to `~`. Where there is none, the type is `application/octet-stream` if the body is empty,
+    /// and nothing is told else.
     pub fn read(alloc: Global, fields: &Fields, body: &[u8]) -> Mem<Option<ContentType>>
         ensures { IfOk result (λ read. read ≡ types.type_of fields.now body.now) }
     {
@@ -128,7 +130,8 @@ impl ContentType {
         Ok(ContentType { text })
     }
 
-    /// Whether it is that of a graph, `text/turtle` or `application/ld+json` in any case and with any parameters.
+    /// Whether it is that of a graph, `text/turtle` or `application/ld+json` in any case and with
+    /// any parameters.
     pub fn is_graph(&self) -> bool
         ensures { result ≡ types.is_graph self.now }
     {

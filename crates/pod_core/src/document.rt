@@ -1,3 +1,4 @@
+//! [`Document`]: a document of bytes.
 use crate::content_type::ContentType;
 use pod_base::{Bytes, Moment};
 

@@ -1,3 +1,4 @@
+//! [`Entry`]: one change of a pod.
 use crate::document::Document;
 use pod_base::{Stamp, Text};
 

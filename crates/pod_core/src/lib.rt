@@ -1,4 +1,14 @@
 //! The pod, and its one reply to a request.
+//!
+//! ```text
+//! let mut pod = Pod::new(alloc, base, owner);
+//! let Replied { response, entry } = answer(alloc, &pod, &request, 0, stamp)?;
+//! if let Some(entry) = entry { pod.apply(alloc, entry)?; }
+//! ```
+//!
+//! Proved: the reply is that of the definition `reply_of`, whatever the request (`answer`, clause
+//! `reply`), and applying an entry puts its document at its path and changes nothing else
+//! (`Pod::apply`, clauses `applied`, `unchanged`).
 #![tactic(auto)]
 
 mod blanks;

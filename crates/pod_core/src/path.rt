@@ -1,3 +1,4 @@
+//! The paths of members of the root.
 ghost use Rattle.std.specs.Prelude.{◌≡◌, IfSome, is_some};
 ghost use Rattle.std.specs.List.{list_all};
 ghost use Rattle.pod_core.specs.Paths.{is_name_byte, is_name_length, is_name, is_member_path};

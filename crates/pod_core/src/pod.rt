@@ -1,3 +1,4 @@
+//! [`Pod`]: the documents of a pod.
 ghost use Rattle.std.specs.Prelude.{◌≡◌, IfOk, OnOk, OnErr};
 ghost use Rattle.std.specs.Option.{option_copied};
 ghost use Rattle.std.specs.FinMap as map;
@@ -10,7 +11,8 @@ use std::alloc::Global;
 use std::collections::BTreeMap;
 use std::marker::Model;
 
-/// A pod: its base, its owner and its documents. Contracts see the documents as a finite map from paths.
+/// A pod: its base, its owner and its documents. Contracts see the documents as a finite map from
+/// paths.
 #[derive(Drop)]
 pub struct Pod {
     base: Text,
@@ -61,12 +63,12 @@ impl Pod {
         self.rows.get(path)
     }
 
-    /// Carries out an entry. For want of memory nothing changes.
-    pub fn apply(&mut self, entry: Entry) -> Mem<()>
+    /// Applies an entry. Out of memory, nothing changes.
+    pub fn apply(&mut self, alloc: Global, entry: Entry) -> Mem<()>
         ensures applied { OnOk result (self.new ≡ apply self.old entry) }
         ensures unchanged { OnErr result (self.new ≡ self.old) }
     {
-        let path = entry.path.into_string();
+        let path = String::from_str(alloc, entry.path.as_str())?;
         self.rows.insert(path, entry.document)?;
         Ok(())
     }

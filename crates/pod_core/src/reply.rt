@@ -1,3 +1,4 @@
+//! The reply of a pod to a request.
 ghost use Rattle.std.specs.Prelude.{◌≡◌, ◌≤◌, ◌<◌, length, None, IfOk, IsTrue};
 ghost use Rattle.std.specs.List.{list_all};
 ghost use Rattle.http_out.specs.Text.{stays_in_line, AreFieldLines};
@@ -188,12 +189,14 @@ fn reply_to(alloc: Global, pod: &Pod, request: &Request, seq: u64, stamp: Stamp)
     }
 }
 
-/// The one reply of a pod to a request. Its entry, where it has one, gets that number and that stamp.
+/// The one reply of a pod to a request. Its entry, where it has one, gets that number and that
+/// stamp.
 ///
-/// The refusals, in this order: a target that is no path of this pod is 400 `path`; a method other than GET, HEAD and PUT
-/// is 501 `method`; a PUT without a type is 400 `no-type`, and one of a type of graphs is 415 `type`; a GET or HEAD
-/// of no document is 404 `missing`. Else a GET or HEAD is 200, and a PUT is 201 where there was no document, and 204
-/// where there was one. What answers a HEAD tells the length of its body in place of the bytes.
+/// The refusals, in this order: a target that is no path of this pod is 400 `path`; a method other
+/// than GET, HEAD and PUT is 501 `method`; a PUT without a type is 400 `no-type`, and one of a type
+/// of graphs is 415 `type`; a GET or HEAD of no document is 404 `missing`. Else a GET or HEAD is
+/// 200, and a PUT is 201 where there was no document, and 204 where there was one. What answers a
+/// HEAD tells the length of its body in place of the bytes.
 pub fn answer(alloc: Global, pod: &Pod, request: &Request, seq: u64, stamp: Stamp) -> Mem<Replied>
     ensures reply { IfOk result (λ r. r ≡ reply.reply_of pod.now request.now seq stamp) }
     // It has a status, and no field breaks its line, so no request can write a head of its own.

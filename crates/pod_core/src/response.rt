@@ -1,3 +1,4 @@
+//! The responses that a pod replies with.
 ghost use Rattle.std.specs.Prelude.{◌≡◌, ◌≤◌, ◌++◌, ◌∷◌, [], length, IfOk, IsTrue};
 ghost use Rattle.std.specs.List.{list_all};
 ghost use Rattle.http_out.specs.Text.{stays_in_line, AreFieldLines};
@@ -5,7 +6,7 @@ ghost use Rattle.pod_core.specs.Paths.{uri_of};
 ghost use Rattle.pod_core.specs.Reply as reply;
 
 use crate::document::Document;
-use pod_base::{Body, Bytes, Field, Fields, Mem, Method, Response, Text};
+use pod_base::{Body, Bytes, BytesBuilder, Field, Fields, Mem, Method, Response, Text};
 use std::alloc::Global;
 
 /// A field of a response.
@@ -20,9 +21,11 @@ fn field(alloc: Global, name: &str, value: Bytes) -> Mem<Field>
 fn joined(alloc: Global, front: &[u8], back: &[u8]) -> Mem<Bytes>
     ensures { IfOk result (λ bytes. bytes ≡ front.now ++ back.now) }
 {
-    let mut bytes = Bytes::of(alloc, front)?;
+    let mut bytes = BytesBuilder::new(alloc);
+    bytes.reserve(alloc, front.len())?;
+    bytes.append(alloc, front)?;
     bytes.append(alloc, back)?;
-    Ok(bytes)
+    bytes.freeze(alloc)
 }
 
 /// The URI of a path, which begins with a slash.

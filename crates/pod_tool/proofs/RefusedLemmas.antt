@@ -2,11 +2,11 @@
 use Rattle.std.proofs.Common.{ℕ, ◌<◌, ◌≤◌, Bool, true, false, if◌then◌else◌, List, [], ◌∷◌, ◌++◌, arith}
 use Rattle.std.specs.List.{AllByRecursion}
 use Rattle.http_conn.specs.Messages.{IsBadHead, too_long, too_many, malformed, host, conflict, coding, too_large, IsBad, bad_head, bad_body, IsPartial, in_head, in_body, Messages, unfinished, refused, ended, heard_of, heard_one, interim_of, waits_for, status_of}
-use Rattle.http_head.specs.Framing.{framing}
+use Rattle.http_head.specs.BodyFraming.{framing}
 use Rattle.http_payload.specs.Bodies.{IsFault}
-use Rattle.http_head.specs.declared.form.BodyForm.{BodyForm}
-use Rattle.http_payload.specs.declared.fault.PayloadFault.{PayloadFault}
-use Rattle.http_payload.specs.declared.fault.PayloadFault.TheVariants.{Malformed, TooLarge, NoMemory}
+use Rattle.http_head.specs.declared.body_form.BodyForm.{BodyForm}
+use Rattle.http_payload.specs.declared.payload_fault.PayloadFault.{PayloadFault}
+use Rattle.http_payload.specs.declared.payload_fault.PayloadFault.TheVariants.{Malformed, TooLarge, NoMemory}
 use Rattle.pod_base.specs.declared.heard.Heard.{Heard}
 use Rattle.pod_base.specs.declared.heard.Heard.TheVariants as heard
 use Rattle.pod_base.specs.declared.request.Request.{Request}

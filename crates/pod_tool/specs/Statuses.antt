@@ -1,7 +1,7 @@
 use Rattle.std.specs.Prelude.{◌≡◌, ◌⊎◌, ℕ, ◌^◌, ◌<◌, ◌≤◌, List, [], ◌++◌, length, take, Option, Some, None, codes, decimal}
 use Rattle.http_conn.specs.Messages.{Messages, FirstHeard, StaysOpen, most_requests}
 use Rattle.pod_base.specs.declared.heard.Heard.{Heard}
-use Rattle.pod_io.specs.Counts.{Rose}
+use Rattle.pod_base.specs.Counts.{CountIncreased}
 use Rattle.pod_tool.specs.Reads.{Reads, AtEnd}
 use Rattle.pod_tool.specs.Served.{IsServed, IsStopped}
 use Rattle.pod_tool.specs.Session.{requests_of, bad_status}
@@ -74,7 +74,7 @@ end_line _ = []
 
 -- the sink has the line too, or a front of it where its count rose
 abbrev pub AddsOrPart : List ℕ → Option (List ℕ) → Option (List ℕ) → ℕ → ℕ → Type 0
-AddsOrPart line old new before after = Adds line old new ⊎ (Rose before after × ((count : ℕ) × Adds (take count line) old new))
+AddsOrPart line old new before after = Adds line old new ⊎ (CountIncreased before after × ((count : ℕ) × Adds (take count line) old new))
 
 -- What the error sink has then: the line of the end, or a front of it where its count rose. A line of status 0 that fails makes
 -- the end a write fault; another that fails changes nothing.

@@ -8,7 +8,7 @@ use Rattle.pod_base.specs.declared.heard.Heard.{Heard}
 use Rattle.pod_base.specs.declared.heard.Heard.TheVariants as heard
 use Rattle.pod_core.specs.State.{apply}
 use Rattle.pod_core.specs.declared.entry.Entry.{Entry}
-use Rattle.pod_io.specs.Counts.{Rose}
+use Rattle.pod_base.specs.Counts.{CountIncreased}
 use Rattle.pod_tool.specs.Fresh.{fresh_pod, fresh_service}
 use Rattle.pod_tool.specs.Output.{output_of}
 use Rattle.pod_tool.specs.Served.{IsServed, IsStopped}
@@ -123,4 +123,4 @@ pub record TurnsIn (may_give : ℕ → Type 0) (old new : Talk) (hears : List He
 -- a count of faults never falls, and it rose where a write ended the connection
 pub record CountsWrites (result : Result (Unit {0}) PipeEnd) (old new : ℕ) : Type 0 where
   pub no_fewer : old ≤ new
-  pub failed : result ≡ Err WriteFault → Rose old new
+  pub failed : result ≡ Err WriteFault → CountIncreased old new

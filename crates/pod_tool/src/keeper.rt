@@ -43,7 +43,7 @@ fn moment_at(now: Moment, change: bool, last: Moment) -> Moment
 
 impl Keeper {
     /// Carries an entry out, where there is one. For want of memory nothing changes.
-    fn carry_out(&mut self, entry: Option<Entry>, moment: Moment) -> Mem<()>
+    fn carry_out(&mut self, alloc: Global, entry: Option<Entry>, moment: Moment) -> Mem<()>
         requires { self.old.next + 1 < 2 ^ 64 }
         ensures pod { OnOk result (self.new.pod ≡ option_map_or (apply self.old.pod) entry self.old.pod) }
         ensures next { OnOk result (self.new.next ≡ self.old.next + length (option_to_list entry)) }
@@ -53,7 +53,7 @@ impl Keeper {
         let Some(entry) = entry else {
             return Ok(());
         };
-        self.pod.apply(entry)?;
+        self.pod.apply(alloc, entry)?;
         self.next += 1;
         self.last = moment;
         Ok(())
@@ -83,7 +83,7 @@ impl Keeper {
             moment,
         };
         let Replied { response, entry } = answer(alloc, &self.pod, request, self.next, stamp)?;
-        self.carry_out(entry, moment)?;
+        self.carry_out(alloc, entry, moment)?;
         Ok(Out::new(response, moment, closes))
     }
 }

@@ -1,6 +1,6 @@
 ghost use Rattle.std.specs.Prelude.{◌≡◌, ◌≢◌, ◌≤◌, ◌⊎◌, ◌↔◌, None, IfSome, IfOk, map};
 ghost use Rattle.std.specs.String.{string_bytes};
-ghost use Rattle.pod_io.specs.Counts.{Rose};
+ghost use Rattle.pod_base.specs.Counts.{CountIncreased};
 ghost use Rattle.pod_tool.specs.Statuses.{Pipes, Tells, status_of, Untouched};
 ghost use Rattle.pod_tool.specs.Served.{IsNew};
 ghost use Rattle.pod_tool.specs.Words.{owner_of};
@@ -48,9 +48,9 @@ fn pipe<S: Source, K: Sink, E: Sink, C: Clock>(
     ensures reads { S.faults input.old ≤ S.faults input.new }
     ensures writes { K.faults output.old ≤ K.faults output.new }
     ensures tells { E.faults errors.old ≤ E.faults errors.new }
-    ensures read_fault { result ≡ PipeEnd.ReadFault → Rose (S.faults input.old) (S.faults input.new) }
+    ensures read_fault { result ≡ PipeEnd.ReadFault → CountIncreased (S.faults input.old) (S.faults input.new) }
     ensures write_fault { result ≡ PipeEnd.WriteFault
-        → Rose (K.faults output.old) (K.faults output.new) ⊎ Rose (E.faults errors.old) (E.faults errors.new) }
+        → CountIncreased (K.faults output.old) (K.faults output.new) ⊎ CountIncreased (E.faults errors.old) (E.faults errors.new) }
 {
     let end = serve(alloc, keeper, input, output, clock);
     tell(alloc, end, errors)
@@ -69,8 +69,8 @@ fn run_pipe<S: Source, K: Sink, E: Sink, C: Clock>(
     ensures runs { (end : PipeEnd) × (result.0 ≡ status_of end)
         × Pipes (C.may_give clock.now) owner.now end (S.rest input.old) (S.rest input.new) (K.taken output.old) (K.taken output.new)
         × Tells end (E.taken errors.old) (E.taken errors.new) (E.faults errors.old) (E.faults errors.new) }
-    ensures read_fault { result.0 ≡ 3 → Rose (S.faults input.old) (S.faults input.new) }
-    ensures write_fault { result.0 ≡ 4 → Rose (K.faults output.old) (K.faults output.new) ⊎ Rose (E.faults errors.old) (E.faults errors.new) }
+    ensures read_fault { result.0 ≡ 3 → CountIncreased (S.faults input.old) (S.faults input.new) }
+    ensures write_fault { result.0 ≡ 4 → CountIncreased (K.faults output.old) (K.faults output.new) ⊎ CountIncreased (E.faults errors.old) (E.faults errors.new) }
     ensures reads { S.faults input.old ≤ S.faults input.new }
     ensures writes { K.faults output.old ≤ K.faults output.new }
     ensures tells { E.faults errors.old ≤ E.faults errors.new }
@@ -107,8 +107,8 @@ pub fn run_podctl<S: Source, K: Sink, E: Sink, C: Clock>(
         × Tells end (E.taken errors.old) (E.taken errors.new) (E.faults errors.old) (E.faults errors.new)) }
 
     // A fault is answered only where a count rose.
-    ensures read_fault { result.0 ≡ 3 → Rose (S.faults input.old) (S.faults input.new) }
-    ensures write_fault { result.0 ≡ 4 → Rose (K.faults output.old) (K.faults output.new) ⊎ Rose (E.faults errors.old) (E.faults errors.new) }
+    ensures read_fault { result.0 ≡ 3 → CountIncreased (S.faults input.old) (S.faults input.new) }
+    ensures write_fault { result.0 ≡ 4 → CountIncreased (K.faults output.old) (K.faults output.new) ⊎ CountIncreased (E.faults errors.old) (E.faults errors.new) }
     ensures reads { S.faults input.old ≤ S.faults input.new }
     ensures writes { K.faults output.old ≤ K.faults output.new }
     ensures tells { E.faults errors.old ≤ E.faults errors.new }

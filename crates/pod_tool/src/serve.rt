@@ -1,5 +1,5 @@
 ghost use Rattle.std.specs.Prelude.{◌≡◌, ◌==◌, ◌≤◌, if◌then◌else◌};
-ghost use Rattle.pod_io.specs.Counts.{Rose};
+ghost use Rattle.pod_base.specs.Counts.{CountIncreased};
 ghost use Rattle.pod_tool.specs.Served.{IsNew};
 ghost use Rattle.pod_tool.specs.Statuses.{Pipes};
 
@@ -39,8 +39,8 @@ pub fn serve<S: Source, K: Sink, C: Clock>(
     ensures pipes { Pipes (C.may_give clock.now) keeper.pod.owner result (S.rest input.old) (S.rest input.new) (K.taken output.old) (K.taken output.new) }
     ensures reads { S.faults input.old ≤ S.faults input.new }
     ensures writes { K.faults output.old ≤ K.faults output.new }
-    ensures read_fault { result ≡ PipeEnd.ReadFault → Rose (S.faults input.old) (S.faults input.new) }
-    ensures write_fault { result ≡ PipeEnd.WriteFault → Rose (K.faults output.old) (K.faults output.new) }
+    ensures read_fault { result ≡ PipeEnd.ReadFault → CountIncreased (S.faults input.old) (S.faults input.new) }
+    ensures write_fault { result ≡ PipeEnd.WriteFault → CountIncreased (K.faults output.old) (K.faults output.new) }
 {
     let mut conn = Conn::new(alloc);
     let mut talk = Talk { keeper, number: 0 };

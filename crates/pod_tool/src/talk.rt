@@ -4,7 +4,8 @@ ghost use Rattle.http_conn.specs.Messages.{EndsThere, most_requests};
 ghost use Rattle.http_out.specs.Dates.{Dated};
 ghost use Rattle.http_out.specs.Text.{interim_text, stays_in_line};
 ghost use Rattle.pod_base.specs.declared.heard.Heard.TheVariants as hears;
-ghost use Rattle.pod_io.specs.Counts.{Counts, Rose};
+ghost use Rattle.pod_base.specs.Counts.{CountIncreased};
+ghost use Rattle.pod_io.specs.Counts.{Counts};
 ghost use Rattle.pod_tool.specs.Fresh.{closes_after, refusal_word};
 ghost use Rattle.pod_tool.specs.Session.{requests_of};
 ghost use Rattle.pod_tool.specs.Talks.{CountsWrites, IsOver, IsRefused, IsSound, RefusedAs, Turns, TurnsIn};
@@ -96,7 +97,7 @@ fn refuse<K: Sink, C: Clock>(alloc: Global, status: u16, output: &mut K, clock: 
     requires { (200 ≤ status) × (status < 600) }
     ensures refused { RefusedAs (C.may_give clock.now) status result (K.taken output.old) (K.taken output.new) }
     ensures no_fewer { K.faults output.old ≤ K.faults output.new }
-    ensures failed { result ≡ PipeEnd.WriteFault → Rose (K.faults output.old) (K.faults output.new) }
+    ensures failed { result ≡ PipeEnd.WriteFault → CountIncreased (K.faults output.old) (K.faults output.new) }
 {
     let Ok(out) = refusal_out(alloc, status, clock) else {
         return PipeEnd::NoMemory;

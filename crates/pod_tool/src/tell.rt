@@ -1,11 +1,11 @@
 ghost use Rattle.std.specs.Prelude.{◌≡◌, ◌≤◌, ◌⊎◌, ◌++◌, IfOk, codes, decimal};
-ghost use Rattle.pod_io.specs.Counts.{Rose};
+ghost use Rattle.pod_base.specs.Counts.{CountIncreased};
 ghost use Rattle.pod_tool.specs.Statuses.{ComesOf, Tells, end_line, status_of};
 
 use crate::status::PipeEnd;
 use crate::write::write_all;
 use itoa::Buffer;
-use pod_base::{Bytes, Mem};
+use pod_base::{Bytes, BytesBuilder, Mem};
 use pod_io::Sink;
 use std::alloc::Global;
 
@@ -13,10 +13,11 @@ use std::alloc::Global;
 fn number_line(alloc: Global, word: &[u8], number: u64) -> Mem<Bytes>
     ensures { IfOk result (λ line. line ≡ word.now ++ decimal number ++ codes "\n") }
 {
-    let mut line = Bytes::of(alloc, word)?;
+    let mut line = BytesBuilder::new(alloc);
+    line.append(alloc, word)?;
     line.append(alloc, Buffer::new().format(number).as_bytes())?;
     line.append(alloc, b"\n")?;
-    Ok(line)
+    line.freeze(alloc)
 }
 
 /// Tells that the input ended inside a message.
@@ -56,7 +57,7 @@ fn tell_done<E: Sink>(end: PipeEnd, line: &[u8], errors: &mut E) -> PipeEnd
     ensures end { (result ≡ end) ⊎ (result ≡ PipeEnd.WriteFault) }
     ensures told { Tells result (E.taken errors.old) (E.taken errors.new) (E.faults errors.old) (E.faults errors.new) }
     ensures no_fewer { E.faults errors.old ≤ E.faults errors.new }
-    ensures failed { result ≡ PipeEnd.WriteFault → Rose (E.faults errors.old) (E.faults errors.new) }
+    ensures failed { result ≡ PipeEnd.WriteFault → CountIncreased (E.faults errors.old) (E.faults errors.new) }
 {
     match write_all(errors, line) {
         Ok(()) => end,
@@ -69,7 +70,7 @@ pub fn tell<E: Sink>(alloc: Global, end: PipeEnd, errors: &mut E) -> PipeEnd
     ensures end { ComesOf end result }
     ensures told { Tells result (E.taken errors.old) (E.taken errors.new) (E.faults errors.old) (E.faults errors.new) }
     ensures no_fewer { E.faults errors.old ≤ E.faults errors.new }
-    ensures failed { result ≡ PipeEnd.WriteFault → (end ≡ PipeEnd.WriteFault) ⊎ Rose (E.faults errors.old) (E.faults errors.new) }
+    ensures failed { result ≡ PipeEnd.WriteFault → (end ≡ PipeEnd.WriteFault) ⊎ CountIncreased (E.faults errors.old) (E.faults errors.new) }
 {
     match end {
         PipeEnd::Peer => tell_done(end, b"end: peer\n", errors),

@@ -1,10 +1,10 @@
 use Rattle.std.proofs.Common.{◌≡◌, ℕ, List, length, take, sym, ap, subst, ◌∙◌}
 use Rattle.std.proofs.lemmas.List.{length-take-le}
 use Rattle.std.proofs.Math.Seq.{take-length}
-use Rattle.http_head.specs.declared.ends.HeadEnd.TheVariants.{Whole}
-use Rattle.http_head.specs.Ends.{head_end}
+use Rattle.http_head.specs.declared.head_ends.HeadEnd.TheVariants.{Whole}
+use Rattle.http_head.specs.HeadEnds.{head_end}
 use Rattle.http_conn.specs.Held.{GoesBehind}
-use Rattle.http_conn.proofs.HeadEnds.{whole_front}
+use Rattle.http_head.proofs.HeadEndLaws.{whole_prefix}
 use Rattle.http_conn.proofs.Reading.{refuses_long}
 use Rattle.http_conn.proofs.head_step.fresh_head.Goals as goal
 
@@ -14,7 +14,7 @@ whole_head-requires c =
     let bytes : List ℕ = c.args.bytes.now in
     let len : ℕ = c.in-Whole.len in
     let count : len ≡ length (take len bytes) = sym (length-take-le len bytes c.in-Whole.ensures.len.1) in
-    ap head_end c.front.ensures ∙ whole_front bytes len (sym c.in-Whole.ensures.exact) ∙ ap Whole (count ∙ ap length (sym c.front.ensures))
+    ap head_end c.front.ensures ∙ whole_prefix bytes len (sym c.in-Whole.ensures.exact) ∙ ap Whole (count ∙ ap length (sym c.front.ensures))
 
 -- it is too long
 pub returns-in_ok-next-in-TooLong-clause-goes : goal.returns-in_ok-next-in-TooLong-clause-goes

@@ -1,12 +1,12 @@
 use Rattle.std.proofs.Common.{◌≡◌, ℕ, ◌-◌, ◌≤◌, ◌++◌, List, length, take, min, refl, sym, ap, subst, ◌∙◌, arith, length-append}
 use Rattle.std.proofs.lemmas.List.{length-take-le, take-take, take_min}
-use Rattle.http_head.specs.declared.ends.HeadEnd.TheVariants.{Whole, NotYet, TooLong}
-use Rattle.http_head.specs.Ends.{head_end}
-use Rattle.http_head.specs.Search.{HasSeen}
+use Rattle.http_head.specs.declared.head_ends.HeadEnd.TheVariants.{Whole, NotYet, TooLong}
+use Rattle.http_head.specs.HeadEnds.{head_end}
+use Rattle.http_head.specs.HeadScan.{HasScanned}
 use Rattle.http_conn.specs.declared.stage.OpenHead.{OpenHead}
 use Rattle.http_conn.specs.declared.stage.Stage.TheVariants.{Head}
 use Rattle.http_conn.specs.Held.{GoesBehind}
-use Rattle.http_conn.proofs.HeadEnds.{whole_front, whole_there, ends_later, not_yet_short}
+use Rattle.http_head.proofs.HeadEndLaws.{whole_prefix, whole_within, ends_later, not_yet_short}
 use Rattle.http_conn.proofs.Reading.{refuses_long, head_waits, front_of_kept}
 use Rattle.http_conn.proofs.head_step.kept_head.Goals as goal
 
@@ -31,8 +31,8 @@ whole_head-requires c =
     let text_is : c.as_slice.result.now ≡ b ++ w = c.as_slice.ensures.value ∙ c.in_ok-extend_from_slice.ensures.items in
     let ends : head_end (b ++ w) ≡ Whole len = ap head_end (sym text_is) ∙ sym c.in-Whole.ensures.exact in
     let fr : c.front.result.now ≡ take len (b ++ w) = c.front.ensures ∙ ap (take len) (c.as_slice-in-Whole.ensures.value ∙ c.in_ok-extend_from_slice.ensures.items) in
-    let count : len ≡ length (take len (b ++ w)) = sym (length-take-le len (b ++ w) (whole_there (b ++ w) len ends)) in
-    ap head_end fr ∙ whole_front (b ++ w) len ends ∙ ap Whole (count ∙ ap length (sym fr))
+    let count : len ≡ length (take len (b ++ w)) = sym (length-take-le len (b ++ w) (whole_within (b ++ w) len ends)) in
+    ap head_end fr ∙ whole_prefix (b ++ w) len ends ∙ ap Whole (count ∙ ap length (sym fr))
 
 -- it ends behind what was kept
 pub overflow_sub-result : goal.overflow_sub-result
@@ -51,7 +51,7 @@ returns-in_ok-next-in-Whole-clause-taken c =
     let text_is : c.as_slice.result.now ≡ b ++ w = c.as_slice.ensures.value ∙ c.in_ok-extend_from_slice.ensures.items in
     let ends : head_end (b ++ w) ≡ Whole c.in-Whole.len = ap head_end (sym text_is) ∙ sym c.in-Whole.ensures.exact in
     let later = ends_later b w c.in-Whole.len c.requires.sound.0 ends in
-    let there = whole_there (b ++ w) c.in-Whole.len ends in
+    let there = whole_within (b ++ w) c.in-Whole.len ends in
     (omega (arith, later), omega (arith, later, there, length-append b w, c.up_to-window.ensures.len))
 
 pub returns-in_ok-next-in-Whole-clause-goes : goal.returns-in_ok-next-in-Whole-clause-goes
@@ -62,7 +62,7 @@ returns-in_ok-next-in-Whole-clause-goes c =
     let text_is : c.as_slice.result.now ≡ b ++ w = c.as_slice.ensures.value ∙ c.in_ok-extend_from_slice.ensures.items in
     let ends : head_end (b ++ w) ≡ Whole len = ap head_end (sym text_is) ∙ sym c.in-Whole.ensures.exact in
     let later = ends_later b w len c.requires.sound.0 ends in
-    let there = whole_there (b ++ w) len ends in
+    let there = whole_within (b ++ w) len ends in
     let fr : c.front.result.now ≡ take len (b ++ w) = c.front.ensures ∙ ap (take len) (c.as_slice-in-Whole.ensures.value ∙ c.in_ok-extend_from_slice.ensures.items) in
     let cut = front_of b c.args.bytes.now w c.saturating_sub.result len c.up_to-window.ensures.bytes c.up_to-window.ensures.len (omega (arith, later)) there in
     let kept : len - length b ≡ len - c.len-kept.result = omega arith in
@@ -96,8 +96,8 @@ returns-in-NotYet-clause-goes c =
     let told = c.args.heard.now.items in
     let text_is : c.as_slice.result.now ≡ b ++ w = c.as_slice.ensures.value ∙ c.in_ok-extend_from_slice.ensures.items in
     let ends : head_end (b ++ w) ≡ NotYet = ap head_end (sym text_is) ∙ sym c.in-NotYet.ensures.exact in
-    let seen : HasSeen c.look.new.self (b ++ w) = subst (HasSeen c.look.new.self) text_is c.in-NotYet.ensures.seen in
-    let new : OpenHead = record { bytes = c.extend_from_slice.new.self; search = c.look.new.self; count = c.args.begun.count } in
+    let seen : HasScanned c.scan.new.self (b ++ w) = subst (HasScanned c.scan.new.self) text_is c.in-NotYet.ensures.scanned in
+    let new : OpenHead = record { bytes = c.extend_from_slice.new.self; search = c.scan.new.self; count = c.args.begun.count } in
     let cut = window_of b c.args.bytes.now w c.saturating_sub.result c.up_to-window.ensures.bytes c.up_to-window.ensures.len in
     subst (λ left. GoesBehind c.args.begun.count left told (Head new) told) cut
     (head_waits c.args.begun.count (b ++ w) told new c.in_ok-extend_from_slice.ensures.items ends seen refl)

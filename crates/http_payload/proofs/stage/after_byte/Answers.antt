@@ -1,14 +1,14 @@
 use Rattle.std.proofs.Common.{◌+◌, IfSome, IfNone, subst, sym}
 use Rattle.http_payload.specs.declared.stage.Stage.TheVariants.{Line, ChunkEnd, Trailers, Trailer, TrailerEnd, LastEnd}
-use Rattle.http_payload.specs.Held.{TakesBytes}
+use Rattle.http_payload.specs.PayloadState.{TakesBytes}
 use Rattle.http_payload.specs.Steps.{TakesByte}
 use Rattle.http_payload.proofs.ByteSteps.{takes_last_cr, takes_in_line, takes_in_trailer, takes_trailer_cr, takes_chunk_lf, RefusesByte, never_trailers, never_trailer, taken_if, refused_if, taken_in}
 use Rattle.http_payload.proofs.stage.after_byte.Goals as goal
 
 pub returns-in-ChunkEnd-clause-some : goal.returns-in-ChunkEnd-clause-some
 returns-in-ChunkEnd-clause-some c =
-    subst (λ s. IfSome c.behind-in-ChunkEnd.result (TakesByte s c.args.byte)) (sym c.in-ChunkEnd.is)
-    (taken_if ChunkEnd Line c.args.byte 10 takes_chunk_lf c.behind-in-ChunkEnd.result c.behind-in-ChunkEnd.ensures.some)
+    subst (λ s. IfSome c.expect_byte-in-ChunkEnd.result (TakesByte s c.args.byte)) (sym c.in-ChunkEnd.is)
+    (taken_if ChunkEnd Line c.args.byte 10 takes_chunk_lf c.expect_byte-in-ChunkEnd.result c.expect_byte-in-ChunkEnd.ensures.some)
 
 pub returns-then-byte-eq13-clause-some : goal.returns-then-byte-eq13-clause-some
 returns-then-byte-eq13-clause-some c =

@@ -1,5 +1,0 @@
-use Rattle.std.proofs.lemmas.List.{take_rest}
-use Rattle.http_head.proofs.ends.behind.Goals as goal
-
-pub returns : goal.returns
-returns c = take_rest c.args.text.now c.args.at

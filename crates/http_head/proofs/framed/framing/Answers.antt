@@ -1,6 +1,0 @@
-use Rattle.std.proofs.Common.{rules}
-use Rattle.http_head.proofs.FramingLemmas.{chunked_row}
-use Rattle.http_head.proofs.framed.framing.Goals as goal
-
-pub returns-then-is_chunked : goal.returns-then-is_chunked
-returns-then-is_chunked c = chunked_row c.args.head.now.minor c.args.head.now.fields (search rules) (search rules) (search rules)
