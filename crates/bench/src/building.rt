@@ -23,8 +23,8 @@ fn make_triple(alloc: Global, number: usize) -> anyhow::Result<Triple>
     })
 }
 
-/// The number of a step, when all numbers below the count are gone through in another order: the count shares no factor with
-/// 7919.
+/// The number of a step, when all numbers below the count are gone through in another order: the
+/// count shares no factor with 7919.
 fn shuffled_number(step: usize, count: usize) -> usize {
     step.wrapping_mul(7919) % count.max(1)
 }
@@ -49,7 +49,8 @@ fn count_found(graph: &Graph, triples: &[Triple]) -> usize {
         .count()
 }
 
-/// Builds the graph of so many triples, looks each of them up, and prints how many it found, and the times if asked.
+/// Builds the graph of so many triples, looks each of them up, and prints how many it found, and
+/// the times if asked.
 pub fn build_graph(
     rt: &HostRuntime,
     alloc: Global,

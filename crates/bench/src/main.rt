@@ -1,6 +1,7 @@
 //! The figures of the crates below: one word a figure, as bench/README.md lists them.
 //!
-//! With no word the program runs all of them with small counts, and prints no times. With a word it prints that figure's times.
+//! With no word the program runs all of them with small counts, and prints no times. With a word it
+//! prints that figure's times.
 #![tactic(auto)]
 
 mod building;

@@ -1,4 +1,5 @@
-//! The figure `pipe`: a stream of pipelined requests of 300 bytes is served from memory, in pieces of a size.
+//! The figure `pipe`: a stream of pipelined requests of 300 bytes is served from memory, in pieces
+//! of a size.
 ghost use Rattle.std.specs.Prelude.{◌≡◌, IfOk, length};
 
 use anyhow::bail;
@@ -43,7 +44,8 @@ fn make_words(alloc: Global) -> Mem<Vec<String>> {
     Ok(words)
 }
 
-/// Serves so many requests in pieces of so many bytes, and prints the length of the responses, and the time if asked.
+/// Serves so many requests in pieces of so many bytes, and prints the length of the responses, and
+/// the time if asked.
 pub fn serve_stream(
     rt: &HostRuntime,
     alloc: Global,

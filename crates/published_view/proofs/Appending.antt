@@ -6,7 +6,7 @@ use mathlib.Core.List.{IsPrefix}
 use prog.Atomic.{either}
 use Rattle.logbook.specs.Pages.{Cell, cell, keeps, no_nib, step, Moves, Goes}
 use Rattle.published_view.specs.ListRule.{HoldsLength, AppendsItem}
-use Rattle.published_view.proofs.Prefixes.{prefix_whole}
+use Rattle.pod_base.proofs.Prefixes.{prefix_whole}
 
 module _ {E : Type 0} where
   abbrev pub shown : List E → List E

@@ -9,7 +9,8 @@ module _ {I : Type 0} where
 
   -- the item was added to all that had been seen; or the list was longer, and was seen
   abbrev pub AppendsItem : Step I → View I ℕ → ℕ → View I ℕ → Type 0
-  AppendsItem s v found w = MatchBool (found == s.old) (w.0 ≡ v.0 ++ s.ask ∷ []) (length w.0 ≡ found)
+  AppendsItem s v found w =
+      MatchBool (found == s.old) (w.0 ≡ v.0 ++ s.ask ∷ []) (length w.0 ≡ found)
 
 -- the word of a book that holds the length
 abbrev pub length_word : Book → Named

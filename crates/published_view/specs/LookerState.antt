@@ -4,8 +4,8 @@ use Rattle.atomic_table.specs.Seated.{TableId}
 use Rattle.published_view.specs.declared.fault.ViewFault.{ViewFault}
 use Rattle.published_view.specs.declared.fault.ViewFault.TheVariants.{NoMemory, NoPlace}
 
--- what it has seen of the list, what it was told of it, how many looks it made, how many were refused, the list that was
--- published when it entered last, and the table through which it reads
+-- what it has seen of the list, what it was told of it, how many looks it made, how many were
+-- refused, the list that was published when it entered last, and the table through which it reads
 pub record LookerState (I : Type 0) : Type 0 where
   pub seen : List I
   pub told : List I

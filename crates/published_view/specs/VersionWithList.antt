@@ -7,7 +7,8 @@ pub record VersionWithList (V I : Type 0) : Type 0 where
   pub version : V
   pub list : List I
 
--- what a publisher shows, the version that it would publish next, and the table through which readers read
+-- what a publisher shows, the version that it would publish next, and the table through which
+-- readers read
 pub record PublisherState (V I : Type 0) : Type 0 where
   pub version : V
   pub list : List I

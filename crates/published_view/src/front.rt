@@ -9,7 +9,8 @@ use crate::view_name::ViewName;
 use logbook::{Offer, Seen, Start, Word};
 use std::marker::{Model, PhantomData};
 
-/// A list with no item, which no view has yet. It has no bytes. Contracts see the book in which it is kept.
+/// A list with no item, which no view has yet. It has no bytes. Contracts see the book in which it
+/// is kept.
 #[derive(Drop)]
 pub struct NewList<I> {
     word: Word<I, u64, ListRule>,
@@ -68,8 +69,8 @@ pub struct LengthWord<I, N: ViewName<I>> {
     ghost word_is: { word ≡ length_word N.book },
 }
 
-/// A prefix of the one list of a view: what was published at some moment. Contracts see it as that list.
-/// It takes 8 bytes, and can be copied, stored and sent to other threads.
+/// A prefix of the one list of a view: what was published at some moment. Contracts see it as that
+/// list. It takes 8 bytes, and can be copied, stored and sent to other threads.
 #[derive(Drop)]
 pub struct Front<I, N: ViewName<I>> {
     count: u64,
@@ -107,7 +108,8 @@ impl<I, N: ViewName<I>> Front<I, N> {
         }
     }
 
-    /// Whether this front is a prefix of the other one. If not, then the other is one of this, since both are of one list.
+    /// Whether this front is a prefix of the other one. If not, then the other is one of this,
+    /// since both are of one list.
     pub fn is_prefix_of(&self, other: &Front<I, N>) -> bool
         ensures prefix { IsTrue result → IsPrefix self.now other.now }
         ensures only { IsPrefix self.now other.now → IsTrue result }
@@ -131,8 +133,8 @@ impl<I, N: ViewName<I>> Front<I, N> {
         }
     }
 
-    /// Appends an item to all that was seen, and returns whether it did. It did not where the list was longer already,
-    /// or has taken 2^64 - 1 items.
+    /// Appends an item to all that was seen, and returns whether it did. It did not where the list
+    /// was longer already, or has taken 2^64 - 1 items.
     pub(crate) fn append(&mut self, length: &LengthWord<I, N>, item: &I) -> bool
         ensures { IsTrue result → self.new ≡ self.old ++ item.now ∷ [] }
     {

@@ -5,8 +5,8 @@ use crate::view_name::ViewName;
 use crossbeam_utils::rule::{Outcome, Protocol};
 use std::collections::LinkedList;
 
-/// How many looks were made, and the list that was published at the last one. No value of it is made, so the count has
-/// no bound.
+/// How many looks were made, and the list that was published at the last one. No value of it is
+/// made, so the count has no bound.
 pub struct LookRecord<I> {
     pub count: u64,
     pub given: LinkedList<I>,

@@ -17,7 +17,8 @@ use std::alloc::AllocError;
 use std::marker::Model;
 use std::sync::Arc;
 
-/// The reading end of a view. It waits for nobody, and any number of them look beside each other and beside the publisher.
+/// The reading end of a view. It waits for nobody, and any number of them look beside each other
+/// and beside the publisher.
 #[derive(Drop)]
 pub struct Looker<V: Told, N: ViewName<V::Item>> {
     reader: Reader<VersionWithList<V, N>, LookRecord<V::Item>, LookCounter>,
@@ -32,7 +33,14 @@ impl<V: Told, N: ViewName<V::Item>> Model for Looker<V, N> {
 
     ghost Value = { LookerState V.Item };
 
-    ghost view = { λ l. record { seen = l.seen; told = l.told; looks = looks_of l.reader.place; refused = l.refused; given = given_of l.reader.place; table = l.reader.place.table_id } };
+    ghost view = { λ l. record {
+      seen = l.seen;
+      told = l.told;
+      looks = looks_of l.reader.place;
+      refused = l.refused;
+      given = given_of l.reader.place;
+      table = l.reader.place.table_id;
+    } };
 }
 
 /// What an entry returned.
@@ -51,7 +59,8 @@ fn enter<V: Told, N: ViewName<V::Item>>(
 )
     ensures looked { IfSome result.1 (λ f. looks_of result.0.place ≡ looks_of reader.place + 1) }
     ensures given { IfSome result.1 (λ f. given_of result.0.place ≡ f.front) }
-    ensures version { IfSome result.1 (λ f. IfOk f.version (λ version. V.stands (arc_value version) N.first_number f.front)) }
+    ensures version { IfSome result.1 (λ f. IfOk f.version
+        (λ version. V.stands (arc_value version) N.first_number f.front)) }
     ensures refused { IfNone result.1 (looks_of result.0.place ≡ looks_of reader.place) }
     ensures kept { IfNone result.1 (given_of result.0.place ≡ given_of reader.place) }
 {
@@ -86,11 +95,12 @@ impl<V: Told, N: ViewName<V::Item>> Looker<V, N> {
         }
     }
 
-    /// Makes one entry, and returns the version that is published then. It waits for nobody and takes no memory:
-    /// `NoMemory` says that the `Arc` has as many owners as it can count. `NoPlace` says that `left_right` refused
-    /// the entry, as it does once the view has ended.
+    /// Makes one entry, and returns the version that is published then. It waits for nobody and
+    /// takes no memory: `NoMemory` says that the `Arc` has as many owners as it can count.
+    /// `NoPlace` says that `left_right` refused the entry, as it does once the view has ended.
     pub fn look(&mut self) -> Result<Arc<V>, ViewFault>
-        ensures version { IfOk result (λ version. V.stands (arc_value version) N.first_number self.new.seen) }
+        ensures version { IfOk result
+            (λ version. V.stands (arc_value version) N.first_number self.new.seen) }
         ensures given { IfOk result (λ version. self.new.seen ≡ self.new.given) }
         ensures opening { IfOk result (λ version. IsPrefix N.opening self.new.seen) }
         ensures later { IsPrefix self.old.seen self.new.seen }
@@ -106,8 +116,9 @@ impl<V: Told, N: ViewName<V::Item>> Looker<V, N> {
         };
         let known = self.seen.longer(&self.told);
         if !known.is_prefix_of(&front) {
-            // No clause of `left_right` says that a longer list is never published before a shorter one, though it
-            // never is. What the looker knows counts as seen here, so that every list is a prefix of the next.
+            // No clause of `left_right` says that a longer list is never published before a shorter
+            // one, though it never is. What the looker knows counts as seen here, so that every
+            // list is a prefix of the next.
             self.seen = known;
             return Err(ViewFault::NoMemory);
         }

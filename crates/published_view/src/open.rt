@@ -1,7 +1,8 @@
 //! The opening of a view.
 ghost use Rattle.std.specs.Prelude.{◌≡◌, ◌≤◌, ◌<◌, None, All, IfOk, length};
 ghost use Rattle.std.specs.Arc.{arc_value};
-ghost use Rattle.published_view.specs.LookerState.{IsNewLooker, CountIncreasedByOne, OnNoPlace, NotNoPlace};
+ghost use Rattle.published_view.specs.LookerState.{IsNewLooker, CountIncreasedByOne};
+ghost use Rattle.published_view.specs.LookerState.{OnNoPlace, NotNoPlace};
 
 use crate::fault::ViewFault;
 use crate::front::NewList;
@@ -55,7 +56,8 @@ fn make_lookers<V: Told, N: ViewName<V::Item>>(
 ) -> Result<List<Looker<V, N>>, ViewFault>
     ensures readers { IfOk result (λ lookers. length lookers.items ≡ readers) }
     ensures lookers { IfOk result (λ lookers. All (IsNewLooker publisher.now.list) lookers.items) }
-    ensures table { IfOk result (λ lookers. All (λ looker. looker.table ≡ publisher.now.table) lookers.items) }
+    ensures table { IfOk result
+        (λ lookers. All (λ looker. looker.table ≡ publisher.now.table) lookers.items) }
     ensures refused { OnNoPlace result (CountIncreasedByOne places.old places.new) }
     ensures kept { NotNoPlace result (places.new ≡ places.old) }
 {

@@ -1,10 +1,12 @@
 //! The writing end of a view.
-ghost use Rattle.std.specs.Prelude.{◌≡◌, ◌<◌, ◌^◌, ◌++◌, [], ◌∷◌, IfOk, IfSome, IfNone, OnSome, OnErr, OnOk, Some, None};
+ghost use Rattle.std.specs.Prelude.{◌≡◌, ◌<◌, ◌^◌, ◌++◌, [], ◌∷◌, Some, None};
+ghost use Rattle.std.specs.Prelude.{IfOk, IfSome, IfNone, OnSome, OnErr, OnOk};
 ghost use Rattle.std.specs.Arc.{arc_value};
 ghost use Rattle.std.specs.Option.{ForSome};
 ghost use mathlib.Core.List.{IsPrefix};
 ghost use Rattle.published_view.specs.Copies.{last_of, shown_in, waiting_in};
-ghost use Rattle.published_view.specs.LookerState.{IsNewLooker, CountIncreasedByOne, OnNoPlace, NotNoPlace};
+ghost use Rattle.published_view.specs.LookerState.{IsNewLooker, CountIncreasedByOne};
+ghost use Rattle.published_view.specs.LookerState.{OnNoPlace, NotNoPlace};
 
 use crate::fault::ViewFault;
 use crate::front::{Front, LengthWord, NewList};
@@ -51,7 +53,12 @@ where
 
     ghost Value = { PublisherState V V.Item };
 
-    ghost view = { λ p. record { version = (shown_in p.copies).version; list = (shown_in p.copies).list; next = option_map arc_value p.next; table = p.copies.desk.place.table_id } };
+    ghost view = { λ p. record {
+      version = (shown_in p.copies).version;
+      list = (shown_in p.copies).list;
+      next = option_map arc_value p.next;
+      table = p.copies.desk.place.table_id;
+    } };
 
     ghost invariant = { λ p. waiting_in p.copies ≡ [] };
 }
@@ -124,13 +131,15 @@ impl<V: Told, N: ViewName<V::Item>> Publisher<V, N> {
         front
     }
 
-    /// Publishes the version that was prepared since the last publication, of the published list with this item after
-    /// it. Where none was, version and list stay. It keeps nothing of the item.
+    /// Publishes the version that was prepared since the last publication, of the published list
+    /// with this item after it. Where none was, version and list stay. It keeps nothing of the
+    /// item.
     ///
-    /// It waits for the readers of the copy that it changes. Where it finds no memory it tries again; a list to which
-    /// 2^64 - 1 items were added takes no more, and it then waits for ever.
+    /// It waits for the readers of the copy that it changes. Where it finds no memory it tries
+    /// again; a list to which 2^64 - 1 items were added takes no more, and it then waits for ever.
     pub fn publish<R: Wait>(&mut self, rt: &R, item: &V::Item)
-        requires { ForSome self.old.next (λ next. V.stands next N.first_number (self.old.list ++ item.now ∷ [])) }
+        requires { ForSome self.old.next
+            (λ next. V.stands next N.first_number (self.old.list ++ item.now ∷ [])) }
         ensures version { IfSome self.old.next (λ next. self.new.version ≡ next) }
         ensures list { OnSome self.old.next (self.new.list ≡ self.old.list ++ item.now ∷ []) }
         ensures version_stays { IfNone self.old.next (self.new.version ≡ self.old.version) }
@@ -145,8 +154,8 @@ impl<V: Told, N: ViewName<V::Item>> Publisher<V, N> {
         publish_appended(rt, &mut self.copies);
     }
 
-    /// Ends the view, and gives the version that was published last. It waits for the readers; looks that come later
-    /// answer `NoPlace`.
+    /// Ends the view, and gives the version that was published last. It waits for the readers;
+    /// looks that come later answer `NoPlace`.
     pub fn close<R: Wait>(self, rt: &R) -> Arc<V>
         ensures { arc_value result ≡ self.version }
     {
@@ -217,7 +226,8 @@ fn try_publish<V: Told, N: ViewName<V::Item>, R: Wait>(
     rt: &R,
     copies: Copies<V, N>,
 ) -> (Copies<V, N>, Result<(), AllocError>)
-    ensures shown { OnOk result.1 (shown_in result.0 ≡ last_of (shown_in copies) (waiting_in copies)) }
+    ensures shown { OnOk result.1
+        (shown_in result.0 ≡ last_of (shown_in copies) (waiting_in copies)) }
     ensures none_waits { OnOk result.1 (waiting_in result.0 ≡ []) }
     ensures stays { OnErr result.1 (shown_in result.0 ≡ shown_in copies) }
     ensures waits { OnErr result.1 (waiting_in result.0 ≡ waiting_in copies) }

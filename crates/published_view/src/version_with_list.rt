@@ -25,9 +25,9 @@ impl<V: Told, N: ViewName<V::Item>> Model for VersionWithList<V, N> {
     ghost invariant = { λ e. V.stands (arc_value e.version) N.first_number e.front };
 }
 
-/// What `left_right` keeps in two copies, each of which takes the place of the one before. [`VersionWithList`] is the only
-/// one. A struct that holds a publisher repeats the bound `VersionWithList<V, N>: KeptTwice`, by which its contracts see what
-/// is published.
+/// What `left_right` keeps in two copies, each of which takes the place of the one before.
+/// [`VersionWithList`] is the only one. A struct that holds a publisher repeats the bound
+/// `VersionWithList<V, N>: KeptTwice`, by which its contracts see what is published.
 pub trait KeptTwice: Absorb<Self, State = Self> + Drop {}
 
 impl<V: Told, N: ViewName<V::Item>> KeptTwice for VersionWithList<V, N> {}

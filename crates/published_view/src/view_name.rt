@@ -4,10 +4,12 @@ ghost use Rattle.logbook.specs.Pages.{Book};
 
 use std::marker::Brand;
 
-/// Which view it is. No value has this type: the types of one view share it, so that their contracts speak of one list.
+/// Which view it is. No value has this type: the types of one view share it, so that their
+/// contracts speak of one list.
 ///
-/// A version that stands for its list by what it was opened with, as a store by its snapshot, is generic in a parameter under a
-/// trait of its own that names this, and the same type names the view.
+/// A version that stands for its list by what it was opened with, as a store by its snapshot, is
+/// generic in a parameter under a trait of its own that names this, and the same type names the
+/// view.
 pub trait ViewName<I> {
     /// The book in which the list is kept.
     ghost book: { Book };

@@ -1,7 +1,8 @@
 //! Desks that are served beside each other.
 ghost use Rattle.std.specs.Prelude.{◌≡◌, ◌+◌, All, List, ℕ, length, sum_by};
 ghost use Rattle.std.specs.Thread.{IsSync};
-ghost use Rattle.view_trial.specs.Desks.{EachTo, Served};
+ghost use Rattle.pod_base.specs.EachTo.{EachTo};
+ghost use Rattle.view_trial.specs.Desks.{Served};
 
 use crate::live::Rounds;
 use crate::session::Session;

@@ -4,7 +4,8 @@ ghost use mathlib.Core.List.{IsPrefix};
 ghost use Rattle.published_view.specs.LookerState.{CountIncreasedByOne, IsNewLooker, OnNoPlace};
 ghost use Rattle.view_trial.specs.Book.{IsBookOf};
 ghost use Rattle.view_trial.specs.Visit.{Decided, Changed, IsNewVisit};
-ghost use Rattle.view_trial.specs.Desks.{EachTo, Meets};
+ghost use Rattle.pod_base.specs.EachTo.{EachTo};
+ghost use Rattle.view_trial.specs.Desks.{Meets};
 
 use crate::desk::Desk;
 use crate::keeper::Keeper;

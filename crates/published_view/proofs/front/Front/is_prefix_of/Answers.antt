@@ -1,6 +1,6 @@
 use Rattle.std.proofs.Common.{ap, refl, subst, List}
 use mathlib.Core.List.{IsPrefix}
-use Rattle.published_view.proofs.Prefixes.{prefix_tested, test_of_prefix, prefix_otherwise}
+use Rattle.published_view.proofs.FrontTests.{prefix_tested, test_of_prefix, prefix_otherwise}
 use Rattle.published_view.proofs.front.Front.is_prefix_of.Goals as goal
 
 pub returns-clause-prefix : goal.returns-clause-prefix

@@ -1,6 +1,6 @@
 use Rattle.std.proofs.Common.{refl, subst}
 use mathlib.Core.List.{IsPrefix}
-use Rattle.published_view.proofs.Prefixes.{prefix_trans}
+use Rattle.pod_base.proofs.Prefixes.{prefix_trans}
 use Rattle.published_view.specs.LookerState.{LookerState}
 use Rattle.published_view.proofs.looker.Looker.look.Goals as goal
 

@@ -1,7 +1,7 @@
 use Rattle.std.proofs.Common.{◌≡◌, ◌+◌, List, ℕ, ap, arith, length, subst, sym}
 use mathlib.Core.List.{IsPrefix}
 use Rattle.view_trial.specs.declared.desk.Desk.{Desk}
-use Rattle.view_trial.specs.Desks.{EachTo}
+use Rattle.pod_base.specs.EachTo.{EachTo}
 use Rattle.view_trial.proofs.DeskLemmas.{MetAt}
 use Rattle.view_trial.proofs.live.Live+N.close.Goals as goal
 
