@@ -91,8 +91,8 @@ pass_line_feed bytes at n there whole few rest none =
     let here : line_end_after_lf (b ∷ drop (i + 1) bytes) ≡ 0 = ap line_end_after_lf (sym cons) ∙ none in (
       omega (arith, room),
       whole
-      ∙ ap (option_map (λ m. m + at)) (rest ∙ ap (λ r. option_map (λ m. m + n) (head_length r)) (drop-drop n at bytes))
-      ∙ twice_more at n (head_length (drop i bytes))
-      ∙ ap (λ r. option_map (λ m. m + i) (head_length r)) cons
-      ∙ no_end_here b (drop (i + 1) bytes) i here,
+          ∙ ap (option_map (λ m. m + at)) (rest ∙ ap (λ r. option_map (λ m. m + n) (head_length r)) (drop-drop n at bytes))
+          ∙ twice_more at n (head_length (drop i bytes))
+          ∙ ap (λ r. option_map (λ m. m + i) (head_length r)) cons
+          ∙ no_end_here b (drop (i + 1) bytes) i here,
     )

@@ -1,4 +1,6 @@
-use Rattle.std.specs.Prelude.{ℕ, Bool, ◌&&◌, ◌||◌, ◌==◌, not, if◌then◌else◌, nat_lt, List, [], ◌∷◌, map, Result, Ok, Err, codes}
+-- How the body after a head is framed (RFC 9112, section 6.3).
+use Rattle.std.specs.Prelude.{ℕ, Bool, ◌&&◌, ◌||◌, ◌==◌, not, if◌then◌else◌, nat_lt, List, [], ◌∷◌}
+use Rattle.std.specs.Prelude.{map, Result, Ok, Err, codes}
 use Rattle.std.specs.List.{list_all, join_with_byte}
 use Rattle.std.specs.Str.{str_eq_ignore_ascii_case}
 use Rattle.pod_base.specs.declared.field.Field.{Field}
@@ -8,9 +10,8 @@ use Rattle.http_head.specs.declared.content_length.TheConstants.{BODY_LIMIT}
 use Rattle.http_head.specs.declared.body_form.BodyForm.{BodyForm}
 use Rattle.http_head.specs.declared.body_form.BodyForm.TheVariants.{Empty, Length, Chunked}
 use Rattle.http_head.specs.declared.body_framing.FramingFault.{FramingFault}
-use Rattle.http_head.specs.declared.body_framing.FramingFault.TheVariants.{Conflict, TooLarge, Coding}
-
--- How the body behind a head is framed (RFC 9112, section 6.3).
+use Rattle.http_head.specs.declared.body_framing.FramingFault.TheVariants.{Conflict, TooLarge}
+use Rattle.http_head.specs.declared.body_framing.FramingFault.TheVariants.{Coding}
 
 abbrev pub lengths : List Field → List Field
 lengths fields = fields_named (codes "content-length") fields
@@ -39,7 +40,8 @@ lengths_differ fields = not (list_all (λ field. number field == first_length fi
 
 -- the values, joined by commas, are `chunked` in some case
 abbrev pub is_chunked : List Field → Bool
-is_chunked fields = str_eq_ignore_ascii_case (join_with_byte 44 (map (λ f. f.value) fields)) (codes "chunked")
+is_chunked fields = str_eq_ignore_ascii_case (join_with_byte 44 (map
+    (λ f. f.value) fields)) (codes "chunked")
 
 -- the fields contradict each other or the version, or a length is no number
 abbrev pub conflicts : ℕ → List Field → Bool

@@ -13,8 +13,8 @@ may_have_content Empty = false
 may_have_content (Length n) = nat_lt 0 n
 may_have_content Chunked = true
 
--- The client waits before it sends the body: the value of some Expect field is `100-continue`, in any
--- case. A client of a version before 1.1 can't wait, and neither can one that sends no body.
+-- The client waits before it sends the body: the value of some Expect field is `100-continue`, in
+-- any case. A client of a version before 1.1 can't wait, and neither can one that sends no body.
 abbrev pub expects_continue : ℕ → List Field → BodyForm → Bool
 expects_continue minor fields form =
     (minor == 1 && may_have_content form)

@@ -1,3 +1,4 @@
+-- The fields of a head by their names.
 use Rattle.std.specs.Prelude.{ℕ, Bool, List, filter}
 use Rattle.std.specs.List.{list_any}
 use Rattle.pod_base.specs.Fields.{is_named}

@@ -16,4 +16,5 @@ has_close_option value =
 -- version is 1.0.
 abbrev pub closes : ℕ → List Field → Bool
 closes minor fields =
-    minor == 0 || list_any (λ f. has_close_option f.value) (fields_named (codes "connection") fields)
+    minor == 0 || list_any
+    (λ f. has_close_option f.value) (fields_named (codes "connection") fields)

@@ -1,4 +1,6 @@
-/// How the body behind a head is framed (RFC 9112, section 6.3).
+//! The form of a body.
+
+/// How the body after a head is framed (RFC 9112, section 6.3).
 #[derive(Clone, Copy, Debug, PartialEq, Eq)]
 pub enum BodyForm {
     /// There is no body.

@@ -1,3 +1,5 @@
+//! How the body after a head is framed (RFC 9112, section 6.3).
+
 ghost use Rattle.std.specs.Prelude.{◌≡◌, ◌&&◌, ◌||◌, ◌==◌, not, true, false, map, find, codes};
 ghost use Rattle.std.specs.List.{list_all, list_any};
 ghost use Rattle.std.specs.Str.{bytes_eq, str_eq_ignore_ascii_case};
@@ -11,16 +13,16 @@ use crate::request_head::RequestHead;
 use pod_base::Fields;
 use thiserror::Error;
 
-/// Why the body behind a head can't be read.
+/// Why the body after a head can't be read.
 #[derive(Clone, Copy, Debug, PartialEq, Eq, Error)]
 pub enum FramingFault {
     /// The fields contradict each other, or a length is no number.
     #[error("fields contradict each other")]
     Conflict,
-    /// The body has more than 8,388,608 bytes.
+    /// The body has more than [`BODY_LIMIT`](crate::BODY_LIMIT) bytes.
     #[error("too large a body")]
     TooLarge,
-    /// The body is coded in another way than in chunks.
+    /// The body has another transfer coding than `chunked`.
     #[error("unknown transfer coding")]
     Coding,
 }
@@ -50,7 +52,8 @@ fn are_numbers(fields: &Fields) -> bool
 
 /// Whether each Content-Length is that number.
 fn are_all_equal_to(fields: &Fields, number: &[u8]) -> bool
-    ensures { result ≡ list_all (λ f. bytes_eq (significant f.value) (significant number.now)) (spec.lengths fields.now) }
+    ensures { result ≡ list_all
+        (λ f. bytes_eq (significant f.value) (significant number.now)) (spec.lengths fields.now) }
 {
     fields
         .list
@@ -62,7 +65,8 @@ fn are_all_equal_to(fields: &Fields, number: &[u8]) -> bool
 
 /// Whether two of the Content-Lengths are different numbers.
 fn lengths_differ(fields: &Fields) -> bool
-    ensures { list_all (λ f. is_number f.value) (spec.lengths fields.now) ≡ true → result ≡ spec.lengths_differ (spec.lengths fields.now) }
+    ensures { list_all (λ f. is_number f.value) (spec.lengths fields.now) ≡ true
+        → result ≡ spec.lengths_differ (spec.lengths fields.now) }
 {
     match fields.first("content-length") {
         Some(first) => !are_all_equal_to(fields, first.as_slice()),
@@ -82,7 +86,8 @@ fn conflicts(minor: u8, fields: &Fields) -> bool
 
 /// Whether each Transfer-Encoding is `chunked`, in some case.
 fn are_chunked(fields: &Fields) -> bool
-    ensures { result ≡ list_all (λ f. str_eq_ignore_ascii_case f.value (codes "chunked")) (spec.codings fields.now) }
+    ensures { result ≡ list_all
+        (λ f. str_eq_ignore_ascii_case f.value (codes "chunked")) (spec.codings fields.now) }
 {
     fields
         .list
@@ -105,18 +110,21 @@ fn length_form(fields: &Fields) -> Result<BodyForm, FramingFault>
 {
     match fields.first("content-length") {
         None => Ok(BodyForm::Empty),
-        Some(first_length) => match body_length(first_length.as_slice()) {
+        Some(first) => match body_length(first.as_slice()) {
             Some(length) => Ok(BodyForm::Length(length)),
             None => Err(FramingFault::TooLarge),
         },
     }
 }
 
-/// How the body behind a head is framed (RFC 9112, section 6.3). It takes no memory.
+/// How the body after a head is framed (RFC 9112, section 6.3). It takes no memory.
 ///
-/// `Conflict` comes first: Content-Length beside Transfer-Encoding, Transfer-Encoding in version 1.0, a Content-Length
-/// that isn't digits alone, and Content-Lengths that are different numbers. Then comes `Coding`: Transfer-Encoding whose
-/// values, joined by commas, are other than `chunked` in any case. Then comes `TooLarge`: a length over 8,388,608.
+/// # Errors
+///
+/// The first of these: `Conflict` for Content-Length beside Transfer-Encoding, Transfer-Encoding in
+/// version 1.0, a Content-Length that isn't digits alone, and Content-Lengths that are different
+/// numbers; `Coding` for Transfer-Encoding whose values, joined by commas, are other than `chunked`
+/// in any case; `TooLarge` for a length over [`BODY_LIMIT`](crate::BODY_LIMIT).
 pub fn framing(head: &RequestHead) -> Result<BodyForm, FramingFault>
     ensures { result ≡ spec.framing head.now.minor head.now.fields }
 {

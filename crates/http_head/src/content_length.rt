@@ -1,10 +1,12 @@
+//! The values of Content-Length: numbers of any size in decimal digits.
+
 ghost use Rattle.std.specs.Prelude.{◌≡◌, Some, None, if◌then◌else◌, nat_le};
 ghost use Rattle.std.specs.List.{list_all};
 ghost use Rattle.std.specs.Char.{is_ascii_digit};
 ghost use Rattle.std.specs.Str.{bytes_eq};
 ghost use Rattle.http_head.specs.Decimals.{is_number, number_of, significant};
 
-/// The most bytes that a body may have.
+/// The most bytes of a body.
 pub const BODY_LIMIT: u64 = 8_388_608;
 
 /// Whether these are digits alone.
@@ -14,7 +16,7 @@ fn are_digits(value: &[u8]) -> bool
     value.iter().all(|byte| byte.is_ascii_digit())
 }
 
-/// Whether these are digits alone, at least one.
+/// Whether these are one digit or more and nothing else.
 pub fn is_number(value: &[u8]) -> bool
     ensures { result ≡ is_number value.now }
 {
@@ -40,9 +42,10 @@ pub fn is_same_number(digits: &[u8], others: &[u8]) -> bool
     significant(digits) == significant(others)
 }
 
-/// The number that these digits write, where a body may have as many bytes.
+/// The number that these digits write, up to [`BODY_LIMIT`].
 pub fn body_length(digits: &[u8]) -> Option<u64>
-    ensures { result ≡ (if nat_le (number_of digits.now) BODY_LIMIT then Some (number_of digits.now) else None) }
+    ensures { result ≡ (if nat_le (number_of digits.now) BODY_LIMIT
+        then Some (number_of digits.now) else None) }
 {
     let mut number = 0;
     for digit in digits {

@@ -35,8 +35,9 @@ fn asks_for_continue(fields: &Fields) -> bool
 
 /// Whether the client waits for `100 Continue` before it sends the body (RFC 9110, section 10.1.1).
 ///
-/// It does where the value of some Expect field is `100-continue`, in any case. A client of a version
-/// before 1.1 can't wait, and neither can one that sends no body. Other values of Expect are ignored.
+/// It does where the value of some Expect field is `100-continue`, in any case. A client of a
+/// version before 1.1 can't wait, and neither can one that sends no body. Other values of Expect
+/// are ignored.
 pub fn expects_continue(minor: u8, fields: &Fields, form: BodyForm) -> bool
     ensures { result ≡ spec.expects_continue minor fields.now form }
 {

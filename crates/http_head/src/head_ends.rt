@@ -1,6 +1,7 @@
 //! Where the head of a request ends (RFC 9112, sections 2.1 and 2.2).
 
-ghost use Rattle.std.specs.Prelude.{◌≡◌, ◌+◌, ◌-◌, ◌<◌, ◌≤◌, length, take, drop, None, IfSome, IfNone};
+ghost use Rattle.std.specs.Prelude.{◌≡◌, ◌+◌, ◌-◌, ◌<◌, ◌≤◌, length, take, drop, None, IfSome};
+ghost use Rattle.std.specs.Prelude.{IfNone};
 ghost use Rattle.std.specs.Option.{option_map};
 ghost use Rattle.http_head.specs.HeadEnds.{WholeWithin};
 ghost use Rattle.http_head.specs.HeadEnds as ends;

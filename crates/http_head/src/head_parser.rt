@@ -1,9 +1,11 @@
 //! The parts of a complete head (RFC 9112, sections 3 and 5).
 
-ghost use Rattle.std.specs.Prelude.{◌≡◌, ◌≤◌, ◌==◌, ◌&&◌, not, ℕ, length, map, All, IfOk, IfSome, IfNone, IsErrOf, IsAscii, codes};
+ghost use Rattle.std.specs.Prelude.{◌≡◌, ◌≤◌, ◌==◌, ◌&&◌, not, ℕ, length, map, All, IfOk, IfSome};
+ghost use Rattle.std.specs.Prelude.{IfNone, IsErrOf, IsAscii, codes};
 ghost use Rattle.std.specs.Str.{str_to_ascii_lowercase, str_eq_ignore_ascii_case};
 ghost use Rattle.httparse.specs.Grammar as grammar;
-ghost use Rattle.httparse.specs.Spans.{IsRequestAt, IsRequestWithin, IsHeaderWithin, IsWithin, span_bytes, header_bytes};
+ghost use Rattle.httparse.specs.Spans.{IsRequestAt, IsRequestWithin, IsHeaderWithin, IsWithin};
+ghost use Rattle.httparse.specs.Spans.{span_bytes, header_bytes};
 ghost use Rattle.http_head.specs.declared.head_ends.HeadEnd.TheVariants as end;
 ghost use Rattle.http_head.specs.HeadEnds.{head_end};
 ghost use Rattle.http_head.specs.Heads as heads;
@@ -31,10 +33,11 @@ fn line_count(head: &[u8]) -> usize
     memchr_iter(b'\n', lines).count()
 }
 
-/// Where the parts of a head are, if the head is one.
+/// The spans of a head's parts, where it is one.
 fn spans_of(head: &[u8], spans: &mut [HeaderSpan; FIELD_LIMIT]) -> Option<RequestSpans>
     ensures within { IfSome result (IsRequestWithin head.now spans.new) }
-    ensures found { IfSome result (λ r. (h : grammar.RequestHead) × heads.HasParts head.now h × IsRequestAt head.now spans.new r h) }
+    ensures found { IfSome result (λ r. (h : grammar.RequestHead) × heads.HasParts head.now h
+        × IsRequestAt head.now spans.new r h) }
     ensures none { IfNone result ((h : grammar.RequestHead) → heads.HasParts head.now h → ⊥) }
 {
     match parse_request(head, spans) {
@@ -143,7 +146,8 @@ fn head_of(
     requires path { IsWithin (length bytes.now) found.now.path }
     requires lines { All (IsHeaderWithin (length bytes.now)) lines.now }
     requires ascii { All (λ s. IsAscii (span_bytes bytes.now s.name)) lines.now }
-    ensures { IfOk result (λ parsed. parsed ≡ heads.head_with (span_bytes bytes.now found.now.method)
+    ensures { IfOk result (λ parsed. parsed
+        ≡ heads.head_with (span_bytes bytes.now found.now.method)
         (span_bytes bytes.now found.now.path) found.now.version
         (map (header_bytes bytes.now) lines.now)) }
 {
@@ -170,8 +174,8 @@ fn lacks_host(minor: u8, hosts: usize) -> bool
 /// and 5).
 ///
 /// It copies the head once, into one block: the target and the values of fields are parts of that
-/// block, and each keeps it alive. Names are texts of their own. So the number of allocations goes by
-/// the number of fields, and not by the bytes of their values.
+/// block, and each keeps it alive. Names are texts of their own. So the number of allocations goes
+/// by the number of fields, and not by the bytes of their values.
 ///
 /// # Errors
 ///

@@ -1,12 +1,15 @@
+//! [`HeadSearch`]: the end of a head in a text that comes in pieces.
+
 ghost use Rattle.std.specs.Prelude.{◌≡◌, ◌<◌, ◌≤◌, true, false, length, List, ℕ, [], None, IfSome};
 ghost use Rattle.http_head.specs.HeadEnds.{WholeWithin, length_in, head_end};
-ghost use Rattle.http_head.specs.HeadScan.{scan_state, begins_line, Passed, HasScanned, ScannedPrefixOf};
+ghost use Rattle.http_head.specs.HeadScan.{scan_state, begins_line, Passed, HasScanned};
+ghost use Rattle.http_head.specs.HeadScan.{ScannedPrefixOf};
 
 use crate::head_ends::{HEAD_LIMIT, HeadEnd, blank_length, head_length, prefix_of, suffix_from};
 use std::marker::Model;
 
-/// A search for the end of a head in a text that grows. It remembers how far it looked, so that all its looks
-/// together pass each byte about once, however small the pieces are in which the text comes.
+/// A search for the end of a head in a text that grows. It keeps how far it has scanned, so that
+/// all its scans together pass each byte about once, however small the pieces are.
 #[derive(Debug, Drop)]
 pub struct HeadSearch {
     at: usize,
@@ -21,7 +24,8 @@ impl Model for HeadSearch {
     ghost view = { λ s. scan_state s.at s.begun };
 }
 
-/// Passes empty lines of the window: how many bytes are passed then, and whether the request line begins.
+/// Passes the empty lines of the window: how many bytes are passed then, and whether the request
+/// line begins.
 fn skip_blank_lines(at: usize, window: &[u8]) -> (usize, bool)
     requires { Passed (scan_state at false) window.now }
     ensures passed { Passed (scan_state result.0 result.1) window.now }
@@ -33,7 +37,7 @@ fn skip_blank_lines(at: usize, window: &[u8]) -> (usize, bool)
     (at + blank, begun)
 }
 
-/// Whether bytes that begin with no empty line begin a line that has bytes, however they go on.
+/// Whether bytes that begin with no empty line begin a line with bytes, whatever follows.
 fn begins_line(bytes: &[u8]) -> bool
     ensures { result ≡ begins_line bytes.now }
 {
@@ -44,8 +48,8 @@ fn begins_line(bytes: &[u8]) -> bool
     }
 }
 
-/// Passes the bytes of the window behind which a head's end may still come: how many bytes are passed then, and how
-/// long the head is.
+/// Passes the bytes of the window that no head's end can include any more: how many bytes are passed
+/// then, and how long the head is.
 fn skip_header_lines(at: usize, window: &[u8]) -> (usize, Option<usize>)
     requires { Passed (scan_state at true) window.now }
     ensures passed { Passed (scan_state result.0 true) window.now }
@@ -60,7 +64,7 @@ fn skip_header_lines(at: usize, window: &[u8]) -> (usize, Option<usize>)
 }
 
 impl HeadSearch {
-    /// A search that has seen nothing.
+    /// A search that has scanned nothing.
     pub fn new() -> HeadSearch
         ensures { HasScanned result [] }
     {
@@ -70,8 +74,8 @@ impl HeadSearch {
         }
     }
 
-    /// Where the head ends with which the text begins: the answer of [`head_end`](crate::head_end). The search may
-    /// have seen any beginning of the text before, and no other bytes.
+    /// Where the head at the start of the text ends, the same as [`head_end`](crate::head_end). The
+    /// search may have scanned any prefix of the text before, and no other bytes.
     pub fn scan(&mut self, text: &[u8]) -> HeadEnd
         requires { ScannedPrefixOf self.old text.now }
         ensures len { WholeWithin result (length text.now) }

@@ -8,11 +8,11 @@
 //! }
 //! ```
 //!
-//! Proved: [`head_end`] is the definition's end of each text, and a [`HeadSearch`] that is shown the
-//! text in any pieces finds the same (`exact`). [`read_head`] gives the parts of the grammar (`ok`)
-//! or the one fault of the head (`too_many`, `malformed`, `host`). [`framing`], [`closes`] and
-//! [`expects_continue`] are total functions of the minor version and the fields. [`laws`] says that a
-//! complete head stays complete, and that a text has one head or one fault.
+//! Proved: [`head_end`] is the definition's end of each text, and a [`HeadSearch`] that is shown
+//! the text in any pieces finds the same (`exact`). [`read_head`] gives the parts of the grammar
+//! (`ok`) or the one fault of the head (`too_many`, `malformed`, `host`). [`framing`], [`closes`]
+//! and [`expects_continue`] are total functions of the minor version and the fields. [`laws`] says
+//! that a complete head stays complete, and that a text has one head or one fault.
 //!
 //! It stands on `httparse`, whose grammar of RFC 9112 the contracts cite, and on `pod_base`.
 #![tactic(auto)]
@@ -37,6 +37,3 @@ pub use head_parser::{FIELD_LIMIT, HEAD_LINE_LIMIT, read_head};
 pub use head_scan::HeadSearch;
 pub use persistence::closes;
 pub use request_head::{HeadFault, RequestHead};
-
-#[cfg(test)]
-mod tests;

@@ -1,11 +1,16 @@
+//! A parsed head, and why there is none.
+
 use pod_base::{Bytes, Fields, Method};
 use thiserror::Error;
 
-/// What the head of a request says (RFC 9112, sections 3 and 5).
+/// The head of a request (RFC 9112, sections 3 and 5).
+///
+/// The target and the values of fields are parts of one block, a copy of the head's bytes, and each
+/// keeps that block alive. What outlives the request is copied out of it.
 #[derive(Debug, Drop)]
 pub struct RequestHead {
     pub method: Method,
-    /// The target as it stands in the request line.
+    /// The target of the request line, as it was sent.
     pub target: Bytes,
     /// The minor version of HTTP/1.
     pub minor: u8,
@@ -13,19 +18,19 @@ pub struct RequestHead {
     pub fields: Fields,
 }
 
-/// Why a head is no head of a request.
+/// Why a complete head is refused.
 #[derive(Clone, Copy, Debug, PartialEq, Eq, Error)]
 pub enum HeadFault {
-    /// It is no head by the grammar, or has more than 64 fields.
+    /// It is no head by the grammar, or has more than [`FIELD_LIMIT`](crate::FIELD_LIMIT) fields.
     #[error("malformed head")]
     Malformed,
-    /// It has more than 66 lines.
+    /// It has more than [`HEAD_LINE_LIMIT`](crate::HEAD_LINE_LIMIT) lines.
     #[error("too many lines in a head")]
     TooMany,
-    /// It is of HTTP/1.1 and has no Host, or several.
+    /// It is of HTTP/1.1 and hasn't exactly one Host.
     #[error("no one host")]
     Host,
-    /// No memory was left for it.
+    /// Out of memory.
     #[error("out of memory")]
     NoMemory,
 }

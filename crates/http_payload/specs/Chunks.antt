@@ -1,12 +1,13 @@
-use Rattle.std.specs.Prelude.{ℕ, ◌≡◌, ◌+◌, ◌<◌, ◌≤◌, ◌==◌, ◌||◌, not, Bool, IsTrue, List, [], ◌∷◌, ◌++◌, length}
+-- A body in chunks (RFC 9112, section 7.1). A line before a chunk is one to sixteen hexadecimal
+-- digits, then blanks, then optionally a semicolon and any bytes but CR and LF, then CR LF:
+-- `ChunkLine` holds its parts.
+use Rattle.std.specs.Prelude.{ℕ, ◌≡◌, ◌+◌, ◌<◌, ◌≤◌, ◌==◌, ◌||◌, not, Bool, IsTrue, List, [], ◌∷◌}
+use Rattle.std.specs.Prelude.{◌++◌, length}
 use Rattle.std.specs.List.{flat_map, AllByRecursion}
 use Rattle.http_head.specs.declared.content_length.TheConstants.{BODY_LIMIT}
 use Rattle.http_payload.specs.declared.chunk_line.TheConstants.{CHUNK_LINE_LIMIT}
 use Rattle.http_payload.specs.declared.stage.TheConstants.{TRAILERS_LIMIT}
 use Rattle.httparse.specs.Grammar.{ChunkLine, IsChunkLine, print_chunk_line, chunk_size}
-
--- A body in chunks (RFC 9112, section 7.1). A line before a chunk is one to sixteen hexadecimal digits, then blanks, then
--- optionally a semicolon and any bytes but CR and LF, then CR LF: `ChunkLine` is what such a line says.
 
 -- CR LF
 abbrev pub crlf : List ℕ
@@ -17,7 +18,7 @@ pub record IsShortLine (line : ChunkLine) : Type 0 where
   pub grammar : IsChunkLine line
   pub short : length (print_chunk_line line) ≤ CHUNK_LINE_LIMIT
 
--- a chunk: the line before it, and its bytes
+-- a chunk: its line, and its bytes
 pub record Chunk : Type 0 where
   pub line : ChunkLine
   pub bytes : List ℕ
@@ -25,7 +26,7 @@ pub record Chunk : Type 0 where
 abbrev pub chunk_text : Chunk → List ℕ
 chunk_text chunk = print_chunk_line chunk.line ++ (chunk.bytes ++ crlf)
 
--- A chunk has as many bytes as its line says, and it has some.
+-- A chunk has as many bytes as its line says, at least one.
 pub record IsChunk (chunk : Chunk) : Type 0 where
   pub line : IsShortLine chunk.line
   pub size : chunk_size chunk.line ≡ length chunk.bytes
@@ -52,14 +53,16 @@ IsTrailer line = (0 < length line) × AreLineBytes line
 abbrev pub trailer_texts : List (List ℕ) → List ℕ
 trailer_texts lines = flat_map (λ line. line ++ crlf) lines
 
--- The text is trailer lines and the empty line. Behind `used` bytes of trailer lines it isn't too long.
+-- The text is trailer lines and the empty line. With `used` bytes of trailer lines before it, it
+-- isn't too long.
 pub record IsTrailers (used : ℕ) (text : List ℕ) : Type 0 where
   pub lines : List (List ℕ)
   pub each : AllByRecursion IsTrailer lines
   pub fits : used + length (trailer_texts lines) ≤ TRAILERS_LIMIT
   pub text_is : text ≡ trailer_texts lines ++ crlf
 
--- what follows in a trailer line after `used` bytes of trailer lines: the rest of it, its end, and the others
+-- what follows in a trailer line after `used` bytes of trailer lines: the rest of it, its end, and
+-- the others
 pub record InTrailer (used : ℕ) (text : List ℕ) : Type 0 where
   pub bytes : List ℕ
   pub rest : List ℕ
@@ -83,17 +86,17 @@ pub record IsOverLine (used : ℕ) (text : List ℕ) : Type 0 where
   pub over : BODY_LIMIT < used + chunk_size line
   pub text_is : text ≡ print_chunk_line line
 
--- How a text ends: as a whole body that spells these bytes, or at a line whose size is too large.
+-- How a text ends: as a complete body with this content, or at a line whose size is too large.
 pub data Ending : Type 0 where
   Whole : List ℕ → Ending
   Over : Ending
 
--- what stands after chunks that spell these bytes
+-- what follows chunks with this content
 abbrev pub EndsAs : List ℕ → List ℕ → Ending → Type 0
 EndsAs bytes text (Whole body) = IsLast text × (body ≡ bytes)
 EndsAs bytes text Over = IsOverLine (length bytes) text
 
--- Behind chunks that spell the bytes before, the text is chunks and such an ending.
+-- After chunks with the content `before`, the text is chunks and such an ending.
 pub record EndsInChunks (before text : List ℕ) (ending : Ending) : Type 0 where
   pub chunks : List Chunk
   pub after : List ℕ
@@ -102,7 +105,8 @@ pub record EndsInChunks (before text : List ℕ) (ending : Ending) : Type 0 wher
   pub ends : EndsAs (before ++ chunk_bytes chunks) after ending
   pub text_is : text ≡ chunk_texts chunks ++ after
 
--- what follows in a chunk of which `left` bytes are still to come, after the bytes before: these, the end, and the rest
+-- what follows in a chunk of which `left` bytes are still to come, after the bytes before: these,
+-- the end, and the rest
 pub record InChunk (left : ℕ) (before text : List ℕ) (ending : Ending) : Type 0 where
   pub bytes : List ℕ
   pub rest : List ℕ

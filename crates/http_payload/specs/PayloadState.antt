@@ -1,16 +1,21 @@
+-- The state of a payload, and the texts that it represents.
 use Rattle.std.specs.Prelude.{ℕ, ◌≡◌, ◌+◌, ◌≤◌, List, [], ◌∷◌, ◌++◌, length, Option, Some, None, ⊤}
 use Rattle.httparse.specs.Grammar.{ChunkLine, print_chunk_line}
 use Rattle.http_head.specs.declared.body_form.BodyForm.{BodyForm}
 use Rattle.http_head.specs.declared.body_form.BodyForm.TheVariants.{Empty, Length, Chunked}
 use Rattle.http_payload.specs.declared.payload_fault.PayloadFault.{PayloadFault}
 use Rattle.http_payload.specs.declared.stage.Stage.{Stage}
-use Rattle.http_payload.specs.declared.stage.Stage.TheVariants.{Rest, Line, Chunk, ChunkEnd, Trailers, Trailer, TrailerEnd, LastEnd, Failed}
+use Rattle.http_payload.specs.declared.stage.Stage.TheVariants.{Rest, Line, Chunk, ChunkEnd}
+use Rattle.http_payload.specs.declared.stage.Stage.TheVariants.{Trailers, Trailer, TrailerEnd}
+use Rattle.http_payload.specs.declared.stage.Stage.TheVariants.{LastEnd, Failed}
 use Rattle.http_head.specs.declared.content_length.TheConstants.{BODY_LIMIT}
 use Rattle.http_payload.specs.declared.stage.TheConstants.{TRAILERS_LIMIT}
-use Rattle.http_payload.specs.Chunks.{Ending, Whole, IsShortLine, IsTrailers, InTrailer, InChunk, EndsInChunks}
+use Rattle.http_payload.specs.Chunks.{Ending, Whole, IsShortLine, IsTrailers, InTrailer, InChunk}
+use Rattle.http_payload.specs.Chunks.{EndsInChunks}
 use Rattle.http_payload.specs.Bodies.{Ends}
 
--- what a payload holds: where it is, what has come of the line before a chunk, and the bytes of the body so far
+-- the state of a payload: its stage, what has come of the line before a chunk, and the content so
+-- far
 pub record PayloadState : Type 0 where
   pub stage : Stage
   pub line : List ℕ
@@ -19,11 +24,11 @@ pub record PayloadState : Type 0 where
 abbrev pub payload_state : Stage → List ℕ → List ℕ → PayloadState
 payload_state stage line body = record { stage = stage; line = line; body = body }
 
--- The body is whole.
+-- The body is complete.
 abbrev pub IsDone : PayloadState → Type 0
 IsDone h = h.stage ≡ Rest 0
 
--- the fault that was told
+-- the fault that was returned
 abbrev pub fault_at : Stage → Option PayloadFault
 fault_at (Rest n) = None
 fault_at Line = None
@@ -38,7 +43,7 @@ fault_at (Failed fault) = Some fault
 abbrev pub fault_of : PayloadState → Option PayloadFault
 fault_of h = fault_at h.stage
 
--- where a body of that form begins
+-- the first stage of a body of that form
 abbrev pub first_stage : BodyForm → Stage
 first_stage Empty = Rest 0
 first_stage (Length n) = Rest n
@@ -49,7 +54,8 @@ abbrev pub LeftAt : Stage → List ℕ → List ℕ → List ℕ → Ending → 
 LeftAt (Rest n) line body more ending = (length more ≡ n) × (ending ≡ Whole (body ++ more))
 LeftAt Line line body more ending = EndsInChunks body (line ++ more) ending
 LeftAt (Chunk n) line body more ending = InChunk n body more ending
-LeftAt ChunkEnd line body more ending = (rest : List ℕ) × (more ≡ 10 ∷ rest) × EndsInChunks body rest ending
+LeftAt ChunkEnd line body more ending = (rest : List ℕ) × (more ≡ 10 ∷ rest)
+    × EndsInChunks body rest ending
 LeftAt (Trailers used) line body more ending = IsTrailers used more × (ending ≡ Whole body)
 LeftAt (Trailer used) line body more ending = InTrailer used more × (ending ≡ Whole body)
 LeftAt (TrailerEnd used) line body more ending =
@@ -60,9 +66,11 @@ LeftAt (Failed fault) line body more ending = ⊥
 abbrev pub Left : PayloadState → List ℕ → Ending → Type 0
 Left h more ending = LeftAt h.stage h.line h.body more ending
 
--- The beginning of a line before a chunk: no line stands in it, and something that follows makes one of it.
+-- A prefix of a line before a chunk: no line is a prefix of it, and something that follows makes a
+-- line of it.
 pub record IsOpenLine (text : List ℕ) : Type 0 where
-  pub none : (line : ChunkLine) (rest : List ℕ) → IsShortLine line → text ≡ print_chunk_line line ++ rest → ⊥
+  pub none : (line : ChunkLine) (rest : List ℕ) → IsShortLine line
+      → text ≡ print_chunk_line line ++ rest → ⊥
   pub more : List ℕ
   pub line : ChunkLine
   pub is_line : IsShortLine line
@@ -95,9 +103,11 @@ TakesBytes (Failed fault) = ⊥
 abbrev pub IsSound : PayloadState → Type 0
 IsSound h = IsSoundAt h.stage h.line h.body
 
--- What a payload holds is that of this text of that form: whatever follows, the text goes on to an end exactly where what
--- is left of it does. After a fault it holds no text.
+-- The payload is in the state after this text of that form: whatever follows, the text continues to
+-- an end exactly where what is left does. After a fault it represents no text.
 pub record Represents (form : BodyForm) (h : PayloadState) (text : List ℕ) : Type 0 where
   pub no_fault : fault_of h ≡ None
-  pub left : (more : List ℕ) (ending : Ending) → Ends form (text ++ more) ending → Left h more ending
-  pub ends : (more : List ℕ) (ending : Ending) → Left h more ending → Ends form (text ++ more) ending
+  pub left : (more : List ℕ) (ending : Ending) → Ends form (text ++ more) ending
+      → Left h more ending
+  pub ends : (more : List ℕ) (ending : Ending) → Left h more ending
+      → Ends form (text ++ more) ending

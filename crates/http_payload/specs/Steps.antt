@@ -1,24 +1,32 @@
-use Rattle.std.specs.Prelude.{ℕ, ◌≡◌, ◌+◌, ◌<◌, ◌≤◌, List, [], ◌∷◌, ◌++◌, length, take, None, Result, Ok, Err, ⊤}
+-- One step over the bytes of a piece.
+use Rattle.std.specs.Prelude.{ℕ, ◌≡◌, ◌+◌, ◌<◌, ◌≤◌, List, [], ◌∷◌, ◌++◌, length, take, None}
+use Rattle.std.specs.Prelude.{Result, Ok, Err, ⊤}
 use Rattle.http_payload.specs.declared.payload_fault.PayloadFault.{PayloadFault}
-use Rattle.http_payload.specs.declared.payload_fault.PayloadFault.TheVariants.{Malformed, TooLarge, NoMemory}
+use Rattle.http_payload.specs.declared.payload_fault.PayloadFault.TheVariants.{Malformed, TooLarge}
+use Rattle.http_payload.specs.declared.payload_fault.PayloadFault.TheVariants.{NoMemory}
 use Rattle.http_payload.specs.declared.stage.Stage.TheVariants.{Trailers, Chunk}
 use Rattle.http_head.specs.declared.content_length.TheConstants.{BODY_LIMIT}
 use Rattle.http_payload.specs.Chunks.{Ending, Over}
 use Rattle.http_payload.specs.declared.stage.Stage.{Stage}
-use Rattle.http_payload.specs.PayloadState.{PayloadState, payload_state, Left, IsSound, IsSoundAt, fault_of, fault_at}
+use Rattle.http_payload.specs.PayloadState.{PayloadState, payload_state, Left, IsSound, IsSoundAt}
+use Rattle.http_payload.specs.PayloadState.{fault_of, fault_at}
 
 -- Where the bytes were read, what is left is the same, whatever follows.
 pub record Steps (old : PayloadState) (bytes : List ℕ) (new : PayloadState) : Type 0 where
-  pub left : (more : List ℕ) (ending : Ending) → Left old (bytes ++ more) ending → Left new more ending
-  pub back : (more : List ℕ) (ending : Ending) → Left new more ending → Left old (bytes ++ more) ending
+  pub left : (more : List ℕ) (ending : Ending) → Left old (bytes ++ more) ending
+      → Left new more ending
+  pub back : (more : List ℕ) (ending : Ending) → Left new more ending
+      → Left old (bytes ++ more) ending
 
--- nothing that begins so leads to an end
+-- nothing with this prefix leads to an end
 abbrev pub Never : PayloadState → List ℕ → Type 0
-Never old bytes = (more prefix rest : List ℕ) (ending : Ending) → bytes ++ more ≡ prefix ++ rest → Left old prefix ending → ⊥
+Never old bytes = (more prefix rest : List ℕ) (ending : Ending)
+    → bytes ++ more ≡ prefix ++ rest → Left old prefix ending → ⊥
 
--- a line in the bytes tells too large a size
+-- a line in the bytes has too large a size
 abbrev pub Passes : PayloadState → List ℕ → Type 0
-Passes old bytes = (prefix : List ℕ) × (rest : List ℕ) × (bytes ≡ prefix ++ rest) × Left old prefix Over
+Passes old bytes = (prefix : List ℕ) × (rest : List ℕ) × (bytes ≡ prefix ++ rest)
+    × Left old prefix Over
 
 -- why no step is taken
 abbrev pub Blocks : PayloadState → List ℕ → PayloadFault → Type 0
@@ -26,18 +34,20 @@ Blocks old bytes Malformed = Never old bytes
 Blocks old bytes TooLarge = Passes old bytes
 Blocks old bytes NoMemory = ⊤
 
--- one step: some bytes at the front are read
-pub record Advances (old : PayloadState) (bytes : List ℕ) (taken : ℕ) (new : PayloadState) : Type 0 where
+-- one step: some of the first bytes are read
+pub record Advances (old : PayloadState) (bytes : List ℕ) (taken : ℕ) (new : PayloadState)
+    : Type 0 where
   pub some : 0 < taken
   pub within : taken ≤ length bytes
   pub steps : Steps old (take taken bytes) new
   pub sound : IsSound new
   pub no_fault : fault_of new ≡ None
 
--- a stage takes a byte, and the next one stands after it
+-- a stage takes a byte, and the next stage is the one after it
 abbrev pub TakesByte : Stage → ℕ → Stage → Type 0
 TakesByte stage byte next = (line body : List ℕ) → IsSoundAt stage line body
-    → Steps (payload_state stage line body) (byte ∷ []) (payload_state next line body) × IsSoundAt next line body × (fault_at next ≡ None)
+    → Steps (payload_state stage line body) (byte ∷ []) (payload_state next line body)
+    × IsSoundAt next line body × (fault_at next ≡ None)
 
 -- the stage after a line of that size, after so many bytes of chunks
 abbrev pub AfterLine : ℕ → ℕ → Result Stage PayloadFault → Type 0

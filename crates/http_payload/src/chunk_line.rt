@@ -1,8 +1,10 @@
 //! The line before a chunk (RFC 9112, section 7.1), as its bytes come in.
 
-ghost use Rattle.std.specs.Prelude.{◌≡◌, ◌<◌, ◌≤◌, ◌++◌, [], false, length, vec_len, IfOk, IfErr, IfSome, IfNone, IsTrue};
+ghost use Rattle.std.specs.Prelude.{◌≡◌, ◌<◌, ◌≤◌, ◌++◌, [], false, length, vec_len, IfOk, IfErr};
+ghost use Rattle.std.specs.Prelude.{IfSome, IfNone, IsTrue};
 ghost use Rattle.http_payload.specs.PayloadState.{IsOpenLine};
-ghost use Rattle.http_payload.specs.ChunkLines.{CanEnd, NeverLine, BeginsWithLine, LineContinues, LineFault};
+ghost use Rattle.http_payload.specs.ChunkLines.{CanEnd, NeverLine, BeginsWithLine, LineContinues};
+ghost use Rattle.http_payload.specs.ChunkLines.{LineFault};
 
 use crate::payload_fault::PayloadFault;
 use httparse::{Status, parse_chunk_size};
@@ -23,8 +25,8 @@ fn can_end(text: &[u8]) -> bool
     }
 }
 
-/// The line at the start of the text: its length and its size, or none where the text is a prefix of
-/// a line.
+/// The line at the start of the text: its length and its size, or none where the text is a prefix
+/// of a line.
 fn line_in(text: &[u8]) -> Result<Option<(usize, u64)>, PayloadFault>
     ensures some { IfOk result (λ found. IfSome found (λ r. BeginsWithLine text.now r.0 r.1)) }
     ensures none { IfOk result (λ found. IfNone found (IsOpenLine text.now)) }
@@ -42,7 +44,8 @@ fn new_line(line: &mut Vec<u8>, bytes: &[u8]) -> Result<(usize, Option<u64>), Pa
     requires empty { line.old.items ≡ [] }
     requires some { 0 < length bytes.now }
     ensures taken { IfOk result (λ r. (0 < r.0) × (r.0 ≤ length bytes.now)) }
-    ensures continues { IfOk result (λ r. LineContinues line.old.items bytes.now r.0 r.1 line.new.items) }
+    ensures continues { IfOk result
+        (λ r. LineContinues line.old.items bytes.now r.0 r.1 line.new.items) }
     ensures fault { IfErr result (LineFault (line.old.items ++ bytes.now)) }
 {
     match line_in(bytes)? {
@@ -54,12 +57,14 @@ fn new_line(line: &mut Vec<u8>, bytes: &[u8]) -> Result<(usize, Option<u64>), Pa
     }
 }
 
-/// Continues a line of which some bytes have come: how many more it takes, and its size where it ends.
+/// Continues a line of which some bytes have come: how many more it takes, and its size where it
+/// ends.
 fn kept_line(line: &mut Vec<u8>, bytes: &[u8]) -> Result<(usize, Option<u64>), PayloadFault>
     requires open { IsOpenLine line.old.items }
     requires some { 0 < length bytes.now }
     ensures taken { IfOk result (λ r. (0 < r.0) × (r.0 ≤ length bytes.now)) }
-    ensures continues { IfOk result (λ r. LineContinues line.old.items bytes.now r.0 r.1 line.new.items) }
+    ensures continues { IfOk result
+        (λ r. LineContinues line.old.items bytes.now r.0 r.1 line.new.items) }
     ensures fault { IfErr result (LineFault (line.old.items ++ bytes.now)) }
 {
     let kept = line.len();
@@ -76,8 +81,8 @@ fn kept_line(line: &mut Vec<u8>, bytes: &[u8]) -> Result<(usize, Option<u64>), P
 
 /// Continues the line before a chunk: how many bytes it takes, and its size where it ends.
 ///
-/// At most [`CHUNK_LINE_LIMIT`] bytes are kept. They are parsed anew with each piece, so a line that
-/// comes byte by byte costs at most 256 parses of at most 256 bytes.
+/// At most [`CHUNK_LINE_LIMIT`] bytes are kept. They are parsed anew with each piece, so a line
+/// that comes byte by byte costs at most 256 parses of at most 256 bytes.
 pub(crate) fn read_line(
     line: &mut Vec<u8>,
     bytes: &[u8],
@@ -85,7 +90,8 @@ pub(crate) fn read_line(
     requires open { IsOpenLine line.old.items }
     requires some { 0 < length bytes.now }
     ensures taken { IfOk result (λ r. (0 < r.0) × (r.0 ≤ length bytes.now)) }
-    ensures continues { IfOk result (λ r. LineContinues line.old.items bytes.now r.0 r.1 line.new.items) }
+    ensures continues { IfOk result
+        (λ r. LineContinues line.old.items bytes.now r.0 r.1 line.new.items) }
     ensures fault { IfErr result (LineFault (line.old.items ++ bytes.now)) }
 {
     if line.is_empty() {

@@ -1,9 +1,11 @@
 //! Steps over the bytes of a piece.
 
-ghost use Rattle.std.specs.Prelude.{◌≡◌, ◌≢◌, ◌<◌, ◌≤◌, ◌++◌, List, ℕ, None, min, take, length, IsOk, IfOk, IfErr};
+ghost use Rattle.std.specs.Prelude.{◌≡◌, ◌≢◌, ◌<◌, ◌≤◌, ◌++◌, List, ℕ, None, min, take, length};
+ghost use Rattle.std.specs.Prelude.{IsOk, IfOk, IfErr};
 ghost use Rattle.http_head.specs.declared.body_form.BodyForm.{BodyForm as Form};
 ghost use Rattle.http_payload.specs.Bodies.{IsFault};
-ghost use Rattle.http_payload.specs.PayloadState.{payload_state, IsSoundAt, TakesBytes, Represents, fault_at};
+ghost use Rattle.http_payload.specs.PayloadState.{payload_state, IsSoundAt, TakesBytes, Represents};
+ghost use Rattle.http_payload.specs.PayloadState.{fault_at};
 ghost use Rattle.http_payload.specs.Steps.{Advances, Blocks, AfterLine};
 
 use crate::chunk_line::read_line;
@@ -21,7 +23,8 @@ pub(crate) struct Step {
 /// Appends bytes, at most `left`, and returns how many.
 fn append_up_to(body: &mut Vec<u8>, left: u64, bytes: &[u8]) -> Result<usize, PayloadFault>
     ensures taken { IfOk result (λ taken. taken ≡ min left (length bytes.now)) }
-    ensures appended { IfOk result (λ taken. body.new.items ≡ body.old.items ++ take taken bytes.now) }
+    ensures appended { IfOk result (λ taken. body.new.items
+        ≡ body.old.items ++ take taken bytes.now) }
     ensures fault { IfErr result (λ fault. fault ≡ PayloadFault.NoMemory) }
 {
     let taken = left.min(bytes.len() as u64) as usize;
@@ -47,9 +50,11 @@ fn after_line(used: usize, size: u64) -> Result<Stage, PayloadFault>
 fn line_step(line: &mut Vec<u8>, body: &[u8], bytes: &[u8]) -> Result<Step, PayloadFault>
     requires some { 0 < length bytes.now }
     requires sound { IsSoundAt Stage.Line line.old.items body.now }
-    ensures ok { IfOk result (λ step. Advances (payload_state Stage.Line line.old.items body.now) bytes.now step.taken
+    ensures ok { IfOk result
+        (λ step. Advances (payload_state Stage.Line line.old.items body.now) bytes.now step.taken
         (payload_state step.stage line.new.items body.now)) }
-    ensures fault { IfErr result (Blocks (payload_state Stage.Line line.old.items body.now) bytes.now) }
+    ensures fault { IfErr result
+        (Blocks (payload_state Stage.Line line.old.items body.now) bytes.now) }
 {
     let (taken, ended) = read_line(line, bytes)?;
     let stage = match ended {
@@ -64,8 +69,10 @@ fn byte_step(stage: Stage, bytes: &[u8]) -> Result<Step, PayloadFault>
     requires some { 0 < length bytes.now }
     requires byte { TakesBytes stage }
     ensures ok { IfOk result (λ step. (line body : List ℕ) → IsSoundAt stage line body
-        → Advances (payload_state stage line body) bytes.now step.taken (payload_state step.stage line body)) }
-    ensures fault { IfErr result (λ fault. (line body : List ℕ) → Blocks (payload_state stage line body) bytes.now fault) }
+        → Advances (payload_state stage line body) bytes.now step.taken
+        (payload_state step.stage line body)) }
+    ensures fault { IfErr result (λ fault. (line body : List ℕ)
+        → Blocks (payload_state stage line body) bytes.now fault) }
 {
     match after_byte(stage, bytes[0]) {
         Some(stage) => Ok(Step { taken: 1, stage }),
@@ -84,9 +91,11 @@ fn advance(
     requires sound { IsSoundAt stage line.old.items body.old.items }
     requires not_done { stage ≢ Stage.Rest 0 }
     requires no_fault { fault_at stage ≡ None }
-    ensures ok { IfOk result (λ step. Advances (payload_state stage line.old.items body.old.items) bytes.now step.taken
+    ensures ok { IfOk result
+        (λ step. Advances (payload_state stage line.old.items body.old.items) bytes.now step.taken
         (payload_state step.stage line.new.items body.new.items)) }
-    ensures fault { IfErr result (Blocks (payload_state stage line.old.items body.old.items) bytes.now) }
+    ensures fault { IfErr result
+        (Blocks (payload_state stage line.old.items body.old.items) bytes.now) }
 {
     match stage {
         Stage::Rest(left) => {
@@ -123,10 +132,14 @@ pub(crate) fn feed_piece(
     ensures no_fault { IfOk result (λ step. fault_at step.stage ≡ None) }
     ensures represents { IfOk result (λ step. (form : Form) (text : List ℕ)
         → Represents form (payload_state stage line.old.items body.old.items) text
-        → Represents form (payload_state step.stage line.new.items body.new.items) (text ++ take step.taken piece.now)) }
-    ensures fault { IfErr result (λ fault. fault ≢ PayloadFault.NoMemory → (form : Form) (text : List ℕ)
-        → Represents form (payload_state stage line.old.items body.old.items) text → IsFault form (text ++ piece.now) fault) }
-    ensures done { stage ≡ Stage.Rest 0 → IfOk result (λ step. (step.taken ≡ 0) × (step.stage ≡ Stage.Rest 0)
+        → Represents form (payload_state step.stage line.new.items body.new.items)
+        (text ++ take step.taken piece.now)) }
+    ensures fault { IfErr result (λ fault. fault ≢ PayloadFault.NoMemory
+        → (form : Form) (text : List ℕ)
+        → Represents form (payload_state stage line.old.items body.old.items) text
+        → IsFault form (text ++ piece.now) fault) }
+    ensures done { stage ≡ Stage.Rest 0 → IfOk result (λ step. (step.taken ≡ 0)
+        × (step.stage ≡ Stage.Rest 0)
         × (line.new.items ≡ line.old.items) × (body.new.items ≡ body.old.items)) }
     ensures not_failed { stage ≡ Stage.Rest 0 → IsOk result }
 {

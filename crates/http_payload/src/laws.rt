@@ -1,9 +1,11 @@
 //! Laws of bodies. Each is the contract of a function that does nothing.
 
-ghost use Rattle.http_payload.specs.Laws.{HasOneEnd, FaultStays, HasOneFault, BodyHasNoFault, PartialHasNoFault, PartialHasNoBody, BodyBeginsPartial, PartialBeginsPartial};
+ghost use Rattle.http_payload.specs.Laws.{HasOneEnd, FaultStays, HasOneFault, BodyHasNoFault};
+ghost use Rattle.http_payload.specs.Laws.{PartialHasNoFault, PartialHasNoBody, BodyBeginsPartial};
+ghost use Rattle.http_payload.specs.Laws.{PartialBeginsPartial};
 
-/// A text has one outcome: a body as its prefix, or a fault, or it is a prefix of a body, and not two
-/// of these.
+/// A text has one outcome: a body as its prefix, or a fault, or it is a prefix of a body, and not
+/// two of these.
 pub fn one_outcome()
     ensures one_end { HasOneEnd }
     ensures one_fault { HasOneFault }

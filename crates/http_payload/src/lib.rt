@@ -9,14 +9,15 @@
 //! let body = payload.body(alloc)?;
 //! ```
 //!
-//! [`Payload`] keeps the body, and of the line before a chunk what has come of it; all else is dropped
-//! once it is parsed. Proved of [`Payload::feed`], of the whole text that was fed and however it was
-//! cut: which texts are complete bodies (`whole`, `exact_whole`), which are malformed or too large
-//! (`fault`, `exact_fault`), and which are a prefix of a body (`partial`, `exact_partial`). [`laws`]
-//! says that a text is one of these, and stays complete or faulty whatever follows.
+//! [`Payload`] keeps the body, and of the line before a chunk what has come of it; all else is
+//! dropped once it is parsed. Proved of [`Payload::feed`], of the whole text that was fed and
+//! however it was cut: which texts are complete bodies (`whole`, `exact_whole`), which are
+//! malformed or too large (`fault`, `exact_fault`), and which are a prefix of a body (`partial`,
+//! `exact_partial`). [`laws`] says that a text is one of these, and stays complete or faulty
+//! whatever follows.
 //!
-//! It stands on `httparse` for the line before a chunk, on `http_head` for the form of a body, and on
-//! `pod_base`.
+//! It stands on `httparse` for the line before a chunk, on `http_head` for the form of a body, and
+//! on `pod_base`.
 #![tactic(auto)]
 
 mod chunk_line;
@@ -30,6 +31,3 @@ pub use chunk_line::CHUNK_LINE_LIMIT;
 pub use payload::{Fed, Payload};
 pub use payload_fault::PayloadFault;
 pub use stage::TRAILERS_LIMIT;
-
-#[cfg(test)]
-mod tests;

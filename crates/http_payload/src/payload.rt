@@ -1,6 +1,7 @@
 //! [`Payload`]: the body of one request, as far as it has come.
 
-ghost use Rattle.std.specs.Prelude.{◌≡◌, ◌≢◌, ◌≤◌, ◌-◌, ◌++◌, List, ℕ, [], true, false, Some, None, take, length, IsTrue, IfOk, IfErr, IfSome};
+ghost use Rattle.std.specs.Prelude.{◌≡◌, ◌≢◌, ◌≤◌, ◌-◌, ◌++◌, List, ℕ, [], true, false, Some, None};
+ghost use Rattle.std.specs.Prelude.{take, length, IsTrue, IfOk, IfErr, IfSome};
 ghost use Rattle.http_head.specs.declared.body_form.BodyForm.{BodyForm as Form};
 ghost use Rattle.http_payload.specs.Bodies.{IsBody, IsFault, IsPartial, IsOrOutOfMemory};
 ghost use Rattle.http_payload.specs.PayloadState.{IsDone, Represents, fault_of};
@@ -24,9 +25,9 @@ pub struct Fed {
 
 /// The body of one request, as far as it has come.
 ///
-/// It doesn't keep what was fed. Contracts say which texts it represents (`Represents`): those after
-/// which the same bytes complete the body. The body grows in a block of its own, so it keeps neither
-/// the head nor the pieces alive.
+/// It doesn't keep what was fed. Contracts say which texts it represents (`Represents`): those
+/// after which the same bytes complete the body. The body grows in a block of its own, so it keeps
+/// neither the head nor the pieces alive.
 #[derive(Debug, Drop)]
 pub struct Payload {
     stage: Stage,
@@ -59,15 +60,17 @@ impl Payload {
     /// Whether the body is complete.
     pub fn is_done(&self) -> bool
         ensures done { IsTrue result → IsDone self.now }
-        ensures whole { IsTrue result → (form : Form) (text : List ℕ) → Represents form self.now text
+        ensures whole { IsTrue result → (form : Form) (text : List ℕ)
+            → Represents form self.now text
             → IsBody form text self.now.body }
-        ensures partial { result ≡ false → (form : Form) (text : List ℕ) → Represents form self.now text → IsPartial form text }
+        ensures partial { result ≡ false → (form : Form) (text : List ℕ)
+            → Represents form self.now text → IsPartial form text }
     {
         self.stage.is_end()
     }
 
-    /// Takes the next piece of the body's bytes, up to the body's end. A complete body takes nothing
-    /// more.
+    /// Takes the next piece of the body's bytes, up to the body's end. A complete body takes
+    /// nothing more.
     ///
     /// # Errors
     ///
@@ -76,31 +79,41 @@ impl Payload {
     /// [`PayloadFault::NoMemory`]. After an error each feed returns that error again.
     pub fn feed(&mut self, _alloc: Global, piece: &[u8]) -> Result<Fed, PayloadFault>
         ensures within { IfOk result (λ fed. fed.taken ≤ length piece.now) }
-        ensures represents { IfOk result (λ fed. (form : Form) (text : List ℕ) → Represents form self.old text
+        ensures represents { IfOk result (λ fed. (form : Form) (text : List ℕ)
+            → Represents form self.old text
             → Represents form self.new (text ++ take fed.taken piece.now)) }
 
         // Each result is right.
         ensures done { IfOk result (λ fed. IsTrue fed.done → IsDone self.new) }
-        ensures whole { IfOk result (λ fed. IsTrue fed.done → (form : Form) (text : List ℕ) → Represents form self.old text
+        ensures whole { IfOk result (λ fed. IsTrue fed.done → (form : Form) (text : List ℕ)
+            → Represents form self.old text
             → IsBody form (text ++ take fed.taken piece.now) self.new.body) }
         ensures all { IfOk result (λ fed. fed.done ≡ false → fed.taken ≡ length piece.now) }
-        ensures partial { IfOk result (λ fed. fed.done ≡ false → (form : Form) (text : List ℕ) → Represents form self.old text
+        ensures partial { IfOk result (λ fed. fed.done ≡ false → (form : Form) (text : List ℕ)
+            → Represents form self.old text
             → IsPartial form (text ++ piece.now)) }
-        ensures fault { IfErr result (λ fault. fault ≢ PayloadFault.NoMemory → (form : Form) (text : List ℕ)
+        ensures fault { IfErr result (λ fault. fault ≢ PayloadFault.NoMemory
+            → (form : Form) (text : List ℕ)
             → Represents form self.old text → IsFault form (text ++ piece.now) fault) }
 
         // The right result comes, unless it is out of memory.
-        ensures exact_whole { (form : Form) (text prefix rest body : List ℕ) → Represents form self.old text
+        ensures exact_whole { (form : Form) (text prefix rest body : List ℕ)
+            → Represents form self.old text
             → text ++ piece.now ≡ prefix ++ rest → IsBody form prefix body
-            → IsOrOutOfMemory result (Ok (record { taken = length prefix - length text; done = true })) }
+            → IsOrOutOfMemory result
+            (Ok (record { taken = length prefix - length text; done = true })) }
         ensures exact_partial { (form : Form) (text : List ℕ) → Represents form self.old text
-            → IsPartial form (text ++ piece.now) → IsOrOutOfMemory result (Ok (record { taken = length piece.now; done = false })) }
-        ensures exact_fault { (form : Form) (text : List ℕ) (fault : _) → Represents form self.old text
+            → IsPartial form (text ++ piece.now)
+            → IsOrOutOfMemory result (Ok (record { taken = length piece.now; done = false })) }
+        ensures exact_fault { (form : Form) (text : List ℕ) (fault : _)
+            → Represents form self.old text
             → IsFault form (text ++ piece.now) fault → IsOrOutOfMemory result (Err fault) }
 
         // A complete body stays so, and a fault too.
-        ensures ended { IsDone self.old → (self.new ≡ self.old) × (result ≡ Ok (record { taken = 0; done = true })) }
-        ensures again { IfSome (fault_of self.old) (λ fault. (self.new ≡ self.old) × (result ≡ Err fault)) }
+        ensures ended { IsDone self.old
+            → (self.new ≡ self.old) × (result ≡ Ok (record { taken = 0; done = true })) }
+        ensures again { IfSome (fault_of self.old) (λ fault. (self.new ≡ self.old)
+            × (result ≡ Err fault)) }
         ensures failed { IfErr result (λ fault. fault_of self.new ≡ Some fault) }
     {
         if let Stage::Failed(fault) = self.stage {
@@ -121,12 +134,13 @@ impl Payload {
         }
     }
 
-    /// The bytes of a complete body, in the block in which they grew. It takes memory for their count
-    /// of owners alone.
+    /// The bytes of a complete body, in the block in which they grew. It takes memory for their
+    /// count of owners alone.
     pub fn body(self, alloc: Global) -> Mem<Bytes>
         requires { IsDone self }
         ensures bytes { IfOk result (λ bytes. bytes ≡ self.body) }
-        ensures decodes { IfOk result (λ bytes. (form : Form) (text : List ℕ) → Represents form self text
+        ensures decodes { IfOk result (λ bytes. (form : Form) (text : List ℕ)
+            → Represents form self text
             → IsBody form text bytes) }
     {
         match Bytes::from_vec(alloc, self.body) {

@@ -1,6 +1,7 @@
 //! How far a body has come, and what one more byte makes of it.
 
-ghost use Rattle.std.specs.Prelude.{◌≡◌, ◌≢◌, ◌<◌, ◌≤◌, ◌+◌, ◌∷◌, [], List, ℕ, false, IsTrue, IfSome, IfNone};
+ghost use Rattle.std.specs.Prelude.{◌≡◌, ◌≢◌, ◌<◌, ◌≤◌, ◌+◌, ◌∷◌, [], List, ℕ, false, IsTrue};
+ghost use Rattle.std.specs.Prelude.{IfSome, IfNone};
 ghost use Rattle.http_payload.specs.PayloadState.{payload_state, TakesBytes, first_stage};
 ghost use Rattle.http_payload.specs.Steps.{Never, TakesByte};
 
@@ -19,15 +20,15 @@ pub(crate) enum Stage {
     Line,
     /// In a chunk, of which so many bytes are still to come, and then its CR LF.
     Chunk(u64),
-    /// Behind the CR after a chunk.
+    /// After the CR after a chunk.
     ChunkEnd,
-    /// At the beginning of a line after the last chunk, after so many bytes of trailer lines.
+    /// At the start of a line after the last chunk, after so many bytes of trailer lines.
     Trailers(u64),
     /// In a trailer line, after so many bytes of trailer lines.
     Trailer(u64),
-    /// Behind the CR of a trailer line, after so many bytes of trailer lines.
+    /// After the CR of a trailer line, after so many bytes of trailer lines.
     TrailerEnd(u64),
-    /// Behind the CR of the empty line.
+    /// After the CR of the empty line.
     LastEnd,
     /// That fault was returned.
     Failed(PayloadFault),
@@ -62,10 +63,11 @@ fn expect_byte(byte: u8, wanted: u8, next: Stage) -> Option<Stage>
     if byte == wanted { Some(next) } else { None }
 }
 
-/// The stage after one more byte of a trailer line, with `used` bytes of trailer lines before it. The
-/// byte isn't CR.
+/// The stage after one more byte of a trailer line, with `used` bytes of trailer lines before it.
+/// The byte isn't CR.
 fn in_trailer(used: u64, byte: u8) -> Option<Stage>
-    ensures some { IfSome result (λ next. (next ≡ Stage.Trailer (used + 1)) × (used + 3 ≤ TRAILERS_LIMIT) × (byte ≢ 10)) }
+    ensures some { IfSome result (λ next. (next ≡ Stage.Trailer (used + 1))
+        × (used + 3 ≤ TRAILERS_LIMIT) × (byte ≢ 10)) }
     ensures none { IfNone result (byte ≢ 10 → TRAILERS_LIMIT < used + 3) }
 {
     if byte != b'\n' && used <= TRAILERS_LIMIT - 3 {
@@ -75,12 +77,13 @@ fn in_trailer(used: u64, byte: u8) -> Option<Stage>
     }
 }
 
-/// The stage after one more byte, at a stage that takes bytes one by one; none where no body goes on
-/// with that byte.
+/// The stage after one more byte, at a stage that takes bytes one by one; none where no body goes
+/// on with that byte.
 pub(crate) fn after_byte(stage: Stage, byte: u8) -> Option<Stage>
     requires { TakesBytes stage }
     ensures some { IfSome result (TakesByte stage byte) }
-    ensures none { IfNone result ((line body : List ℕ) → Never (payload_state stage line body) (byte ∷ [])) }
+    ensures none { IfNone result ((line body : List ℕ)
+        → Never (payload_state stage line body) (byte ∷ [])) }
 {
     match stage {
         Stage::Chunk(0) => expect_byte(byte, b'\r', Stage::ChunkEnd),

@@ -1,8 +1,8 @@
 use Rattle.std.proofs.Common.{◌≡◌, ◌≢◌, ℕ, ◌++◌, List, length, take, refl, sym, ap, subst, ◌∙◌, arith}
 use Rattle.std.proofs.Math.Seq.{take-length}
-use Rattle.http_payload.specs.declared.fault.PayloadFault.TheVariants.{Malformed, TooLarge, NoMemory}
+use Rattle.http_payload.specs.declared.payload_fault.PayloadFault.TheVariants.{Malformed, TooLarge, NoMemory}
 use Rattle.http_payload.specs.Bodies.{IsBody}
-use Rattle.http_payload.specs.Held as payload
+use Rattle.http_payload.specs.PayloadState as payload
 use Rattle.http_conn.specs.declared.stage.Stage.TheVariants.{Body}
 use Rattle.http_conn.specs.declared.stage.OpenBody.{OpenBody}
 use Rattle.http_conn.specs.Held.{Goes}
@@ -29,7 +29,7 @@ returns-in-Ok-clause-goes c =
     subst (λ front. Goes (Body c.args.begun) told front (Body new) told) (sym front_is)
     (body_waits c.args.begun new bytes told refl refl (omega (arith, all, c.in-Some.ensures))
     (λ form text s. c.in-Ok.ensures.partial c.if-fed.false form text s)
-    (λ form text s. subst (λ front. payload.Stands form c.feed.new.self (text ++ front)) front_is (c.in-Ok.ensures.stands form text s)))
+    (λ form text s. subst (λ front. payload.Represents form c.feed.new.self (text ++ front)) front_is (c.in-Ok.ensures.represents form text s)))
 
 -- nothing makes a body of it
 pub returns-in-Err-Malformed-clause-goes : goal.returns-in-Err-Malformed-clause-goes

@@ -9,14 +9,14 @@ returns-in-None c = form_none c.args.fields.now (none_found (is_named (codes "co
 
 pub returns-in-Some-body_length : goal.returns-in-Some-body_length
 returns-in-Some-body_length c =
-    let first_length : List ℕ = c.in-Some.first_length.now in
+    let first_length : List ℕ = c.in-Some.first.now in
     let within : List ℕ → Option ℕ = λ v. if nat_le (number_of v) 8_388_608 then Some (number_of v) else None in
     form_some c.args.fields.now first_length c.in-Some-body_length.length (first_found (is_named (codes "content-length")) c.args.fields.now first_length (sym c.in-Some.ensures))
     (c.in-Some-body_length.ensures ∙ ap within c.as_slice.ensures)
 
 pub returns-in-None-body_length : goal.returns-in-None-body_length
 returns-in-None-body_length c =
-    let first_length : List ℕ = c.in-Some.first_length.now in
+    let first_length : List ℕ = c.in-Some.first.now in
     let within : List ℕ → Option ℕ = λ v. if nat_le (number_of v) 8_388_608 then Some (number_of v) else None in
     form_past c.args.fields.now first_length (first_found (is_named (codes "content-length")) c.args.fields.now first_length (sym c.in-Some.ensures))
     (c.in-None-body_length.ensures ∙ ap within c.as_slice.ensures)

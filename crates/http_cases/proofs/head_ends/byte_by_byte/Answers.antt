@@ -1,8 +1,8 @@
 use Rattle.std.proofs.Common.{ℕ, ◌+◌, ◌++◌, List, take, drop, sym, ap, ◌∙◌, arith}
 use Rattle.std.proofs.lemmas.List.{take-take, take-append-drop}
-use Rattle.http_head.proofs.tests.byte_by_byte.Goals as goal
+use Rattle.http_cases.proofs.head_ends.byte_by_byte.Goals as goal
 
--- the bytes so far begin those with one more
+-- the bytes so far are a prefix of those with one more
 pub scan-found-requires : goal.scan-found-requires
 scan-found-requires c =
     let text : List ℕ = c.args.text.now in
@@ -12,6 +12,6 @@ scan-found-requires c =
     record {
       scanned = take i text;
       more = rest;
-      is = sym (take-append-drop i longer) ∙ ap (λ prefix_of. prefix_of ++ rest) (take-take i (i + 1) text (omega arith));
+      is = sym (take-append-drop i longer) ∙ ap (λ prefix. prefix ++ rest) (take-take i (i + 1) text (omega arith));
       scanned_it = c.loop-i.invariant;
     }
