@@ -11,11 +11,18 @@
 //! | `body` FORM TEXT | what a body's bytes end with, in pieces of several sizes |
 //! | `cuts` FORM TEXT | the same in three pieces, cut at each two positions |
 //! | `feed` FORM PIECE.. | the answer to each piece |
+//! | `conn` TEXT | the events of a connection, and the rest after them: whole, in pieces and cut |
+//! | `rests` TEXT | the rest after each byte |
+//! | `one` TEXT | the one request that the text is, or `none` |
+//! | `response` SECONDS STATUS CLOSE BODY FIELD.. | the bytes of a response |
+//! | `fixed` NAME | the bytes of a response with a fixed text |
 #![tactic(auto)]
 
 mod bodies;
+mod connections;
 mod head_ends;
 mod heads;
+mod responses;
 
 use std::alloc::{AllocError, Global};
 use std::io;
@@ -27,6 +34,13 @@ fn answer(alloc: Global, fields: &[&str]) -> Result<String, AllocError> {
         ["body", form, text] => bodies::in_pieces(alloc, form, text),
         ["cuts", form, text] => bodies::cut_everywhere(alloc, form, text),
         ["feed", form, pieces @ ..] => bodies::piece_by_piece(alloc, form, pieces),
+        ["conn", text] => connections::events(alloc, text),
+        ["rests", text] => connections::rests(alloc, text),
+        ["one", text] => connections::one(alloc, text),
+        ["response", seconds, status, close, body, lines @ ..] => {
+            responses::response(alloc, seconds, status, close, body, lines)
+        }
+        ["fixed", name] => responses::fixed(alloc, name),
         [what, head] => heads::answer(alloc, what, head),
         _ => String::from_str(alloc, "no case"),
     }

@@ -1,104 +1,128 @@
-ghost use Rattle.std.specs.Prelude.{◌≡◌, ◌≢◌, ◌++◌, true, false, List as Items, ℕ, [], IfOk, OnErr, IsErr};
-ghost use Rattle.pod_base.specs.declared.heard.Heard.{Heard as Hears};
-ghost use Rattle.http_conn.specs.Messages.{Messages};
-ghost use Rattle.http_conn.specs.Held.{Stands, IsSound, rest_of};
+//! [`Conn`], the parser of a connection's messages.
 
-use crate::run::run;
-use crate::stage::{OpenHead, Stage};
+ghost use Rattle.std.specs.Prelude.{◌≡◌, ◌≢◌, ◌++◌, true, false, List as Items, ℕ, [], IfOk, OnErr};
+ghost use Rattle.std.specs.Prelude.{IsErr};
+ghost use Rattle.pod_base.specs.declared.heard.Heard.{Heard as Event};
+ghost use Rattle.http_conn.specs.Messages.{Messages};
+ghost use Rattle.http_conn.specs.ParserStates.{Represents, IsSoundState, rest_of};
+
+use crate::parse_piece::parse_piece;
+use crate::parser_state::{ParserState, PartialHead};
 use http_head::blank_length;
 use pod_base::{Heard, List, Mem, NoMemory};
 use std::alloc::Global;
 use std::marker::Model;
 use std::mem;
 
-/// What a connection hears: the requests in the bytes that it is fed, in whatever pieces.
+/// The parser of a connection: it is fed the bytes in any pieces, and returns the events of each.
 ///
-/// It holds the unfinished message alone. Contracts say of which texts it holds what was heard: it stands for them
-/// (`Stands`).
+/// It keeps the unfinished message alone. Contracts say of which bytes with which events it is the
+/// parser: it represents them (`Represents`).
 #[derive(Debug, Drop)]
 pub struct Conn {
-    stage: Stage,
+    state: ParserState,
 }
 
 impl Model for Conn {
-    ghost use Rattle.http_conn.specs.declared.stage.Stage.{Stage};
+    ghost use Rattle.http_conn.specs.declared.parser_state.ParserState.{ParserState};
 
-    ghost Value = { Stage };
+    ghost Value = { ParserState };
 
-    ghost use Rattle.http_conn.specs.Held.{IsSound};
+    ghost use Rattle.http_conn.specs.ParserStates.{IsSoundState};
 
-    ghost view = { λ c. c.stage };
+    ghost view = { λ c. c.state };
 
-    ghost invariant = { λ c. IsSound c.stage };
+    ghost invariant = { λ c. IsSoundState c.state };
 }
 
 impl Conn {
-    /// A connection that was fed nothing. It grows by `alloc`.
+    /// A connection without bytes. It grows by `alloc`.
     pub fn new(alloc: Global) -> Conn
-        ensures { Stands result [] [] }
+        ensures { Represents result [] [] }
     {
         Conn {
-            stage: Stage::Head(OpenHead::new(alloc, 0)),
+            state: ParserState::Head(PartialHead::new(alloc, 0)),
         }
     }
 
-    /// Reads the next piece, and answers what was heard in it. After want of memory each call answers that.
+    /// Parses the next piece and returns its events. The events of all calls are those of all bytes
+    /// that were fed, however they were cut (RFC 9112, section 2.2).
     ///
-    /// What was heard over all calls is what Messages of all bytes fed says, however they were cut.
+    /// No event follows a refusal, a request that closes the connection, and the
+    /// [`REQUEST_LIMIT`](crate::REQUEST_LIMIT)th request.
+    ///
+    /// # Errors
+    ///
+    /// [`NoMemory`] where it is out of memory; from then on each call returns it. A caller that is
+    /// to go on from the state before takes a [`copy`](Conn::copy) first.
     pub fn feed(&mut self, alloc: Global, piece: &[u8]) -> Mem<List<Heard>>
-        ensures stands { IfOk result (λ heard. (text : Items ℕ) (hears : Items Hears) → Stands self.old text hears
-            → Stands self.new (text ++ piece.now) (hears ++ heard.items)) }
-        ensures messages { IfOk result (λ heard. (text : Items ℕ) (hears : Items Hears) → Stands self.old text hears
-            → Messages (text ++ piece.now) (hears ++ heard.items) (rest_of self.new)) }
-        ensures failed { OnErr result (self.new ≡ Stage.Failed) }
-        ensures again { self.old ≡ Stage.Failed → (self.new ≡ Stage.Failed) × IsErr result }
+        ensures represents { IfOk result (λ new. (text : Items ℕ) (events : Items Event)
+            → Represents self.old text events
+            → Represents self.new (text ++ piece.now) (events ++ new.items)) }
+        ensures messages { IfOk result (λ new. (text : Items ℕ) (events : Items Event)
+            → Represents self.old text events
+            → Messages (text ++ piece.now) (events ++ new.items) (rest_of self.new)) }
+        ensures failed { OnErr result (self.new ≡ ParserState.Failed) }
+        ensures again { self.old ≡ ParserState.Failed
+            → (self.new ≡ ParserState.Failed) × IsErr result }
     {
-        let stage = mem::replace(&mut self.stage, Stage::Failed);
-        let (next, heard) = read(alloc, stage, piece)?;
-        self.stage = next;
-        Ok(heard)
+        let state = mem::replace(&mut self.state, ParserState::Failed);
+        let (next, events) = parse_events(alloc, state, piece)?;
+        self.state = next;
+        Ok(events)
     }
 
-    /// How many bytes of the unfinished message have come, 0 between messages.
+    /// A connection in the same state: what it is fed doesn't change this one. So a caller can go
+    /// back to the state before a step that it can't finish.
+    pub fn copy(&self, alloc: Global) -> Mem<Conn>
+        ensures { IfOk result (λ copy. copy ≡ self.now) }
+    {
+        let state = self.state.copy(alloc)?;
+        Ok(Conn { state })
+    }
+
+    /// How many bytes of the unfinished message have come, 0 between messages and after the last.
     pub fn rest(&self) -> usize
         ensures exact { result ≡ rest_of self.now }
-        ensures messages { (text : Items ℕ) (hears : Items Hears) → Stands self.now text hears → Messages text hears result }
+        ensures messages { (text : Items ℕ) (events : Items Event) → Represents self.now text events
+            → Messages text events result }
     {
-        rest_of(&self.stage)
+        rest_of(&self.state)
     }
 }
 
-/// How many bytes of an unfinished message a stage holds.
-fn rest_of(stage: &Stage) -> usize
-    ensures { result ≡ rest_of stage.now }
+/// How many bytes of an unfinished message a state keeps.
+fn rest_of(state: &ParserState) -> usize
+    ensures { result ≡ rest_of state.now }
 {
-    match stage {
-        Stage::Head(begun) => begun.bytes.len() - blank_length(begun.bytes.as_slice()),
-        Stage::Body(begun) => begun.len,
-        Stage::Over | Stage::Failed => 0,
+    match state {
+        ParserState::Head(partial) => partial.bytes.len() - blank_length(partial.bytes.as_slice()),
+        ParserState::Body(partial) => partial.len,
+        ParserState::Closed | ParserState::Failed => 0,
     }
 }
 
-/// Whether memory was wanted.
-fn has_failed(stage: &Stage) -> bool
-    ensures yes { result ≡ true → stage.now ≡ Stage.Failed }
-    ensures no { result ≡ false → stage.now ≢ Stage.Failed }
+/// Whether a call was out of memory.
+fn has_failed(state: &ParserState) -> bool
+    ensures yes { result ≡ true → state.now ≡ ParserState.Failed }
+    ensures no { result ≡ false → state.now ≢ ParserState.Failed }
 {
-    matches!(stage, Stage::Failed)
+    matches!(state, ParserState::Failed)
 }
 
-/// Reads a piece, and tells what was heard in it.
-fn read(alloc: Global, stage: Stage, piece: &[u8]) -> Mem<(Stage, List<Heard>)>
-    requires { IsSound stage }
-    ensures sound { IfOk result (λ r. IsSound r.0) }
-    ensures stands { IfOk result (λ r. (text : Items ℕ) (hears : Items Hears) → Stands stage text hears
-        → Stands r.0 (text ++ piece.now) (hears ++ r.1.items)) }
-    ensures failed { stage ≡ Stage.Failed → IsErr result }
+/// Parses a piece: returns the state after it and its events.
+fn parse_events(alloc: Global, state: ParserState, piece: &[u8]) -> Mem<(ParserState, List<Heard>)>
+    requires { IsSoundState state }
+    ensures sound { IfOk result (λ r. IsSoundState r.0) }
+    ensures represents { IfOk result (λ r. (text : Items ℕ) (events : Items Event)
+        → Represents state text events
+        → Represents r.0 (text ++ piece.now) (events ++ r.1.items)) }
+    ensures failed { state ≡ ParserState.Failed → IsErr result }
 {
-    if has_failed(&stage) {
+    if has_failed(&state) {
         return Err(NoMemory);
     }
-    let mut heard = List::new(alloc);
-    let next = run(alloc, &mut heard, stage, piece)?;
-    Ok((next, heard))
+    let mut events = List::new(alloc);
+    let next = parse_piece(alloc, &mut events, state, piece)?;
+    Ok((next, events))
 }

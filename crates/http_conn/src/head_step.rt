@@ -1,194 +1,186 @@
-ghost use Rattle.std.specs.Prelude.{◌≡◌, ◌<◌, ◌≤◌, ◌++◌, ◌∷◌, [], length, take, min, IfOk};
+//! A step of the parser between messages and in the head of a request.
+
+ghost use Rattle.std.specs.Prelude.{◌≡◌, ◌<◌, ◌≤◌, ◌++◌, length, take, IfOk};
 ghost use Rattle.http_head.specs.HeadEnds.{head_end};
 ghost use Rattle.http_head.specs.declared.head_ends.HeadEnd.TheVariants as end;
-ghost use Rattle.http_conn.specs.declared.stage.Stage.TheVariants as stage;
-ghost use Rattle.http_conn.specs.Held.{Goes, GoesBehind, GoesBehindHead, AwaitsBehindHead, IsSound};
+ghost use Rattle.http_conn.specs.declared.parser_state.ParserState.TheVariants as state;
+ghost use Rattle.http_conn.specs.ParserStates.{IsSoundState};
+ghost use Rattle.http_conn.specs.ParserSteps.{StepsTo, StepsAfter, StepsAfterHead, StartsBody};
 
-use crate::stage::{OpenBody, OpenHead, Stage};
-use crate::told::{finish, refuse, tell_interim};
+use crate::events::{push_interim, push_request, refuse};
+use crate::parser_state::{ParserState, PartialBody, PartialHead};
+use crate::slices::{prefix, prefix_up_to};
 use http_head::{
     BodyForm, FramingFault, HEAD_LIMIT, HeadEnd, HeadFault, HeadSearch, RequestHead, blank_length,
     framing, read_head,
 };
 use http_payload::Payload;
-use pod_base::{Heard, List, Mem, NoMemory};
+use pod_base::{BytesBuilder, Heard, List, Mem, NoMemory};
 use std::alloc::Global;
 
-/// What stands behind a head whose body has that form. So many bytes of the request have come.
-fn await_body(
+/// The state after a head whose body has that form. The head has `len` bytes.
+fn start_body(
     alloc: Global,
-    heard: &mut List<Heard>,
+    events: &mut List<Heard>,
     count: u64,
     len: usize,
-    said: RequestHead,
+    head: RequestHead,
     form: BodyForm,
-) -> Mem<Stage>
-    ensures sound { IfOk result IsSound }
-    ensures goes { IfOk result (λ new. AwaitsBehindHead count len said form heard.old.items new heard.new.items) }
+) -> Mem<ParserState>
+    ensures sound { IfOk result IsSoundState }
+    ensures parses { IfOk result
+        (λ new. StartsBody count len head form events.old.items new events.new.items) }
 {
-    tell_interim(alloc, heard, &said, form)?;
+    push_interim(alloc, events, &head, form)?;
     let payload = Payload::new(alloc, form);
     if payload.is_done() {
         let body = payload.body(alloc)?;
-        return finish(alloc, heard, count, said, body);
+        return push_request(alloc, events, count, head, body);
     }
-    Ok(Stage::Body(OpenBody {
-        said,
+    Ok(ParserState::Body(PartialBody {
+        head,
         payload,
         len,
         count,
     }))
 }
 
-/// What stands behind a head that says this.
-fn behind_head(
+/// The state after a head of `len` bytes, by the form of its body.
+fn frame_body(
     alloc: Global,
-    heard: &mut List<Heard>,
+    events: &mut List<Heard>,
     count: u64,
     len: usize,
-    said: RequestHead,
-) -> Mem<Stage>
-    ensures sound { IfOk result IsSound }
-    ensures goes { IfOk result (λ new. GoesBehindHead count len said heard.old.items new heard.new.items) }
+    head: RequestHead,
+) -> Mem<ParserState>
+    ensures sound { IfOk result IsSoundState }
+    ensures parses { IfOk result
+        (λ new. StepsAfterHead count len head events.old.items new events.new.items) }
 {
-    match framing(&said) {
-        Ok(form) => await_body(alloc, heard, count, len, said, form),
-        Err(FramingFault::Conflict) => refuse(alloc, heard, 400),
-        Err(FramingFault::Coding) => refuse(alloc, heard, 501),
-        Err(FramingFault::TooLarge) => refuse(alloc, heard, 413),
+    match framing(&head) {
+        Ok(form) => start_body(alloc, events, count, len, head, form),
+        Err(FramingFault::Conflict) => refuse(alloc, events, 400),
+        Err(FramingFault::Coding) => refuse(alloc, events, 501),
+        Err(FramingFault::TooLarge) => refuse(alloc, events, 413),
     }
 }
 
-/// What stands behind a whole head.
-fn whole_head(alloc: Global, heard: &mut List<Heard>, count: u64, head: &[u8]) -> Mem<Stage>
-    requires { head_end head.now ≡ end.Whole (length head.now) }
-    ensures sound { IfOk result IsSound }
-    ensures goes { IfOk result (λ new. GoesBehind count head.now heard.old.items new heard.new.items) }
+/// The state after the bytes of a complete head.
+fn parse_head(alloc: Global, events: &mut List<Heard>, count: u64, bytes: &[u8]) -> Mem<ParserState>
+    requires { head_end bytes.now ≡ end.Whole (length bytes.now) }
+    ensures sound { IfOk result IsSoundState }
+    ensures parses { IfOk result
+        (λ new. StepsAfter count bytes.now events.old.items new events.new.items) }
 {
-    match read_head(alloc, head) {
-        Ok(said) => {
-            let len = head.len() - blank_length(head);
-            behind_head(alloc, heard, count, len, said)
+    match read_head(alloc, bytes) {
+        Ok(head) => {
+            let len = bytes.len() - blank_length(bytes);
+            frame_body(alloc, events, count, len, head)
         }
-        Err(HeadFault::TooMany) => refuse(alloc, heard, 431),
-        Err(HeadFault::Malformed) => refuse(alloc, heard, 400),
-        Err(HeadFault::Host) => refuse(alloc, heard, 400),
+        Err(HeadFault::TooMany) => refuse(alloc, events, 431),
+        Err(HeadFault::Malformed) => refuse(alloc, events, 400),
+        Err(HeadFault::Host) => refuse(alloc, events, 400),
         Err(HeadFault::NoMemory) => Err(NoMemory),
     }
 }
 
-/// Reads on in a head of which nothing has come: how many bytes are read, and what stands behind them.
-fn fresh_head(
+/// Parses some bytes from the beginning of a head on: returns how many and the state after them.
+fn start_head(
     alloc: Global,
-    heard: &mut List<Heard>,
+    events: &mut List<Heard>,
     count: u64,
     bytes: &[u8],
-) -> Mem<(usize, Stage)>
+) -> Mem<(usize, ParserState)>
     requires { 0 < length bytes.now }
     ensures taken { IfOk result (λ r. (0 < r.0) × (r.0 ≤ length bytes.now)) }
-    ensures sound { IfOk result (λ r. IsSound r.1) }
-    ensures goes { IfOk result (λ r. GoesBehind count (take r.0 bytes.now) heard.old.items r.1 heard.new.items) }
+    ensures sound { IfOk result (λ r. IsSoundState r.1) }
+    ensures parses { IfOk result
+        (λ r. StepsAfter count (take r.0 bytes.now) events.old.items r.1 events.new.items) }
 {
     let mut search = HeadSearch::new();
     match search.scan(bytes) {
         HeadEnd::Whole(len) => {
-            let next = whole_head(alloc, heard, count, front(bytes, len))?;
+            let next = parse_head(alloc, events, count, prefix(bytes, len))?;
             Ok((len, next))
         }
         HeadEnd::TooLong => {
-            let next = refuse(alloc, heard, 431)?;
+            let next = refuse(alloc, events, 431)?;
             Ok((bytes.len(), next))
         }
         HeadEnd::NotYet => {
-            let bytes = Vec::from_slice(alloc, bytes)?;
-            let len = bytes.len();
-            let begun = OpenHead {
-                bytes,
-                search,
-                count,
-            };
-            Ok((len, Stage::Head(begun)))
-        }
-    }
-}
-
-/// The first so many bytes.
-fn front(bytes: &[u8], len: usize) -> &[u8]
-    requires { len ≤ length bytes.now }
-    ensures { result.now ≡ take len bytes.now }
-{
-    &bytes[..len]
-}
-
-/// At most so many bytes of the front.
-fn up_to(bytes: &[u8], most: usize) -> &[u8]
-    ensures bytes { result.now ≡ take most bytes.now }
-    ensures len { length result.now ≡ min most (length bytes.now) }
-{
-    if bytes.len() > most {
-        front(bytes, most)
-    } else {
-        bytes
-    }
-}
-
-/// Reads on in a head of which some bytes have come: how many more are read, and what stands behind them.
-fn kept_head(
-    alloc: Global,
-    heard: &mut List<Heard>,
-    begun: OpenHead,
-    bytes: &[u8],
-) -> Mem<(usize, Stage)>
-    requires some { 0 < length bytes.now }
-    requires sound { IsSound (stage.Head begun) }
-    ensures taken { IfOk result (λ r. (0 < r.0) × (r.0 ≤ length bytes.now)) }
-    ensures sound { IfOk result (λ r. IsSound r.1) }
-    ensures goes { IfOk result (λ r. GoesBehind begun.count (begun.bytes.items ++ take r.0 bytes.now) heard.old.items r.1 heard.new.items) }
-{
-    let OpenHead {
-        bytes: mut head,
-        mut search,
-        count,
-    } = begun;
-    let kept = head.len();
-    let window = up_to(bytes, HEAD_LIMIT.saturating_sub(kept));
-    head.extend_from_slice(window)?;
-    match search.scan(head.as_slice()) {
-        HeadEnd::Whole(len) => {
-            let next = whole_head(alloc, heard, count, front(head.as_slice(), len))?;
-            Ok((len - kept, next))
-        }
-        HeadEnd::TooLong => {
-            let next = refuse(alloc, heard, 431)?;
-            Ok((window.len(), next))
-        }
-        HeadEnd::NotYet => {
-            let begun = OpenHead {
+            let mut head = BytesBuilder::new(alloc);
+            head.append(alloc, bytes)?;
+            let partial = PartialHead {
                 bytes: head,
                 search,
                 count,
             };
-            Ok((window.len(), Stage::Head(begun)))
+            Ok((bytes.len(), ParserState::Head(partial)))
         }
     }
 }
 
-/// Reads on in a head: how many bytes are read, and where that ends.
+/// Parses some more bytes of a head that has begun: returns how many and the state after them.
+fn continue_head(
+    alloc: Global,
+    events: &mut List<Heard>,
+    partial: PartialHead,
+    bytes: &[u8],
+) -> Mem<(usize, ParserState)>
+    requires some { 0 < length bytes.now }
+    requires sound { IsSoundState (state.Head partial) }
+    ensures taken { IfOk result (λ r. (0 < r.0) × (r.0 ≤ length bytes.now)) }
+    ensures sound { IfOk result (λ r. IsSoundState r.1) }
+    ensures parses { IfOk result (λ r. StepsAfter partial.count (partial.bytes
+        ++ take r.0 bytes.now)
+        events.old.items r.1 events.new.items) }
+{
+    let PartialHead {
+        bytes: mut head,
+        mut search,
+        count,
+    } = partial;
+    let kept = head.len();
+    let window = prefix_up_to(bytes, HEAD_LIMIT.saturating_sub(kept));
+    head.append(alloc, window)?;
+    match search.scan(head.as_slice()) {
+        HeadEnd::Whole(len) => {
+            let next = parse_head(alloc, events, count, prefix(head.as_slice(), len))?;
+            Ok((len - kept, next))
+        }
+        HeadEnd::TooLong => {
+            let next = refuse(alloc, events, 431)?;
+            Ok((window.len(), next))
+        }
+        HeadEnd::NotYet => {
+            let partial = PartialHead {
+                bytes: head,
+                search,
+                count,
+            };
+            Ok((window.len(), ParserState::Head(partial)))
+        }
+    }
+}
+
+/// Parses some bytes of a head: returns how many and the state after them.
 pub(crate) fn head_step(
     alloc: Global,
-    heard: &mut List<Heard>,
-    begun: OpenHead,
+    events: &mut List<Heard>,
+    partial: PartialHead,
     bytes: &[u8],
-) -> Mem<(usize, Stage)>
+) -> Mem<(usize, ParserState)>
     requires some { 0 < length bytes.now }
-    requires sound { IsSound (stage.Head begun) }
+    requires sound { IsSoundState (state.Head partial) }
     ensures taken { IfOk result (λ r. (0 < r.0) × (r.0 ≤ length bytes.now)) }
-    ensures sound { IfOk result (λ r. IsSound r.1) }
-    ensures goes { IfOk result (λ r. Goes (stage.Head begun) heard.old.items (take r.0 bytes.now) r.1 heard.new.items) }
+    ensures sound { IfOk result (λ r. IsSoundState r.1) }
+    ensures parses { IfOk result
+        (λ r. StepsTo (state.Head partial) events.old.items (take r.0 bytes.now)
+        r.1 events.new.items) }
 {
-    if begun.bytes.is_empty() {
-        fresh_head(alloc, heard, begun.count, bytes)
+    if partial.bytes.is_empty() {
+        start_head(alloc, events, partial.count, bytes)
     } else {
-        kept_head(alloc, heard, begun, bytes)
+        continue_head(alloc, events, partial, bytes)
     }
 }

@@ -1,22 +1,54 @@
-//! Laws of messages. Each is the contract of a function that does nothing.
+//! Laws of the messages of a text. Each is the contract of a function that does nothing.
 
 ghost use Rattle.std.specs.Prelude.{◌≡◌, ◌++◌, List, ℕ};
+ghost use Rattle.std.specs.List.{AllByRecursion};
+ghost use mathlib.Core.List.{IsPrefix};
 ghost use Rattle.pod_base.specs.declared.heard.Heard.{Heard};
-ghost use Rattle.http_conn.specs.Messages.{EndsThere, FirstHeard, Messages};
+ghost use Rattle.pod_base.specs.declared.request.Request.{Request};
+ghost use Rattle.http_conn.specs.Messages.{AreFirstEvents, HasRefusalStatus, IsBadMessage};
+ghost use Rattle.http_conn.specs.Messages.{Messages, NothingAfterEnd, Requests, StaysOpen};
 
-/// A text has one reading: one list of what is heard, and one rest.
-pub fn one_reading()
-    ensures { (text : List ℕ) (one other : List Heard) (rest left : ℕ) → Messages text one rest → Messages text other left
-        → (one ≡ other) × (rest ≡ left) }
+/// A text has at most one parse: one list of events, and one rest.
+pub fn one_parse()
+    ensures { (text : List ℕ) (one other : List Heard) (rest left : ℕ) → Messages text one rest
+        → Messages text other left → (one ≡ other) × (rest ≡ left) }
 {}
 
-/// Nothing is heard behind a request that closes, behind the 10,000th, and behind a refusal.
-pub fn nothing_behind_an_end()
-    ensures { (text : List ℕ) (hears : List Heard) (rest : ℕ) → Messages text hears rest → EndsThere 0 hears }
+/// No text lacks a parse.
+pub fn some_parse()
+    ensures { (text : List ℕ)
+        → ((events : List Heard) (rest : ℕ) → Messages text events rest → ⊥) → ⊥ }
 {}
 
-/// What is heard in a front of a text is heard first in the text: a piece that comes later takes nothing back.
-pub fn heard_first()
-    ensures { (text : List ℕ) (hears all : List Heard) (rest : ℕ) → FirstHeard text hears → Messages text all rest
-        → (more : List Heard) × (all ≡ hears ++ more) }
+/// No event follows a request that closes the connection, the 10,000th request, and a refusal.
+pub fn nothing_after_an_end()
+    ensures { (text : List ℕ) (events : List Heard) (rest : ℕ) → Messages text events rest
+        → NothingAfterEnd 0 events }
+{}
+
+/// No message is unfinished after one of those ends.
+pub fn rest_is_0_after_an_end()
+    ensures { (text : List ℕ) (events : List Heard) (rest : ℕ) → Messages text events rest
+        → (StaysOpen 0 events → ⊥) → rest ≡ 0 }
+{}
+
+/// A malformed message is refused with 400, 413, 431 or 501, and with no other status.
+pub fn refusal_statuses()
+    ensures { (text : List ℕ) (events : List Heard) (rest : ℕ) → Messages text events rest
+        → AllByRecursion HasRefusalStatus events }
+{}
+
+/// Complete requests stay what they are, whatever follows, and so does a malformed message.
+pub fn complete_messages_stay()
+    ensures requests { (text left more : List ℕ) (requests : List Request)
+        → Requests text requests left → Requests (text ++ more) requests (left ++ more) }
+    ensures malformed { (text more : List ℕ) (events : List Heard) (status : ℕ)
+        → IsBadMessage text events status → IsBadMessage (text ++ more) events status }
+{}
+
+/// The events of a prefix of a text are the first events of the text: a piece that comes later
+/// takes nothing back.
+pub fn events_stay()
+    ensures { (text : List ℕ) (events all : List Heard) (rest : ℕ) → AreFirstEvents text events
+        → Messages text all rest → IsPrefix events all }
 {}

@@ -109,3 +109,15 @@ impl HeadSearch {
         length
     }
 }
+
+impl HeadSearch {
+    /// A search that has seen as much.
+    pub fn copy(&self) -> HeadSearch
+        ensures { result ≡ self.now }
+    {
+        HeadSearch {
+            at: self.at,
+            begun: self.begun,
+        }
+    }
+}

@@ -1,6 +1,9 @@
 //! A parsed head, and why there is none.
 
-use pod_base::{Bytes, Fields, Method};
+ghost use Rattle.std.specs.Prelude.{◌≡◌, IfOk};
+
+use pod_base::{Bytes, Fields, Mem, Method};
+use std::alloc::Global;
 use thiserror::Error;
 
 /// The head of a request (RFC 9112, sections 3 and 5).
@@ -33,4 +36,20 @@ pub enum HeadFault {
     /// Out of memory.
     #[error("out of memory")]
     NoMemory,
+}
+
+impl RequestHead {
+    /// An equal head, which shares its block of memory.
+    pub fn copy(&self, alloc: Global) -> Mem<RequestHead>
+        ensures { IfOk result (λ copy. copy ≡ self.now) }
+    {
+        let target = self.target.copy(alloc)?;
+        let fields = self.fields.copy(alloc)?;
+        Ok(RequestHead {
+            method: self.method,
+            target,
+            minor: self.minor,
+            fields,
+        })
+    }
 }

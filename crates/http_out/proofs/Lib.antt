@@ -1,1 +1,2 @@
-pub mod PieceLemmas
+-- internal
+pub mod SegmentLemmas

@@ -1,3 +1,5 @@
+-- what public clauses cite
 pub mod Dates
-pub mod Pieces
 pub mod Text
+-- internal: cited by private clauses alone
+pub mod Segments

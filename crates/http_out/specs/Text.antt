@@ -1,12 +1,12 @@
-use Rattle.std.specs.Prelude.{ℕ, Bool, ◌&&◌, ◌||◌, not, ◌==◌, if◌then◌else◌, List, [], ◌++◌, length, IsTrue, unwrap_or, codes, decimal}
+-- The bytes of a response (RFC 9112, sections 2 to 6).
+use Rattle.std.specs.Prelude.{◌≡◌, ℕ, Bool, ◌&&◌, ◌||◌, not, ◌==◌, nat_lt, if◌then◌else◌, List, []}
+use Rattle.std.specs.Prelude.{◌++◌, length, IsTrue, unwrap_or, codes, decimal}
 use Rattle.std.specs.List.{flat_map, list_all}
 use Rattle.http.specs.StatusCode.{reason_phrase, code_digits}
 use Rattle.pod_base.specs.declared.field.Field.{Field}
 use Rattle.pod_base.specs.declared.response.Response.{Response}
 use Rattle.pod_base.specs.declared.response.Body.{Body}
 use Rattle.pod_base.specs.declared.response.Body.TheVariants.{Absent, Whole, LengthOnly}
-
--- The bytes of a response (RFC 9112, sections 2 to 5).
 
 -- a line and its end
 abbrev pub line : List ℕ → List ℕ
@@ -29,43 +29,59 @@ field_lines fields = flat_map (λ f. field_line f.name f.value) fields
 
 -- The connection closes after this response. An upgraded connection says so otherwise.
 abbrev pub closing_line : ℕ → Bool → List ℕ
-closing_line status close = if close then (if status == 101 then [] else field_line (codes "Connection") (codes "close")) else []
+closing_line status close =
+    if close then (if status == 101 then [] else field_line (codes "Connection") (codes "close"))
+    else []
 
--- whether a response of this status has no body and no length: 101, 204 and 304
+-- A response of this status has no length and no body: 1xx, 204 and 304 (RFC 9112, section 6.3).
 abbrev pub has_no_length : ℕ → Bool
-has_no_length status = status == 101 || (status == 204 || status == 304)
+has_no_length status = nat_lt status 200 || (status == 204 || status == 304)
 
--- the length that a response tells of its body
+-- the length of a response's body
 abbrev pub body_length : Body → ℕ
 body_length Absent = 0
 body_length (Whole bytes) = length bytes
-body_length (LengthOnly told) = told
+body_length (LengthOnly only) = only
 
 abbrev pub length_line : Response → List ℕ
 length_line response =
-    if has_no_length response.status then [] else field_line (codes "Content-Length") (decimal (body_length response.body))
+    if has_no_length response.status then []
+    else field_line (codes "Content-Length") (decimal (body_length response.body))
 
--- the bytes of the body that are sent
-abbrev pub body_text : Body → List ℕ
-body_text Absent = []
-body_text (Whole bytes) = bytes
-body_text (LengthOnly told) = []
+-- the bytes of a body that are sent
+abbrev pub body_bytes : Body → List ℕ
+body_bytes Absent = []
+body_bytes (Whole bytes) = bytes
+body_bytes (LengthOnly only) = []
 
--- status line, date, the response's fields, the closing of the connection, the length and an empty line
-abbrev pub head_text : Response → List ℕ → Bool → List ℕ
-head_text response date close =
+-- the bytes of a response's body: none, whatever its body, where its status has no length
+abbrev pub body_text : Response → List ℕ
+body_text response = if has_no_length response.status then [] else body_bytes response.body
+
+-- The bytes of a response with that date: the status line, the date, the response's own fields, the
+-- closing of the connection, the length, an empty line and the body.
+abbrev pub response_text : Response → List ℕ → Bool → List ℕ
+response_text response date close =
     status_line response.status ++ field_line (codes "Date") date ++ field_lines response.fields
     ++ closing_line response.status close ++ length_line response ++ codes "\r\n"
+    ++ body_text response
 
--- the bytes of a response with that date
-abbrev pub response_text : Response → List ℕ → Bool → List ℕ
-response_text response date close = head_text response date close ++ body_text response.body
+-- the same response without a body
+abbrev pub without_body : Response → Response
+without_body response = record { status = response.status; fields = response.fields; body = Absent }
 
--- the interim answer to a request that waits before it sends its body
+-- Where the status has no length, the bytes are those without a body, whatever the response's body
+-- is.
+abbrev pub NoBodyWithoutLength : Type 0
+NoBodyWithoutLength =
+    (response : Response) (date : List ℕ) (close : Bool) → IsTrue (has_no_length response.status)
+    → response_text response date close ≡ response_text (without_body response) date close
+
+-- the interim answer to a request that waits before it sends its body (RFC 9110, section 15.2.1)
 abbrev pub interim_text : List ℕ
 interim_text = codes "HTTP/1.1 100 Continue\r\n\r\n"
 
--- the answer to a request for which no memory was left
+-- the answer to a request that met no memory
 abbrev pub memory_text : List ℕ
 memory_text = codes "HTTP/1.1 503 Service Unavailable\r\nContent-Length: 0\r\n\r\n"
 
@@ -73,7 +89,7 @@ memory_text = codes "HTTP/1.1 503 Service Unavailable\r\nContent-Length: 0\r\n\r
 abbrev pub disk_text : List ℕ
 disk_text = codes "HTTP/1.1 500 Internal Server Error\r\nContent-Length: 0\r\n\r\n"
 
--- whether a byte may stand within a line: it is no NUL, no LF and no CR
+-- whether a byte may be part of a line: it is no NUL, no LF and no CR
 abbrev pub stays_in_line : ℕ → Bool
 stays_in_line b = not (b == 0 || (b == 10 || b == 13))
 

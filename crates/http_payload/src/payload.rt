@@ -149,3 +149,18 @@ impl Payload {
         }
     }
 }
+
+impl Payload {
+    /// A body in the same state: what it is fed doesn't change this one.
+    pub fn copy(&self, alloc: Global) -> Mem<Payload>
+        ensures { IfOk result (λ copy. copy ≡ self.now) }
+    {
+        let line = Vec::from_slice(alloc, self.line.as_slice())?;
+        let body = Vec::from_slice(alloc, self.body.as_slice())?;
+        Ok(Payload {
+            stage: self.stage,
+            line,
+            body,
+        })
+    }
+}

@@ -6,7 +6,7 @@ use Rattle.http_out.specs.Text.{interim_text}
 use Rattle.pod_base.specs.declared.request.Request.{Request}
 use Rattle.pod_base.specs.declared.heard.Heard.{Heard}
 use Rattle.pod_base.specs.declared.heard.Heard.TheVariants as heard
-use Rattle.http_conn.specs.Messages.{IsEnd, EndsThere, StaysOpen}
+use Rattle.http_conn.specs.Messages.{IsLastRequest, NothingAfterEnd, StaysOpen}
 use Rattle.pod_tool.specs.Fresh.{fresh_service}
 use Rattle.pod_tool.specs.Output.{item_text, output_of}
 use Rattle.pod_tool.specs.Session.{Outcome, answered, no_memory, disk_fault, Item, upgrades, requests_of, bad_status}
@@ -38,15 +38,15 @@ stays_append count (heard.Interim ∷ before) hears h k = stays_append count bef
 stays_append count (heard.Bad status ∷ before) hears h k = absurd h
 
 -- a last request ends what is heard
-pub last_ends : (count : ℕ) (before : List Heard) (r : Request) → IsEnd (count + length (requests_of before)) r → StaysOpen count (before ++ heard.Request r ∷ []) → ⊥
-last_ends count [] r e h = h.0 (subst (λ n. IsEnd n r) (omega arith) e)
-last_ends count (heard.Request q ∷ before) r e h = last_ends (count + 1) before r (subst (λ n. IsEnd n r) (omega arith) e) h.1
+pub last_ends : (count : ℕ) (before : List Heard) (r : Request) → IsLastRequest (count + length (requests_of before)) r → StaysOpen count (before ++ heard.Request r ∷ []) → ⊥
+last_ends count [] r e h = h.0 (subst (λ n. IsLastRequest n r) (omega arith) e)
+last_ends count (heard.Request q ∷ before) r e h = last_ends (count + 1) before r (subst (λ n. IsLastRequest n r) (omega arith) e) h.1
 last_ends count (heard.Interim ∷ before) r e h = last_ends count before r e h
 last_ends count (heard.Bad status ∷ before) r e h = h
 
-pub ends_behind : (count : ℕ) (before hears : List Heard) → StaysOpen count before → EndsThere count (before ++ hears) → EndsThere (count + length (requests_of before)) hears
-ends_behind count [] hears h e = subst (λ n. EndsThere n hears) (omega arith) e
-ends_behind count (heard.Request r ∷ before) hears h e = subst (λ n. EndsThere n hears) (omega arith) (ends_behind (count + 1) before hears h.1 e.1)
+pub ends_behind : (count : ℕ) (before hears : List Heard) → StaysOpen count before → NothingAfterEnd count (before ++ hears) → NothingAfterEnd (count + length (requests_of before)) hears
+ends_behind count [] hears h e = subst (λ n. NothingAfterEnd n hears) (omega arith) e
+ends_behind count (heard.Request r ∷ before) hears h e = subst (λ n. NothingAfterEnd n hears) (omega arith) (ends_behind (count + 1) before hears h.1 e.1)
 ends_behind count (heard.Interim ∷ before) hears h e = ends_behind count before hears h e
 ends_behind count (heard.Bad status ∷ before) hears h e = absurd h
 
@@ -55,10 +55,10 @@ refused_behind [] hears h = h
 refused_behind (one ∷ before) hears h = refused_behind before hears h.1
 
 -- an end that is the last of one is heard there
-pub ends_next : (count : ℕ) (one : Heard) (more : List Heard) → EndsThere count (one ∷ more) → EndsThere (count + length (requests_of (one ∷ []))) more
+pub ends_next : (count : ℕ) (one : Heard) (more : List Heard) → NothingAfterEnd count (one ∷ more) → NothingAfterEnd (count + length (requests_of (one ∷ []))) more
 ends_next count (heard.Request r) more e = e.1
-ends_next count heard.Interim more e = subst (λ n. EndsThere n more) (omega arith) e
-ends_next count (heard.Bad status) more e = subst (EndsThere (count + 0)) (sym e) tt
+ends_next count heard.Interim more e = subst (λ n. NothingAfterEnd n more) (omega arith) e
+ends_next count (heard.Bad status) more e = subst (NothingAfterEnd (count + 0)) (sym e) tt
 
 -- what was written of what was heard, and then of what is heard behind it
 pub output_grows : (count : ℕ) (before hears : List Heard) (items more : List Item) (refusal : Option Dated) → StaysOpen count before → AllByRecursion IsPlain items → length items ≡ length (requests_of before)

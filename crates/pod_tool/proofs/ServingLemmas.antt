@@ -3,12 +3,12 @@ use Rattle.std.proofs.Common.{◌≡◌, inl, inr, ℕ, ◌+◌, ◌<◌, ◌≤
 use Rattle.std.specs.List.{AllByRecursion, list_all}
 use Rattle.std.proofs.lemmas.Bool.Decides.{nat_tests}
 use Rattle.std.proofs.lemmas.List.{append-nil}
-use Rattle.http_conn.specs.Messages.{Messages, unfinished, in_head, FirstHeard, EndsThere, StaysOpen}
-use Rattle.http_conn.specs.Held.{Stands, rest_of}
-use Rattle.http_conn.specs.declared.stage.Stage.{Stage}
-use Rattle.http_conn.proofs.Endings.{ends_there, ended_rest}
-use Rattle.http_conn.proofs.Growing.{first_stays_first}
-use Rattle.http_conn.proofs.Reading.{stands_messages}
+use Rattle.http_conn.specs.Messages.{Messages, unfinished, in_head, AreFirstEvents, NothingAfterEnd, StaysOpen}
+use Rattle.http_conn.specs.ParserStates.{Represents, rest_of}
+use Rattle.http_conn.specs.declared.parser_state.ParserState.{ParserState}
+use Rattle.http_conn.proofs.EndLemmas.{ends_there, ended_rest}
+use Rattle.http_conn.proofs.LongerTexts.{events_stay_first}
+use Rattle.http_conn.proofs.StepLemmas.{represents_messages}
 use Rattle.http_out.specs.Text.{stays_in_line}
 use Rattle.pod_base.specs.declared.heard.Heard.{Heard}
 use Rattle.pod_core.specs.State.{State}
@@ -29,12 +29,12 @@ use Rattle.pod_tool.proofs.RefusedLemmas.{are_refused}
 use Rattle.pod_tool.proofs.TalksLemmas.{nothing_added, adds_more, stops_before, serves_before}
 
 -- What was read so far was answered, and the connection is open.
-pub record Serving (may_give : ℕ → Type 0) (owner : List ℕ) (stage : Stage) (talk : Talk) (old_input new_input old_output new_output : Option (List ℕ)) (pieces : ℕ) : Type 0 where
+pub record Serving (may_give : ℕ → Type 0) (owner : List ℕ) (stage : ParserState) (talk : Talk) (old_input new_input old_output new_output : Option (List ℕ)) (pieces : ℕ) : Type 0 where
   pub text : List ℕ
   pub heard : List Heard
   pub written : List ℕ
   pub reads : Reads text old_input new_input
-  pub stands : Stands stage text heard
+  pub stands : Represents stage text heard
   pub talks : Talks may_give owner talk heard written
   pub sound : IsSound talk
   pub writes : Adds written old_output new_output
@@ -44,7 +44,7 @@ pub nothing_read : (rest : Option (List ℕ)) → Reads [] rest rest
 nothing_read None = refl
 nothing_read (Some bytes) = refl
 
-pub begins : (may_give : ℕ → Type 0) (stage : Stage) (keeper : Keeper) (input output : Option (List ℕ)) → IsNew keeper → Stands stage [] []
+pub begins : (may_give : ℕ → Type 0) (stage : ParserState) (keeper : Keeper) (input output : Option (List ℕ)) → IsNew keeper → Represents stage [] []
     → Serving may_give keeper.pod.owner stage (record { keeper = keeper; number = 0 }) input input output output 0
 begins may_give stage keeper input output new stands = record {
   text = [];
@@ -67,19 +67,21 @@ begins may_give stage keeper input output new stands = record {
 }
 
 -- what is heard in a front is heard first in the whole
-hears_first : (text : List ℕ) (hears : List Heard) → FirstHeard text hears → HearsFirst text hears
-hears_first text hears f = record { front = f; whole = λ all rest m. first_stays_first text hears all rest f m }
+hears_first : (text : List ℕ) (hears : List Heard) → AreFirstEvents text hears → HearsFirst text hears
+hears_first text hears f = record { front = f; whole = λ all rest m.
+    let first = events_stay_first text hears all rest f m in
+    (first.0, sym first.1) }
 
 -- what is heard first in a text and more
 first_heard : (text more : List ℕ) (hears those : List Heard) (rest : ℕ) → Messages text (hears ++ those) rest → HearsFirst (text ++ more) hears
-first_heard text more hears those rest m = hears_first (text ++ more) hears (record { front = text; behind = more; cut = refl; all = hears ++ those; rest = rest; messages = m; more = those; is = refl })
+first_heard text more hears those rest m = hears_first (text ++ more) hears (record { prefix = text; is_prefix = (more, refl); all = hears ++ those; rest = rest; messages = m; first = (those, sym (refl)) })
 
 all_first : (text : List ℕ) (hears : List Heard) (rest : ℕ) → Messages text hears rest → HearsFirst text hears
-all_first text hears rest m = hears_first text hears (record { front = text; behind = []; cut = append-nil text; all = hears; rest = rest; messages = m; more = []; is = sym (append-nil hears) })
+all_first text hears rest m = hears_first text hears (record { prefix = text; is_prefix = ([], append-nil text); all = hears; rest = rest; messages = m; first = ([], sym (sym (append-nil hears))) })
 
-module _ (may_give : ℕ → Type 0) (owner : List ℕ) (stage : Stage) (talk : Talk) (old_input new_input old_output new_output : Option (List ℕ)) (pieces : ℕ) (s : Serving may_give owner stage talk old_input new_input old_output new_output pieces) where
+module _ (may_give : ℕ → Type 0) (owner : List ℕ) (stage : ParserState) (talk : Talk) (old_input new_input old_output new_output : Option (List ℕ)) (pieces : ℕ) (s : Serving may_give owner stage talk old_input new_input old_output new_output pieces) where
   messages : Messages s.text s.heard (rest_of stage)
-  messages = stands_messages stage s.text s.heard s.stands
+  messages = represents_messages stage s.text s.heard s.stands
 
   -- a read failed
   pub read_fault : (last : Option (List ℕ)) → last ≡ new_input → Pipes may_give owner ReadFault old_input last old_output new_output
@@ -153,19 +155,19 @@ module _ (may_give : ℕ → Type 0) (owner : List ℕ) (stage : Stage) (talk : 
       writes = s.writes;
     }
 
-    module _ (next : Stage) (those : List Heard) (rest : ℕ) (m : Messages (s.text ++ piece) (s.heard ++ those) rest) where
+    module _ (next : ParserState) (those : List Heard) (rest : ℕ) (m : Messages (s.text ++ piece) (s.heard ++ those) rest) where
       count_is : 0 + length (requests_of s.heard) ≡ talk.number
       count_is = omega (arith, s.talks.number, all_have_items may_give owner (requests_of s.heard) s.talks.items s.talks.history s.talks.progress)
 
       -- what the piece says ends where the connection does
-      pub ends : EndsThere talk.number those
-      ends = subst (λ n. EndsThere n those) count_is (ends_behind 0 s.heard those s.talks.stays (ends_there (s.text ++ piece) (s.heard ++ those) rest m))
+      pub ends : NothingAfterEnd talk.number those
+      ends = subst (λ n. NothingAfterEnd n those) count_is (ends_behind 0 s.heard those s.talks.stays (ends_there (s.text ++ piece) (s.heard ++ those) rest m))
 
       pub statuses : AllByRecursion IsRefused those
       statuses = refused_behind s.heard those (are_refused (s.text ++ piece) (s.heard ++ those) rest m)
 
       -- all of it was answered
-      pub goes_on : Stands next (s.text ++ piece) (s.heard ++ those) → (after : Talk) (text : List ℕ) (output : Option (List ℕ)) → Adds text new_output output
+      pub goes_on : Represents next (s.text ++ piece) (s.heard ++ those) → (after : Talk) (text : List ℕ) (output : Option (List ℕ)) → Adds text new_output output
           → TurnsIn may_give talk after those text (Ok tt) → IsSound after → 0 < length piece → Serving may_give owner next after old_input last_input old_output output (pieces + 1)
       goes_on stands after text output adds t sound some =
           let whole : t.front ≡ those = sym (append-nil t.front) ∙ ap (λ b. t.front ++ b) (sym t.over) ∙ t.cut in
@@ -208,16 +210,14 @@ module _ (may_give : ℕ → Type 0) (owner : List ℕ) (stage : Stage) (talk : 
           longer : (front behind : List Heard) → front ++ behind ≡ those → s.heard ++ those ≡ (s.heard ++ front) ++ behind
           longer front behind cut = ap (λ h. s.heard ++ h) (sym cut) ∙ sym (append_assoc s.heard front behind)
 
-          first_of : (front behind : List Heard) → front ++ behind ≡ those → FirstHeard (s.text ++ piece) (s.heard ++ front)
+          first_of : (front behind : List Heard) → front ++ behind ≡ those → AreFirstEvents (s.text ++ piece) (s.heard ++ front)
           first_of front behind cut = record {
-            front = s.text ++ piece;
-            behind = [];
-            cut = append-nil (s.text ++ piece);
+            prefix = s.text ++ piece;
+            is_prefix = ([], append-nil (s.text ++ piece));
             all = s.heard ++ those;
             rest = rest;
             messages = m;
-            more = behind;
-            is = longer front behind cut;
+            first = (behind, sym (longer front behind cut));
           }
 
           heard_so : (end : PipeEnd) (front behind : List Heard) → front ++ behind ≡ those → IsAll behind (Err end) → Ends may_give owner end (s.heard ++ front) (s.written ++ text)

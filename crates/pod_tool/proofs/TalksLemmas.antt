@@ -5,7 +5,8 @@ use Rattle.std.specs.List.{AllByRecursion, list_all}
 use Rattle.std.proofs.lemmas.Bool.{or_cases, or_parts}
 use Rattle.std.proofs.lemmas.Bool.Decides.{nat_tests}
 use Rattle.std.proofs.lemmas.List.{append-nil, take-append-drop}
-use Rattle.http_conn.specs.Messages.{IsEnd, EndsThere, StaysOpen, closes_behind, most_requests}
+use Rattle.http_conn.specs.Messages.{IsLastRequest, NothingAfterEnd, StaysOpen, closes_connection}
+use Rattle.http_conn.specs.declared.events.TheConstants.{REQUEST_LIMIT}
 use Rattle.http_out.specs.Dates.{Dated}
 use Rattle.http_out.specs.Text.{stays_in_line, interim_text}
 use Rattle.pod_base.specs.declared.request.Request.{Request}
@@ -59,8 +60,8 @@ base_kept may_give old new request number bytes (inr s) = ap (λ (k : Keeper). k
 pub stays_sound : (may_give : ℕ → Type 0) (old : Talk) (after : Keeper) (request : Request) (bytes : List ℕ) → IsSound old → Turned may_give old.keeper after request (old.number + 1) bytes → closes_after request (old.number + 1) ≡ false
     → IsSound (record { keeper = after; number = old.number + 1 })
 stays_sound may_give old after request bytes s t h =
-    let parts = or_parts (closes_behind request) (old.number + 1 == most_requests) h in
-    let other : old.number + 1 ≡ most_requests → ⊥ = λ e. grind (arith, nat_tests) in
+    let parts = or_parts (closes_connection request) (old.number + 1 == REQUEST_LIMIT) h in
+    let other : old.number + 1 ≡ REQUEST_LIMIT → ⊥ = λ e. grind (arith, nat_tests) in
     record {
       few = omega (arith, s.few, other);
       room = omega (arith, s.room, next_at_most may_give old.keeper after request (old.number + 1) bytes t);
@@ -68,18 +69,18 @@ stays_sound may_give old after request bytes s t h =
     }
 
 -- a request is the last exactly where the connection closes behind it
-pub end_of : (count : ℕ) (request : Request) → closes_after request (count + 1) ≡ true → IsEnd count request
-end_of count request h = elim (or_cases (closes_behind request) (count + 1 == most_requests) h) [
+pub end_of : (count : ℕ) (request : Request) → closes_after request (count + 1) ≡ true → IsLastRequest count request
+end_of count request h = elim (or_cases (closes_connection request) (count + 1 == REQUEST_LIMIT) h) [
   | inl closing ↦ inl closing
   | inr many ↦ inr (grind (arith, nat_tests, many))
 ]
 
-pub no_end_of : (count : ℕ) (request : Request) → closes_after request (count + 1) ≡ false → IsEnd count request → ⊥
+pub no_end_of : (count : ℕ) (request : Request) → closes_after request (count + 1) ≡ false → IsLastRequest count request → ⊥
 no_end_of count request h (inl closing) =
-    let parts = or_parts (closes_behind request) (count + 1 == most_requests) h in
+    let parts = or_parts (closes_connection request) (count + 1 == REQUEST_LIMIT) h in
     cc
 no_end_of count request h (inr many) =
-    let parts = or_parts (closes_behind request) (count + 1 == most_requests) h in
+    let parts = or_parts (closes_connection request) (count + 1 == REQUEST_LIMIT) h in
     grind (arith, nat_tests)
 
 module _ (may_give : ℕ → Type 0) (owner : List ℕ) (talk : Talk) (before : List Heard) (written : List ℕ) (t : Talks may_give owner talk before written) where
@@ -199,7 +200,7 @@ module _ (may_give : ℕ → Type 0) (owner : List ℕ) (talk : Talk) (before : 
       keeps = next.keeps;
       number = number;
       stays = stays_append 0 before (heard.Request request ∷ []) t.stays
-          ((λ e. no_end_of talk.number request open_still (subst (λ n. IsEnd n request) count_is e)), tt);
+          ((λ e. no_end_of talk.number request open_still (subst (λ n. IsLastRequest n request) count_is e)), tt);
       output = output;
     }
 
@@ -207,19 +208,19 @@ module _ (may_give : ℕ → Type 0) (owner : List ℕ) (talk : Talk) (before : 
     served = serves may_give owner all_heard (t.items ++ next.item ∷ []) next.history (written ++ bytes) progress no_bad output
 
     not_open : closes_after request (talk.number + 1) ≡ true → StaysOpen 0 all_heard → ⊥
-    not_open last = last_ends 0 before request (subst (λ n. IsEnd n request) (sym count_is) (end_of talk.number request last))
+    not_open last = last_ends 0 before request (subst (λ n. IsLastRequest n request) (sym count_is) (end_of talk.number request last))
 
     requests_count : length (requests_of all_heard) ≡ talk.number + 1
     requests_count = ap length asked ∙ omega (arith, count_is, length-append (requests_of before) (request ∷ []))
 
     -- it is the last
-    pub ends_last : closes_after request (talk.number + 1) ≡ true → talk.number < most_requests → Ends may_give owner (if talk.number + 1 == most_requests then Limit else Closed) all_heard (written ++ bytes)
-    ends_last last few = elim (talk.number + 1 == most_requests) as (λ b. (talk.number + 1 == most_requests) ≡ b → Ends may_give owner (if b then Limit else Closed) all_heard (written ++ bytes)) [
+    pub ends_last : closes_after request (talk.number + 1) ≡ true → talk.number < REQUEST_LIMIT → Ends may_give owner (if talk.number + 1 == REQUEST_LIMIT then Limit else Closed) all_heard (written ++ bytes)
+    ends_last last few = elim (talk.number + 1 == REQUEST_LIMIT) as (λ b. (talk.number + 1 == REQUEST_LIMIT) ≡ b → Ends may_give owner (if b then Limit else Closed) all_heard (written ++ bytes)) [
       | true ↦ λ e.
-          let most : talk.number + 1 ≡ most_requests = grind (arith, nat_tests) in
+          let most : talk.number + 1 ≡ REQUEST_LIMIT = grind (arith, nat_tests) in
           (served, not_open last, requests_count ∙ most, no_bad)
       | false ↦ λ e.
-          let other : talk.number + 1 ≡ most_requests → ⊥ = λ same. grind (arith, nat_tests) in
+          let other : talk.number + 1 ≡ REQUEST_LIMIT → ⊥ = λ same. grind (arith, nat_tests) in
           (served, not_open last, omega (arith, requests_count, few, other), no_bad)
     ] refl
 
@@ -253,9 +254,9 @@ refused_ends may_give talk after status ReadFault old new r = absurd r
 refused_ends may_give talk after status Bounded old new r = absurd r
 
 -- behind a last request comes nothing
-pub over_last : (count : ℕ) (request : Request) (end : PipeEnd) → end ≡ (if count + 1 == most_requests then Limit else Closed) → IsEnd count request → IsOver count (heard.Request request) end
+pub over_last : (count : ℕ) (request : Request) (end : PipeEnd) → end ≡ (if count + 1 == REQUEST_LIMIT then Limit else Closed) → IsLastRequest count request → IsOver count (heard.Request request) end
 over_last count request end is h = subst (IsOver count (heard.Request request)) (sym is)
-    (elim (count + 1 == most_requests) as (λ b. IsOver count (heard.Request request) (if b then Limit else Closed)) [ true ↦ h | false ↦ h ])
+    (elim (count + 1 == REQUEST_LIMIT) as (λ b. IsOver count (heard.Request request) (if b then Limit else Closed)) [ true ↦ h | false ↦ h ])
 
 -- how an invitation ends, behind whatever was heard
 pub invited_turns : (may_give : ℕ → Type 0) (talk : Talk) (result : Result (Unit {0}) PipeEnd) (old new : Option (List ℕ)) → Writes result interim_text old new → IfErr result (λ end. end ≡ WriteFault)
@@ -283,7 +284,7 @@ nothing_turned may_give talk = λ owner before written t.
     subst (λ w. Talks may_give owner talk (before ++ []) w) (sym (append-nil written)) (subst (λ x. Talks may_give owner talk x written) (sym (append-nil before)) t)
 
 -- where the connection ends with one thing that is heard, nothing is heard behind it, unless a fault ended it
-pub none_behind : (count : ℕ) (one : Heard) (more : List Heard) (end : PipeEnd) → EndsThere count (one ∷ more) → IsOver count one end → IsAll more (Err end)
+pub none_behind : (count : ℕ) (one : Heard) (more : List Heard) (end : PipeEnd) → NothingAfterEnd count (one ∷ more) → IsOver count one end → IsAll more (Err end)
 none_behind count (heard.Request r) more Closed e o = e.0 o
 none_behind count (heard.Request r) more Limit e o = e.0 o
 none_behind count (heard.Request r) more WriteFault e o = tt

@@ -1,5 +1,6 @@
 use Rattle.std.specs.Prelude.{ℕ, Bool, ◌==◌, ◌||◌, if◌then◌else◌, List, codes}
-use Rattle.http_conn.specs.Messages.{closes_behind, most_requests}
+use Rattle.http_conn.specs.Messages.{closes_connection}
+use Rattle.http_conn.specs.declared.events.TheConstants.{REQUEST_LIMIT}
 use Rattle.pod_base.specs.declared.request.Request.{Request}
 use Rattle.pod_base.specs.declared.response.Response.{Response}
 use Rattle.pod_core.specs.State.{State, new_pod, apply}
@@ -30,7 +31,7 @@ refusal_of status = refusal status (refusal_word status)
 
 -- whether the connection closes behind a request of that number: it asks for that, or it is the last that is heard
 abbrev pub closes_after : Request → ℕ → Bool
-closes_after request number = closes_behind request || number == most_requests
+closes_after request number = closes_connection request || number == REQUEST_LIMIT
 
 abbrev pub fresh_service : Service State Entry
 fresh_service = record {

@@ -1,5 +1,6 @@
 use Rattle.std.specs.Prelude.{◌≡◌, ◌⊎◌, ℕ, ◌^◌, ◌<◌, ◌≤◌, List, [], ◌++◌, length, take, Option, Some, None, codes, decimal}
-use Rattle.http_conn.specs.Messages.{Messages, FirstHeard, StaysOpen, most_requests}
+use Rattle.http_conn.specs.Messages.{Messages, AreFirstEvents, StaysOpen}
+use Rattle.http_conn.specs.declared.events.TheConstants.{REQUEST_LIMIT}
 use Rattle.pod_base.specs.declared.heard.Heard.{Heard}
 use Rattle.pod_base.specs.Counts.{CountIncreased}
 use Rattle.pod_tool.specs.Reads.{Reads, AtEnd}
@@ -31,7 +32,7 @@ Hears read heard = (all : List Heard) × (rest : ℕ) × Messages read all rest 
 
 -- what is heard in a front of the bytes begins so, and each reading of all of them does
 pub record HearsFirst (read : List ℕ) (heard : List Heard) : Type 0 where
-  pub front : FirstHeard read heard
+  pub front : AreFirstEvents read heard
   pub whole : (all : List Heard) (rest : ℕ) → Messages read all rest → (more : List Heard) × (all ≡ heard ++ more)
 
 -- What was heard in the bytes that were read, and what is left of them, by how the connection ended. For want of memory the
@@ -39,8 +40,8 @@ pub record HearsFirst (read : List ℕ) (heard : List Heard) : Type 0 where
 abbrev pub IsHeard : PipeEnd → List ℕ → List Heard → Option (List ℕ) → Type 0
 IsHeard Peer read heard left = Messages read heard 0 × StaysOpen 0 heard × AtEnd left
 IsHeard (Cut rest) read heard left = Messages read heard rest × (0 < rest) × StaysOpen 0 heard × AtEnd left
-IsHeard Closed read heard left = Messages read heard 0 × IsLastHeard heard × (length (requests_of heard) < most_requests)
-IsHeard Limit read heard left = Messages read heard 0 × IsLastHeard heard × (length (requests_of heard) ≡ most_requests)
+IsHeard Closed read heard left = Messages read heard 0 × IsLastHeard heard × (length (requests_of heard) < REQUEST_LIMIT)
+IsHeard Limit read heard left = Messages read heard 0 × IsLastHeard heard × (length (requests_of heard) ≡ REQUEST_LIMIT)
 IsHeard (Bad status) read heard left = Messages read heard 0 × (bad_status heard ≡ Some status)
 IsHeard ReadFault read heard left = (rest : ℕ) × Messages read heard rest × StaysOpen 0 heard
 IsHeard Bounded read heard left = (rest : ℕ) × Messages read heard rest × StaysOpen 0 heard × (2 ^ 40 ≤ length read)

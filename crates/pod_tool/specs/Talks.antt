@@ -1,6 +1,7 @@
 use Rattle.std.specs.Prelude.{◌≡◌, ◌==◌, ℕ, ◌≤◌, ◌<◌, IsTrue, false, List, [], ◌++◌, length, map, fold, take, Option, Some, None, Result, Ok, Err}
 use Rattle.std.specs.List.{AllByRecursion, flat_map, range_with_len, list_all}
-use Rattle.http_conn.specs.Messages.{IsEnd, StaysOpen, most_requests}
+use Rattle.http_conn.specs.Messages.{IsLastRequest, StaysOpen}
+use Rattle.http_conn.specs.declared.events.TheConstants.{REQUEST_LIMIT}
 use Rattle.http_out.specs.Dates.{Dated}
 use Rattle.http_out.specs.Text.{stays_in_line}
 use Rattle.pod_base.specs.declared.request.Request.{Request}
@@ -57,14 +58,14 @@ pub record Talks (may_give : ℕ → Type 0) (owner : List ℕ) (talk : Talk) (h
 
 -- what the code relies on between two things that are heard
 pub record IsSound (talk : Talk) : Type 0 where
-  pub few : talk.number < most_requests
+  pub few : talk.number < REQUEST_LIMIT
   pub room : talk.keeper.next ≤ talk.number
   pub base : IsTrue (list_all stays_in_line talk.keeper.pod.base)
 
 -- What was heard has ended the connection so, and these bytes were written.
 abbrev pub Ends : (ℕ → Type 0) → List ℕ → PipeEnd → List Heard → List ℕ → Type 0
-Ends may_give owner Closed heard written = IsServed may_give owner heard written × (StaysOpen 0 heard → ⊥) × (length (requests_of heard) < most_requests) × (bad_status heard ≡ None)
-Ends may_give owner Limit heard written = IsServed may_give owner heard written × (StaysOpen 0 heard → ⊥) × (length (requests_of heard) ≡ most_requests) × (bad_status heard ≡ None)
+Ends may_give owner Closed heard written = IsServed may_give owner heard written × (StaysOpen 0 heard → ⊥) × (length (requests_of heard) < REQUEST_LIMIT) × (bad_status heard ≡ None)
+Ends may_give owner Limit heard written = IsServed may_give owner heard written × (StaysOpen 0 heard → ⊥) × (length (requests_of heard) ≡ REQUEST_LIMIT) × (bad_status heard ≡ None)
 Ends may_give owner (Bad status) heard written = IsServed may_give owner heard written × (bad_status heard ≡ Some status)
 Ends may_give owner WriteFault heard written = IsStopped may_give owner heard written
 Ends may_give owner NoMemory heard written = IsStopped may_give owner heard written
@@ -90,8 +91,8 @@ RefusedAs may_give status _ old new = ⊥
 
 -- Nothing is heard behind this: a request that is the last, or a refusal. A fault may come anywhere.
 abbrev pub IsOver : ℕ → Heard → PipeEnd → Type 0
-IsOver count (heard.Request request) Closed = IsEnd count request
-IsOver count (heard.Request request) Limit = IsEnd count request
+IsOver count (heard.Request request) Closed = IsLastRequest count request
+IsOver count (heard.Request request) Limit = IsLastRequest count request
 IsOver count (heard.Bad status) (Bad told) = Unit {0}
 IsOver count one WriteFault = Unit {0}
 IsOver count one NoMemory = Unit {0}

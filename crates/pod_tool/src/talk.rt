@@ -1,6 +1,6 @@
 ghost use Rattle.std.specs.Prelude.{◌≡◌, ◌≤◌, ◌<◌, ◌+◌, ◌^◌, ◌==◌, ◌∷◌, [], ℕ, List, length, IsTrue, IfOk, IfErr, OnOk, if◌then◌else◌};
 ghost use Rattle.std.specs.List.{AllByRecursion, list_all};
-ghost use Rattle.http_conn.specs.Messages.{EndsThere, most_requests};
+ghost use Rattle.http_conn.specs.Messages.{NothingAfterEnd};
 ghost use Rattle.http_out.specs.Dates.{Dated};
 ghost use Rattle.http_out.specs.Text.{interim_text, stays_in_line};
 ghost use Rattle.pod_base.specs.declared.heard.Heard.TheVariants as hears;
@@ -38,7 +38,7 @@ fn closes_after(request: &Request, number: u64) -> bool
 
 /// The end behind the last request of a connection, by its number.
 fn end_behind(number: u64) -> PipeEnd
-    ensures { result ≡ (if number == most_requests then PipeEnd.Limit else PipeEnd.Closed) }
+    ensures { result ≡ (if number == REQUEST_LIMIT then PipeEnd.Limit else PipeEnd.Closed) }
 {
     if number == REQUEST_LIMIT {
         PipeEnd::Limit
@@ -193,7 +193,7 @@ impl Talk {
         clock: &C,
     ) -> Result<(), PipeEnd>
         requires sound { IsSound self.old }
-        requires ends { EndsThere self.old.number heard.now }
+        requires ends { NothingAfterEnd self.old.number heard.now }
         requires statuses { AllByRecursion IsRefused heard.now }
         ensures sound { OnOk result (IsSound self.new) }
         ensures turns { (text : List ℕ) × Adds text (K.taken output.old) (K.taken output.new)

@@ -1,6 +1,6 @@
 use Rattle.std.proofs.Common.{rules, take, Ok, Err, sym, subst, arith}
 use Rattle.std.specs.List.{AllByRecursion}
-use Rattle.http_conn.specs.Messages.{EndsThere}
+use Rattle.http_conn.specs.Messages.{NothingAfterEnd}
 use Rattle.pod_tool.specs.Talks.{IsRefused, TurnsIn}
 use Rattle.pod_tool.proofs.ServingLemmas.{read_fault, bounded, at_end, no_memory, ends, statuses, goes_on, ended, never_reads}
 use Rattle.pod_tool.proofs.ReadsLemmas.{reads_more, reads_none, ended_at, some_read}
@@ -32,7 +32,7 @@ hear-requires-clause-ends g c =
     let s = c.reads.invariant.0 in
     let read = c.in-Ok.ensures in
     let reads = reads_more s.text c.reads.piece c.read.new.into c.in-Ok.count (g.S.Source.rest c.args.input.now) (g.S.Source.rest c.reads.input) (g.S.Source.rest c.read.new.self) s.reads read.bytes read.rest.taken in
-    subst (EndsThere c.reads.talk.number) (sym c.as_slice.ensures)
+    subst (NothingAfterEnd c.reads.talk.number) (sym c.as_slice.ensures)
     (ends _ _ _ _ _ _ _ _ _ s (take c.in-Ok.count c.read.new.into) (g.S.Source.rest c.read.new.self) reads c.feed.new.self c.in-Ok-feed.heard.items _ (c.in-Ok-feed.ensures.messages s.text s.heard s.stands))
 
 pub hear-requires-clause-statuses : goal.hear-requires-clause-statuses
@@ -67,7 +67,7 @@ reads-preserved g c =
     let reads = reads_more s.text c.reads.piece c.read.new.into c.in-Ok.count (g.S.Source.rest c.args.input.now) (g.S.Source.rest c.reads.input) (g.S.Source.rest c.read.new.self) s.reads read.bytes read.rest.taken in
     let told = c.in-Ok-hear.ensures.turns in (
       goes_on _ _ _ _ _ _ _ _ _ s piece (g.S.Source.rest c.read.new.self) reads c.feed.new.self c.in-Ok-feed.heard.items _ (c.in-Ok-feed.ensures.messages s.text s.heard s.stands)
-          (c.in-Ok-feed.ensures.stands s.text s.heard s.stands) c.hear.new.self told.0 (g.K.Sink.taken c.hear.new.output) told.1
+          (c.in-Ok-feed.ensures.represents s.text s.heard s.stands) c.hear.new.self told.0 (g.K.Sink.taken c.hear.new.output) told.1
           (subst (λ hears. TurnsIn (g.C.Clock.may_give c.args.clock.now) c.reads.talk c.hear.new.self hears told.0 (Ok tt)) c.as_slice.ensures told.2)
           c.in-Ok-hear.ensures.sound (some_read c.read.new.into c.in-Ok.count (search rules) c.if-count-eq0.false),
       omega (arith, c.reads.invariant.1, read.faults.no_fewer),

@@ -1,6 +1,6 @@
 use Rattle.std.proofs.Common.{refl, [], ◌∷◌, ◌++◌, Ok, Err, append_assoc, ap, sym, subst, ◌∙◌, arith}
 use Rattle.std.specs.List.{AllByRecursion}
-use Rattle.http_conn.specs.Messages.{EndsThere}
+use Rattle.http_conn.specs.Messages.{NothingAfterEnd}
 use Rattle.pod_tool.specs.Talks.{IsRefused}
 use Rattle.pod_tool.proofs.TalksLemmas.{nothing_added, nothing_turned, adds_more, turns_behind, none_behind}
 use Rattle.pod_tool.proofs.HeardLemmas.{ends_next, none_left}
@@ -27,7 +27,7 @@ returns-in-Err-clause-turns g c =
         behind = more;
         cut = append_assoc done (one ∷ []) more ∙ ap (λ rest. done ++ rest) (sym cut) ∙ i.0.1;
         turns = turns_behind may_give c.args.self.now c.loop-one.self c.turn.new.self done (one ∷ []) i.0.2.0 told.0 (Err c.in-Err.end) i.0.2.2 told.2;
-        over = none_behind c.loop-one.self.number one more c.in-Err.end (subst (EndsThere c.loop-one.self.number) cut i.2) c.in-Err.ensures.over;
+        over = none_behind c.loop-one.self.number one more c.in-Err.end (subst (NothingAfterEnd c.loop-one.self.number) cut i.2) c.in-Err.ensures.over;
       },
     )
 
@@ -50,7 +50,7 @@ loop-one-preserved g c =
         ),
       ),
       c.in-Ok.ensures.sound,
-      subst (λ n. EndsThere n more) (sym c.in-Ok.ensures.number) (ends_next c.loop-one.self.number one more (subst (EndsThere c.loop-one.self.number) cut i.2)),
+      subst (λ n. NothingAfterEnd n more) (sym c.in-Ok.ensures.number) (ends_next c.loop-one.self.number one more (subst (NothingAfterEnd c.loop-one.self.number) cut i.2)),
       (subst (AllByRecursion IsRefused) cut i.3).1,
       omega (arith, i.4, c.in-Ok.ensures.faults.no_fewer),
     )

@@ -1,6 +1,6 @@
 use Rattle.std.proofs.Common.{◌≡◌, ◌++◌, ◌≤◌, List, ℕ, Ok, length}
 use Rattle.std.specs.List.{AllByRecursion}
-use Rattle.http_conn.specs.Messages.{EndsThere}
+use Rattle.http_conn.specs.Messages.{NothingAfterEnd}
 use Rattle.pod_base.specs.declared.heard.Heard.{Heard}
 use Rattle.pod_tool.specs.Talks.{IsRefused, IsSound, Turns}
 use Rattle.pod_tool.specs.Turns.{Adds}
@@ -12,7 +12,7 @@ invariant-loop-one g l =
     ((done : List Heard) × (done ++ l.rest ≡ l.fn.heard)
     × ((text : List ℕ) × Adds text (g.K.Sink.taken l.fn.output) (g.K.Sink.taken l.output) × Turns (g.C.Clock.may_give l.clock) l.fn.self l.self done text (Ok tt)))
     × IsSound l.self
-    × EndsThere l.self.number l.rest
+    × NothingAfterEnd l.self.number l.rest
     × AllByRecursion IsRefused l.rest
     × (g.K.Sink.faults l.fn.output ≤ g.K.Sink.faults l.output)
 

@@ -1,7 +1,0 @@
-use Rattle.std.proofs.Common.{◌≡◌, ◌++◌, take}
-use Rattle.std.specs.List.{flat_map}
-use Rattle.http_out.proofs.head.add_pieces.Given as goal
-
--- the pieces so far are appended
-abbrev pub invariant-loop-piece : goal.invariant-loop-piece
-invariant-loop-piece l = l.text ≡ l.initial.text ++ flat_map (λ piece. piece.now) (take l.piece-index l.pieces)

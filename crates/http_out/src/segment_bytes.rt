@@ -1,0 +1,158 @@
+//! The bytes of each segment of a response's text, copied into a slice.
+
+ghost use Rattle.std.specs.Prelude.{◌≡◌, ◌≢◌, ◌<◌, ◌+◌, ◌-◌, ◌^◌, ◌∷◌, ◌++◌, [], min, take, drop};
+ghost use Rattle.std.specs.Prelude.{length, IfSome, IfNone};
+ghost use Rattle.std.specs.Option.{option_copied};
+ghost use Rattle.http_out.specs.Text as text;
+ghost use Rattle.http_out.specs.Segments.{length_digits, name_of, colon_of, value_of, line_end_of};
+ghost use Rattle.http_out.specs.Segments.{segment_text};
+
+use crate::head_parts::{HeadParts, phrase_of};
+use crate::segment::Segment;
+use itoa::Buffer;
+use pod_base::{Body, Field, Fields, Response};
+
+/// Copies a text from a byte on, as far as both slices go: returns how many bytes.
+fn copy_bytes(text: &[u8], offset: usize, into: &mut [u8]) -> usize
+    ensures count { result ≡ min (length text.now - offset) (length into.old) }
+    ensures copied { into.new ≡ take result (drop offset text.now) ++ drop result into.old }
+    ensures fits { offset + result < 2 ^ 64 }
+{
+    let rest = &text[offset.min(text.len())..];
+    let count = rest.len().min(into.len());
+    into[..count].copy_from_slice(&rest[..count]);
+    count
+}
+
+/// The field of that number.
+fn field_at(fields: &Fields, i: usize) -> Option<&Field>
+    ensures some { IfSome (option_copied result) (λ f. drop i fields.now
+        ≡ f ∷ drop (i + 1) fields.now) }
+    ensures none { IfNone result (drop i fields.now ≡ []) }
+{
+    fields.list.as_slice().get(i)
+}
+
+/// The bytes of a segment of a field's line, none where there is no such field.
+fn field_bytes(fields: &Fields, i: usize, segment: Segment) -> &[u8]
+    ensures name { segment ≡ Segment.Name i → result.now ≡ name_of (drop i fields.now) }
+    ensures colon { segment ≡ Segment.Colon i → result.now ≡ colon_of (drop i fields.now) }
+    ensures value { segment ≡ Segment.Value i → result.now ≡ value_of (drop i fields.now) }
+    ensures line_end { segment ≡ Segment.LineEnd i → result.now ≡ line_end_of (drop i fields.now) }
+{
+    match field_at(fields, i) {
+        None => b"",
+        Some(field) => match segment {
+            Segment::Name(_) => field.name.as_str().as_bytes(),
+            Segment::Colon(_) => b": ",
+            Segment::Value(_) => field.value.as_slice(),
+            _ => b"\r\n",
+        },
+    }
+}
+
+/// Whether a response of this status has no length and no body (RFC 9112, section 6.3).
+fn has_no_length(status: u16) -> bool
+    ensures { result ≡ text.has_no_length status }
+{
+    status < 200 || status == 204 || status == 304
+}
+
+/// The line that says that the connection closes, where the response has it.
+fn closing_line(status: u16, close: bool) -> &'static [u8]
+    ensures { result.now ≡ text.closing_line status close }
+{
+    if close && status != 101 {
+        b"Connection: close\r\n"
+    } else {
+        b""
+    }
+}
+
+/// The bytes of a body that are sent after a head of that status.
+fn body_bytes(response: &Response) -> &[u8]
+    ensures { result.now ≡ text.body_text response.now }
+{
+    if has_no_length(response.status) {
+        return b"";
+    }
+    match &response.body {
+        Body::Whole(bytes) => bytes.as_slice(),
+        Body::Absent => b"",
+        Body::LengthOnly(_) => b"",
+    }
+}
+
+/// The bytes of a segment, but for the digits of the length.
+fn segment_bytes<'a>(response: &'a Response, head: &'a HeadParts, segment: Segment) -> &'a [u8]
+    requires { head.now.code ≡ response.now.status }
+    ensures { segment ≢ Segment.Length → result.now
+        ≡ segment_text response.now head.now.date head.now.close segment }
+{
+    match segment {
+        Segment::Version => b"HTTP/1.1 ",
+        Segment::Code => head.code.as_str().as_bytes(),
+        Segment::Space => b" ",
+        Segment::Phrase => phrase_of(&head.code).as_bytes(),
+        Segment::DateName => b"\r\nDate: ",
+        Segment::Date => &head.date,
+        Segment::DateEnd | Segment::HeadEnd => b"\r\n",
+        Segment::Name(i) | Segment::Colon(i) | Segment::Value(i) | Segment::LineEnd(i) => {
+            field_bytes(&response.fields, i, segment)
+        }
+        Segment::Closing => closing_line(response.status, head.close),
+        Segment::LengthName if !has_no_length(response.status) => b"Content-Length: ",
+        Segment::LengthEnd if !has_no_length(response.status) => b"\r\n",
+        Segment::Body => body_bytes(response),
+        _ => b"",
+    }
+}
+
+/// The length of a body.
+fn body_length(body: &Body) -> u64
+    ensures { result ≡ text.body_length body.now }
+{
+    match body {
+        Body::Absent => 0,
+        Body::Whole(bytes) => bytes.as_slice().len() as u64,
+        Body::LengthOnly(length) => *length,
+    }
+}
+
+/// Copies the digits of the length from a byte on, as far as they go: returns how many bytes.
+fn copy_length(response: &Response, offset: usize, into: &mut [u8]) -> usize
+    ensures count { result ≡ min (length (length_digits response.now) - offset) (length into.old) }
+    ensures copied { into.new ≡ take result (drop offset (length_digits response.now))
+        ++ drop result into.old }
+    ensures fits { offset + result < 2 ^ 64 }
+{
+    if has_no_length(response.status) {
+        return copy_bytes(b"", offset, into);
+    }
+    let mut digits = Buffer::new();
+    let length = body_length(&response.body);
+    copy_bytes(digits.format(length).as_bytes(), offset, into)
+}
+
+/// Copies a segment from a byte on, as far as it goes: returns how many bytes.
+pub(crate) fn copy_segment(
+    response: &Response,
+    head: &HeadParts,
+    segment: Segment,
+    offset: usize,
+    into: &mut [u8],
+) -> usize
+    requires { head.now.code ≡ response.now.status }
+    ensures count { result
+        ≡ min (length (segment_text response.now head.now.date head.now.close segment) - offset)
+        (length into.old) }
+    ensures copied { into.new
+        ≡ take result (drop offset (segment_text response.now head.now.date head.now.close segment))
+        ++ drop result into.old }
+    ensures fits { offset + result < 2 ^ 64 }
+{
+    match segment {
+        Segment::Length => copy_length(response, offset, into),
+        _ => copy_bytes(segment_bytes(response, head, segment), offset, into),
+    }
+}
