@@ -40,7 +40,7 @@ mod view_name;
 pub use fault::ViewFault;
 pub use front::{Front, NewList};
 pub use looker::Looker;
-pub use open::open_view;
+pub use open::{READERS_LIMIT, open_view};
 pub use places::Places;
 pub use publisher::Publisher;
 pub use told::Told;

@@ -15,6 +15,9 @@ use pod_base::List;
 use std::alloc::Global;
 use std::sync::{Arc, Wait};
 
+/// How many lookers a view has at most.
+pub const READERS_LIMIT: usize = 64;
+
 /// Opens a view of this version for so many lookers, each of which has seen the opening list.
 /// `NoPlace` says that `left_right` refused a looker its place.
 pub fn open_view<V: Told, N: ViewName<V::Item>, R: Wait>(
@@ -27,7 +30,7 @@ pub fn open_view<V: Told, N: ViewName<V::Item>, R: Wait>(
 ) -> Result<(Publisher<V, N>, List<Looker<V, N>>), ViewFault>
     requires book { list ≡ N.book }
     requires stands { V.stands (arc_value first) N.first_number N.opening }
-    requires readers { (0 < readers) × (readers ≤ 64) }
+    requires readers { (0 < readers) × (readers ≤ READERS_LIMIT) }
     ensures version { IfOk result (λ view. view.0.version ≡ arc_value first) }
     ensures list { IfOk result (λ view. view.0.list ≡ N.opening) }
     ensures next { IfOk result (λ view. view.0.next ≡ None) }

@@ -13,7 +13,8 @@ use std::sync::Wait;
 use std::sync::ledger::Ledger;
 use std::thread::{Threads, join_mut};
 
-/// A session with the guests that it is to enter, and how many of them it entered when it was served last.
+/// A session with the guests that it is to enter, and how many of them it entered when it was
+/// served last.
 #[derive(Drop)]
 pub struct Desk<N: ViewName<u64> + Opened + Ledger> {
     pub session: Session<N>,
@@ -75,8 +76,9 @@ fn serve_beside<
     );
 }
 
-/// Enters the guests of all desks, the halves beside each other. The desks hold all sessions. Afterwards all of them have
-/// seen one list of guests, whose length is what the book opened with and all that the sessions ever entered.
+/// Enters the guests of all desks, the halves beside each other. The desks hold all sessions.
+/// Afterwards all of them have seen one list of guests, whose length is what the book opened with
+/// and all that the sessions ever entered.
 pub fn serve<
     N: ViewName<u64> + Opened + Ledger + Send + Sync,
     L: Rounds<N> + Sync,

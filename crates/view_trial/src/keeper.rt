@@ -11,7 +11,8 @@ use std::alloc::Global;
 use std::sync::ledger::{Book, Ledger, Share};
 use std::sync::{Arc, Wait};
 
-/// What lies under the lock: the publisher, with the number of guests and the ledger of those that sessions entered.
+/// What lies under the lock: the publisher, with the number of guests and the ledger of those that
+/// sessions entered.
 pub struct Keeper<N: ViewName<V::Item> + Opened + Ledger, V: Told = Version<N>>
 where
     VersionWithList<V, N>: KeptTwice,

@@ -13,8 +13,8 @@ use crate::session::Session;
 use crate::version::{Done, Opened, Version};
 use pod_base::{List, Mem, NoMemory};
 use published_view::{
-    Front, KeptTwice, Looker, NewList, Places, Told, VersionWithList, ViewFault, ViewName,
-    open_view,
+    Front, KeptTwice, Looker, NewList, Places, READERS_LIMIT, Told, VersionWithList, ViewFault,
+    ViewName, open_view,
 };
 use std::alloc::Global;
 use std::sync::ledger::{Blank, Ledger, Share};
@@ -65,7 +65,7 @@ impl<N: ViewName<u64> + Opened + Ledger> Live<N> {
         requires room { (first.guests ≤ 1000) × (N.first_number < 2 ^ 63) }
         requires name { ledger.name ≡ N.name }
         requires parts { (ledger.parts ≡ N.parts) × (ledger.parts ≡ readers) }
-        requires readers { (0 < readers) × (readers ≤ 64) }
+        requires readers { (0 < readers) × (readers ≤ READERS_LIMIT) }
         ensures desks { IfOk result (λ live. length live.1.items ≡ N.parts) }
         ensures sessions { IfOk result (λ live. All (λ d. IsNewVisit N.opening d.session) live.1.items) }
         ensures refused { OnNoPlace result (CountIncreasedByOne places.old places.new) }
@@ -95,8 +95,8 @@ impl<N: ViewName<u64> + Opened + Ledger> Live<N> {
         }
     }
 
-    /// Closes the book, and returns the number of the next guest. The desks hold all sessions, each of which has then seen
-    /// all guests.
+    /// Closes the book, and returns the number of the next guest. The desks hold all sessions, each
+    /// of which has then seen all guests.
     pub fn close<R: Wait>(self, rt: &R, desks: &mut [Desk<N>]) -> u64
         requires all { length desks.old ≡ N.parts }
         ensures one_list { (guests : _) × IsPrefix N.opening guests
