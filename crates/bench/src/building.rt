@@ -8,14 +8,13 @@ use rdf_graph::{Graph, Term, Triple};
 use std::alloc::Global;
 use std::time::Instant;
 
-/// A triple of numbered IRIs.
-fn make_triple(alloc: Global, number: usize) -> anyhow::Result<Triple>
+/// The triple of these IRIs.
+pub fn make_triple(alloc: Global, s: &str, p: &str, o: &str) -> anyhow::Result<Triple>
     ensures { IfOk result IsRdf }
 {
-    let text = format!(in alloc; "http://e.example/n{number}")?;
-    let s = Iri::read(alloc, text.as_str())?;
-    let p = Iri::read(alloc, "http://e.example/p")?;
-    let o = Iri::read(alloc, text.as_str())?;
+    let s = Iri::read(alloc, s)?;
+    let p = Iri::read(alloc, p)?;
+    let o = Iri::read(alloc, o)?;
     Ok(Triple {
         s: Term::Iri(s),
         p: Term::Iri(p),
@@ -35,7 +34,9 @@ fn make_triples(alloc: Global, count: usize) -> anyhow::Result<List<Triple>>
 {
     let mut triples = Vec::new(alloc);
     for step in 0..count {
-        let triple = make_triple(alloc, shuffled_number(step, count))?;
+        let number = shuffled_number(step, count);
+        let text = format!(in alloc; "http://e.example/n{number}")?;
+        let triple = make_triple(alloc, text.as_str(), "http://e.example/p", text.as_str())?;
         triples.push(triple)?;
     }
     Ok(List::from_vec(triples))

@@ -5,12 +5,14 @@
 #![tactic(auto)]
 
 mod building;
+mod joining;
 mod opening;
 mod reading;
 mod serving;
 
 use anyhow::bail;
 use building::build_graph;
+use joining::join_conditions;
 use opening::open_journal;
 use reading::{Looks, read_versions};
 use serving::serve_stream;
@@ -26,6 +28,7 @@ fn number(rt: &HostRuntime, place: usize, other: usize) -> anyhow::Result<usize>
 /// Runs the figures of one thread with small counts.
 fn run_small(rt: &HostRuntime, alloc: Global) -> anyhow::Result<()> {
     build_graph(rt, alloc, 1_000, false)?;
+    join_conditions(rt, alloc, 1_000, false)?;
     open_journal(rt, alloc, false)?;
     serve_stream(rt, alloc, 100, 1, false)
 }
@@ -56,6 +59,7 @@ fn main(rt: HostRuntime) -> anyhow::Result<()> {
     let first = number(&rt, 2, 0)?;
     match word.as_str() {
         "graph" => build_graph(&rt, alloc, first, true),
+        "join" => join_conditions(&rt, alloc, first, true),
         "journal" => open_journal(&rt, alloc, true),
         "pipe" => serve_stream(&rt, alloc, first, number(&rt, 3, 1)?, true),
         "view" => {
