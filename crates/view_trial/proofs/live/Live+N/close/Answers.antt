@@ -1,4 +1,4 @@
-use Rattle.std.proofs.Common.{◌≡◌, ◌+◌, List, ℕ, ap, arith, length, subst, sym}
+use Rattle.std.proofs.Common.{List, ℕ, ap, arith, length, subst, sym}
 use mathlib.Core.List.{IsPrefix}
 use Rattle.view_trial.specs.declared.desk.Desk.{Desk}
 use Rattle.pod_base.specs.EachTo.{EachTo}

@@ -1,5 +1,4 @@
-use Rattle.std.proofs.Common.{◌≡◌, ◌+◌, List, ap, arith, length, subst}
-use Rattle.std.specs.Prelude.{sum_by}
+use Rattle.std.proofs.Common.{List, ap, arith, length, subst}
 use Rattle.view_trial.specs.declared.desk.Desk.{Desk}
 use Rattle.pod_base.specs.EachTo.{EachTo}
 use Rattle.view_trial.proofs.DeskLemmas.{MetAt, sum_met}
