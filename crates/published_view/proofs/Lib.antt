@@ -1,2 +1,2 @@
-pub mod Adding
-pub mod Prefixes
+pub mod Appending
+pub mod FrontTests

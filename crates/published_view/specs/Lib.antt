@@ -1,5 +1,6 @@
-pub mod Edition
-pub mod Shelf
-pub mod Looking
-pub mod Looks
-pub mod OneList
+pub mod VersionWithList
+pub mod LookerState
+-- internal: cited by private clauses alone
+pub mod LookSteps
+pub mod ListRule
+pub mod Copies

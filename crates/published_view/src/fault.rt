@@ -16,9 +16,9 @@ pub enum ViewFault {
 
 impl From<NoMemory> for ViewFault {
     ghost use Rattle.std.specs.Prelude.{◌≡◌};
-    ghost use Rattle.published_view.specs.declared.fault.ViewFault.TheVariants.{NoMemory as no_memory};
+    ghost use Rattle.published_view.specs.declared.fault.ViewFault.TheVariants as fault_is;
 
-    ghost from_gives = { λ _ fault. fault ≡ no_memory };
+    ghost from_gives = { λ _ fault. fault ≡ fault_is.NoMemory };
 
     fn from(_: NoMemory) -> ViewFault {
         ViewFault::NoMemory

@@ -1,25 +1,26 @@
-//! Beginnings of the one list of a view.
+//! Prefixes of the one list of a view.
 ghost use Rattle.std.specs.Prelude.{◌≡◌, ◌+◌, ◌++◌, [], ◌∷◌, ◌⊎◌, length, IsTrue};
 ghost use Rattle.std.specs.Bool.{OnFalse};
 ghost use mathlib.Core.List.{IsPrefix};
-ghost use Rattle.published_view.specs.OneList.{head_of};
+ghost use Rattle.published_view.specs.ListRule.{length_word};
 
-use crate::list::{Add, Nothing, OneList};
-use crate::naming::ViewName;
+use crate::list_rule::{AppendStep, ListRule, NoGain};
+use crate::view_name::ViewName;
 use logbook::{Offer, Seen, Start, Word};
 use std::marker::{Model, PhantomData};
 
-/// A list with no item, which no view has yet. It has no bytes. Contracts see the book in which it is kept.
+/// A list with no item, which no view has yet. It has no bytes. Contracts see the book in which it
+/// is kept.
 #[derive(Drop)]
 pub struct NewList<I> {
-    word: Word<I, u64, OneList>,
-    seen: Seen<I, u64, OneList>,
+    word: Word<I, u64, ListRule>,
+    seen: Seen<I, u64, ListRule>,
 }
 
 impl<I> Model for NewList<I> {
     ghost use Rattle.std.specs.Prelude.{◌≡◌, []};
     ghost use Rattle.logbook.specs.Pages.{Book, book_coded};
-    ghost use Rattle.published_view.specs.OneList.{head_of};
+    ghost use Rattle.published_view.specs.ListRule.{length_word};
 
     ghost Value = { Book };
 
@@ -27,7 +28,7 @@ impl<I> Model for NewList<I> {
 
     ghost view = { λ l. l.seen.book };
 
-    ghost invariant = { λ l. (l.seen.log ≡ []) × (l.word ≡ head_of l.seen.book) };
+    ghost invariant = { λ l. (l.seen.log ≡ []) × (l.word ≡ length_word l.seen.book) };
 }
 
 impl<I> NewList<I> {
@@ -41,13 +42,13 @@ impl<I> NewList<I> {
     }
 
     /// The list under the name of its view.
-    pub(crate) fn named<N: ViewName<I>>(self) -> (Head<I, N>, Front<I, N>)
+    pub(crate) fn under_name<N: ViewName<I>>(self) -> (LengthWord<I, N>, Front<I, N>)
         requires { self ≡ N.book }
         ensures { result.1 ≡ N.opening }
     {
         let NewList { word, seen } = self;
         (
-            Head {
+            LengthWord {
                 word,
                 of: PhantomData,
             },
@@ -62,18 +63,18 @@ impl<I> NewList<I> {
 
 /// The length of the list, which the publisher holds.
 #[derive(Drop)]
-pub struct Head<I, N: ViewName<I>> {
-    word: Word<I, u64, OneList>,
+pub struct LengthWord<I, N: ViewName<I>> {
+    word: Word<I, u64, ListRule>,
     of: PhantomData<N>,
-    ghost head_is: { word ≡ head_of N.book },
+    ghost word_is: { word ≡ length_word N.book },
 }
 
-/// A beginning of the one list of a view: what was published at some moment. Contracts see it as that list.
-/// It takes 8 bytes, and can be copied, stored and sent to other threads.
+/// A prefix of the one list of a view: what was published at some moment. Contracts see it as that
+/// list. It takes 8 bytes, and can be copied, stored and sent to other threads.
 #[derive(Drop)]
 pub struct Front<I, N: ViewName<I>> {
     count: u64,
-    seen: Seen<I, u64, OneList>,
+    seen: Seen<I, u64, ListRule>,
     of: PhantomData<N>,
 }
 
@@ -88,15 +89,16 @@ impl<I, N: ViewName<I>> Model for Front<I, N> {
 }
 
 impl<I, N: ViewName<I>> Front<I, N> {
-    /// How many items were added since the view was opened.
+    /// How many items were added since the view was opened, behind the opening list.
     pub fn added(&self) -> u64
-        ensures { length self.now ≡ length N.opening + result }
+        ensures count { length self.now ≡ length N.opening + result }
+        ensures opening { IsPrefix N.opening self.now }
     {
         self.count
     }
 
     /// A copy. It takes no memory.
-    pub fn again(&self) -> Front<I, N>
+    pub fn copy(&self) -> Front<I, N>
         ensures { result ≡ self.now }
     {
         Front {
@@ -106,9 +108,10 @@ impl<I, N: ViewName<I>> Front<I, N> {
         }
     }
 
-    /// Whether this front begins the other one. If not, then the other begins this one, since both are of one list.
-    pub fn begins(&self, other: &Front<I, N>) -> bool
-        ensures begins { IsTrue result → IsPrefix self.now other.now }
+    /// Whether this front is a prefix of the other one. If not, then the other is one of this,
+    /// since both are of one list.
+    pub fn is_prefix_of(&self, other: &Front<I, N>) -> bool
+        ensures prefix { IsTrue result → IsPrefix self.now other.now }
         ensures only { IsPrefix self.now other.now → IsTrue result }
         ensures otherwise { OnFalse result (IsPrefix other.now self.now) }
     {
@@ -117,33 +120,35 @@ impl<I, N: ViewName<I>> Front<I, N> {
         self.count <= other.count
     }
 
-    /// The longer of the two fronts, which the other begins.
+    /// The longer of the two fronts, of which the other is a prefix.
     pub fn longer(&self, other: &Front<I, N>) -> Front<I, N>
         ensures this { IsPrefix self.now result }
         ensures that { IsPrefix other.now result }
         ensures one { (result ≡ self.now) ⊎ (result ≡ other.now) }
     {
-        if self.begins(other) {
-            other.again()
+        if self.is_prefix_of(other) {
+            other.copy()
         } else {
-            self.again()
+            self.copy()
         }
     }
 
-    /// Adds an item to all that was seen, and says whether it did. It did not where the list was longer already,
-    /// or has taken 2^64 - 1 items.
-    pub(crate) fn add(&mut self, head: &Head<I, N>, item: &I) -> bool
+    /// Appends an item to all that was seen, and returns whether it did. It did not where the list
+    /// was longer already, or has taken 2^64 - 1 items.
+    pub(crate) fn append(&mut self, length: &LengthWord<I, N>, item: &I) -> bool
         ensures { IsTrue result → self.new ≡ self.old ++ item.now ∷ [] }
     {
         let count = self.count;
         if count == u64::MAX {
             return false;
         }
-        let mut offer: Offer<I, u64, OneList, Nothing> = self.seen.plain::<Nothing, I, Add>(item);
+        let mut offer: Offer<I, u64, ListRule, NoGain> = self
+            .seen
+            .plain::<NoGain, I, AppendStep>(item);
         let mut pen = self.seen.no_pen();
-        let found = head
+        let found = length
             .word
-            .compare_exchange::<Add, Nothing>(
+            .compare_exchange::<AppendStep, NoGain>(
                 count,
                 count + 1,
                 &mut self.seen,

@@ -1,18 +1,22 @@
 //! The opening of a view.
 ghost use Rattle.std.specs.Prelude.{◌≡◌, ◌≤◌, ◌<◌, None, All, IfOk, length};
 ghost use Rattle.std.specs.Arc.{arc_value};
-ghost use Rattle.published_view.specs.Looking.{IsNewcomer, Rose, OnNoPlace, NotNoPlace};
+ghost use Rattle.published_view.specs.LookerState.{IsNewLooker, CountIncreasedByOne};
+ghost use Rattle.published_view.specs.LookerState.{OnNoPlace, NotNoPlace};
 
 use crate::fault::ViewFault;
 use crate::front::NewList;
 use crate::looker::Looker;
-use crate::naming::ViewName;
 use crate::places::Places;
 use crate::publisher::Publisher;
 use crate::told::Told;
+use crate::view_name::ViewName;
 use pod_base::List;
 use std::alloc::Global;
 use std::sync::{Arc, Wait};
+
+/// How many lookers a view has at most.
+pub const READERS_LIMIT: usize = 64;
 
 /// Opens a view of this version for so many lookers, each of which has seen the opening list.
 /// `NoPlace` says that `left_right` refused a looker its place.
@@ -25,18 +29,19 @@ pub fn open_view<V: Told, N: ViewName<V::Item>, R: Wait>(
     places: &mut Places,
 ) -> Result<(Publisher<V, N>, List<Looker<V, N>>), ViewFault>
     requires book { list ≡ N.book }
-    requires stands { V.stands (arc_value first) N.opening }
-    requires readers { (0 < readers) × (readers ≤ 64) }
+    requires stands { V.stands (arc_value first) N.first_number N.opening }
+    requires readers { (0 < readers) × (readers ≤ READERS_LIMIT) }
     ensures version { IfOk result (λ view. view.0.version ≡ arc_value first) }
     ensures list { IfOk result (λ view. view.0.list ≡ N.opening) }
     ensures next { IfOk result (λ view. view.0.next ≡ None) }
     ensures readers { IfOk result (λ view. length view.1.items ≡ readers) }
-    ensures lookers { IfOk result (λ view. All (IsNewcomer N.opening) view.1.items) }
-    ensures refused { OnNoPlace result (Rose places.old places.new) }
+    ensures lookers { IfOk result (λ view. All (IsNewLooker N.opening) view.1.items) }
+    ensures table { IfOk result (λ view. All (λ looker. looker.table ≡ view.0.table) view.1.items) }
+    ensures refused { OnNoPlace result (CountIncreasedByOne places.old places.new) }
     ensures kept { NotNoPlace result (places.new ≡ places.old) }
 {
     let publisher = Publisher::open(alloc, list, first, readers)?;
-    match seat(alloc, &publisher, readers, places) {
+    match make_lookers(alloc, &publisher, readers, places) {
         Ok(lookers) => Ok((publisher, lookers)),
         Err(fault) => {
             let _ = publisher.close(rt);
@@ -46,15 +51,17 @@ pub fn open_view<V: Told, N: ViewName<V::Item>, R: Wait>(
 }
 
 /// Takes a place for each looker.
-fn seat<V: Told, N: ViewName<V::Item>>(
+fn make_lookers<V: Told, N: ViewName<V::Item>>(
     alloc: Global,
     publisher: &Publisher<V, N>,
     readers: usize,
     places: &mut Places,
 ) -> Result<List<Looker<V, N>>, ViewFault>
     ensures readers { IfOk result (λ lookers. length lookers.items ≡ readers) }
-    ensures lookers { IfOk result (λ lookers. All (IsNewcomer publisher.now.list) lookers.items) }
-    ensures refused { OnNoPlace result (Rose places.old places.new) }
+    ensures lookers { IfOk result (λ lookers. All (IsNewLooker publisher.now.list) lookers.items) }
+    ensures table { IfOk result
+        (λ lookers. All (λ looker. looker.table ≡ publisher.now.table) lookers.items) }
+    ensures refused { OnNoPlace result (CountIncreasedByOne places.old places.new) }
     ensures kept { NotNoPlace result (places.new ≡ places.old) }
 {
     let mut lookers = List::new(alloc);

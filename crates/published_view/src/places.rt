@@ -1,6 +1,6 @@
 //! The count of openings that were refused.
 ghost use Rattle.std.specs.Prelude.{◌≡◌};
-ghost use Rattle.published_view.specs.Looking.{Rose};
+ghost use Rattle.published_view.specs.LookerState.{CountIncreasedByOne};
 
 use std::marker::Model;
 
@@ -34,8 +34,8 @@ impl Places {
     }
 
     /// Counts a refusal.
-    pub(crate) fn refuse(&mut self)
-        ensures { Rose self.old self.new }
+    pub(crate) fn count_refusal(&mut self)
+        ensures { CountIncreasedByOne self.old self.new }
     {
         self.refused = self.refused.saturating_add(1);
     }

@@ -18,11 +18,11 @@ struct Counted {
 }
 
 impl Told for Counted {
-    ghost use Rattle.std.specs.Prelude.{◌≡◌, length};
+    ghost use Rattle.std.specs.Prelude.{◌≡◌, ◌+◌, length};
 
     type Item = u64;
 
-    ghost stands = { λ v list. v.number ≡ length list };
+    ghost stands = { λ v first list. v.number ≡ first + length list };
 }
 
 fn version_of(alloc: Global, number: u64) -> Mem<Arc<Counted>>
@@ -66,8 +66,9 @@ fn refusals<N: ViewName<u64>>(lookers: &[Looker<Counted, N>]) -> u64 {
     refused
 }
 
-/// Opens a view with four lookers, and counts the looks that give what they should, and the refusals: those of looks
-/// before the view has ended, and those of one look of each looker after that.
+/// Opens a view with four lookers, and counts the looks that give what they should, and the
+/// refusals: those of looks before the view has ended, and those of one look of each looker after
+/// that.
 fn looks<N: ViewName<u64>, R: Wait>(
     rt: &R,
     alloc: Global,
@@ -103,8 +104,8 @@ fn a_view_opens_and_each_look_gives_what_was_published(rt: HostRuntime) -> Resul
     Ok(())
 }
 
-/// Looks until it has found the version with this number. False where there is no looker, a look gives none, or the
-/// numbers fall.
+/// Looks until it has found the version with this number. False where there is no looker, a look
+/// gives none, or the numbers fall.
 fn follow<N: ViewName<u64>, R: Wait>(
     rt: &R,
     looker: Option<Looker<Counted, N>>,
@@ -146,7 +147,8 @@ fn publish_all<N: ViewName<u64>, R: Wait>(
     Ok(())
 }
 
-/// Four threads of lookers beside one that publishes so many versions: whether each found the last one, and none fell.
+/// Four threads of lookers beside one that publishes so many versions: whether each found the last
+/// one, and none fell.
 fn follows<N: ViewName<u64> + Send + Sync, R: Threads + Wait + Sync>(
     rt: &R,
     alloc: Global,

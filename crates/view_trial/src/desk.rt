@@ -1,20 +1,22 @@
 //! Desks that are served beside each other.
 ghost use Rattle.std.specs.Prelude.{◌≡◌, ◌+◌, All, List, ℕ, length, sum_by};
 ghost use Rattle.std.specs.Thread.{IsSync};
-ghost use Rattle.view_trial.specs.Desks.{EachTo, Served};
+ghost use Rattle.pod_base.specs.EachTo.{EachTo};
+ghost use Rattle.view_trial.specs.Desks.{Served};
 
 use crate::live::Rounds;
 use crate::session::Session;
-use crate::version::{Done, Reply};
+use crate::version::{Done, Opened, Reply};
 use published_view::ViewName;
 use std::alloc::Global;
 use std::sync::Wait;
 use std::sync::ledger::Ledger;
 use std::thread::{Threads, join_mut};
 
-/// A session with the guests that it is to enter, and how many of them it entered when it was served last.
+/// A session with the guests that it is to enter, and how many of them it entered when it was
+/// served last.
 #[derive(Drop)]
-pub struct Desk<N: ViewName<u64> + Ledger> {
+pub struct Desk<N: ViewName<u64> + Opened + Ledger> {
     pub session: Session<N>,
     pub guest: u64,
     pub wanted: u64,
@@ -22,7 +24,7 @@ pub struct Desk<N: ViewName<u64> + Ledger> {
 }
 
 /// Enters the guests of one desk.
-fn serve_one<N: ViewName<u64> + Ledger, L: Rounds<N>, R: Wait>(
+fn serve_one<N: ViewName<u64> + Opened + Ledger, L: Rounds<N>, R: Wait>(
     rt: &R,
     alloc: &Global,
     live: &L,
@@ -47,7 +49,7 @@ fn serve_one<N: ViewName<u64> + Ledger, L: Rounds<N>, R: Wait>(
 
 /// Enters the guests of all desks, the halves beside each other.
 fn serve_beside<
-    N: ViewName<u64> + Ledger + Send + Sync,
+    N: ViewName<u64> + Opened + Ledger + Send + Sync,
     L: Rounds<N> + Sync,
     R: Threads + Wait + Sync,
 >(rt: &R, alloc: &Global, live: &L, desks: &mut [Desk<N>])
@@ -74,10 +76,11 @@ fn serve_beside<
     );
 }
 
-/// Enters the guests of all desks, the halves beside each other. The desks hold all sessions. Afterwards all of them have
-/// seen one list of guests, whose length is what the book opened with and all that the sessions ever entered.
+/// Enters the guests of all desks, the halves beside each other. The desks hold all sessions.
+/// Afterwards all of them have seen one list of guests, whose length is what the book opened with
+/// and all that the sessions ever entered.
 pub fn serve<
-    N: ViewName<u64> + Ledger + Send + Sync,
+    N: ViewName<u64> + Opened + Ledger + Send + Sync,
     L: Rounds<N> + Sync,
     R: Threads + Wait + Sync,
 >(rt: &R, alloc: Global, live: &L, desks: &mut [Desk<N>])

@@ -1,33 +1,37 @@
 //! What lies under the lock.
-ghost use Rattle.std.specs.Prelude.{◌≡◌, ◌+◌, ◌<◌, ◌≤◌, ◌++◌, [], ◌∷◌, IfOk, OnErr, length, sum_by};
+ghost use Rattle.std.specs.Prelude.{◌≡◌, ◌+◌, ◌<◌, ◌≤◌, ◌^◌, ◌++◌, [], ◌∷◌, IfOk, OnErr, length, sum_by};
 ghost use Rattle.std.specs.Arc.{arc_value};
 ghost use Rattle.view_trial.specs.Book.{added, growth_of, reply_of};
 
 use crate::desk::Desk;
-use crate::version::{Done, ROOM, Reply, Version};
+use crate::version::{Done, Opened, ROOM, Reply, Version};
 use pod_base::Mem;
-use published_view::{Edition, KeptTwice, Publisher, Told, ViewName};
+use published_view::{KeptTwice, Publisher, Told, VersionWithList, ViewName};
 use std::alloc::Global;
 use std::sync::ledger::{Book, Ledger, Share};
 use std::sync::{Arc, Wait};
 
-/// What lies under the lock: the publisher, with the number of guests and the ledger of those that sessions entered.
-pub struct Keeper<N: ViewName<V::Item> + Ledger, V: Told = Version>
+/// What lies under the lock: the publisher, with the number of guests and the ledger of those that
+/// sessions entered.
+pub struct Keeper<N: ViewName<V::Item> + Opened + Ledger, V: Told = Version<N>>
 where
-    Edition<V, N>: KeptTwice,
+    VersionWithList<V, N>: KeptTwice,
 {
     pub publisher: Publisher<V, N>,
+    /// The number of the next guest.
+    pub number: u64,
     pub guests: u64,
     pub entered: Book<N>,
     // A share of no part, from which others are made.
     pub spare: Share<N>,
-    pub ghost counted: { guests ≡ length publisher.list },
-    pub ghost booked: { guests ≡ length N.opening + entered.total },
-    pub ghost bounded: { guests ≤ 1000 },
+    pub ghost numbered: { number ≡ N.first_number + length publisher.list },
+    pub ghost counted: { guests ≡ N.before + length publisher.list },
+    pub ghost booked: { length publisher.list ≡ length N.opening + entered.total },
+    pub ghost bounded: { (guests ≤ 1000) × (number < 2 ^ 63 + 1000) × (N.first_number < 2 ^ 63) },
     pub ghost no_part: { (spare.parts ≡ 0) × (spare.amount ≡ 0) },
 }
 
-impl<N: ViewName<u64> + Ledger> Keeper<N> {
+impl<N: ViewName<u64> + Opened + Ledger> Keeper<N> {
     /// Answers a guest, enters and publishes it where there is room, and counts it on the share.
     pub fn commit<R: Wait>(
         &mut self,
@@ -37,8 +41,8 @@ impl<N: ViewName<u64> + Ledger> Keeper<N> {
         guest: u64,
     ) -> Mem<Done>
         requires { 0 < share.old.parts }
-        ensures place { IfOk result (λ done. done.place ≡ length self.old.publisher.list) }
-        ensures reply { IfOk result (λ done. done.reply ≡ reply_of self.old.publisher.list) }
+        ensures place { IfOk result (λ done. done.place ≡ N.first_number + length self.old.publisher.list) }
+        ensures reply { IfOk result (λ done. done.reply ≡ reply_of N.before self.old.publisher.list) }
         ensures list { IfOk result (λ done. self.new.publisher.list ≡ self.old.publisher.list ++ added done.reply guest) }
         ensures amount { IfOk result (λ done. share.new.amount ≡ share.old.amount + growth_of done.reply) }
         ensures few { share.old.amount ≤ 1000 }
@@ -47,14 +51,14 @@ impl<N: ViewName<u64> + Ledger> Keeper<N> {
         ensures parts { share.new.parts ≡ share.old.parts }
     {
         self.entered.audit(share);
-        let place = self.guests;
-        if place >= ROOM {
+        let place = self.number;
+        if self.guests >= ROOM {
             return Ok(Done {
                 reply: Reply::Full,
                 place,
             });
         }
-        let next = Arc::new(alloc, Version { guests: place + 1 })?;
+        let next = Arc::new(alloc, Version::of(place + 1, self.guests + 1))?;
         self.enter(rt, next, share, guest);
         Ok(Done {
             reply: Reply::Entered,
@@ -63,9 +67,10 @@ impl<N: ViewName<u64> + Ledger> Keeper<N> {
     }
 
     /// Publishes this version, of the list with this guest, and counts it on the share.
-    fn enter<R: Wait>(&mut self, rt: &R, next: Arc<Version>, share: &mut Share<N>, guest: u64)
+    fn enter<R: Wait>(&mut self, rt: &R, next: Arc<Version<N>>, share: &mut Share<N>, guest: u64)
         requires part { 0 < share.old.parts }
         requires room { self.old.guests < 1000 }
+        requires number { (arc_value next).number ≡ self.old.number + 1 }
         requires next { (arc_value next).guests ≡ self.old.guests + 1 }
         ensures list { self.new.publisher.list ≡ self.old.publisher.list ++ guest ∷ [] }
         ensures amount { share.new.amount ≡ share.old.amount + 1 }
@@ -73,6 +78,7 @@ impl<N: ViewName<u64> + Ledger> Keeper<N> {
     {
         let Keeper {
             publisher,
+            number,
             guests,
             entered,
             spare: _,
@@ -80,6 +86,7 @@ impl<N: ViewName<u64> + Ledger> Keeper<N> {
         publisher.prepare(next);
         publisher.publish(rt, &guest);
         entered.add(share, 1);
+        *number += 1;
         *guests += 1;
     }
 

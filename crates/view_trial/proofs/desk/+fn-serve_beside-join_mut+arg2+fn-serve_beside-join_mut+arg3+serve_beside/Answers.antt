@@ -1,7 +1,8 @@
 use Rattle.std.proofs.Common.{◌≡◌, ◌++◌, rules, subst}
 use Rattle.view_trial.specs.declared.desk.Desk.{Desk}
-use Rattle.view_trial.specs.Desks.{EachTo}
-use Rattle.view_trial.proofs.DeskLemmas.{EachTo-append, ServedAt}
+use Rattle.pod_base.specs.EachTo.{EachTo}
+use Rattle.pod_base.proofs.EachToLemmas.{EachTo-append}
+use Rattle.view_trial.proofs.DeskLemmas.{ServedAt}
 use Rattle.view_trial.proofs.desk.+fn-serve_beside-join_mut+arg2+fn-serve_beside-join_mut+arg3+serve_beside.Goals as goal
 
 pub returns : goal.returns

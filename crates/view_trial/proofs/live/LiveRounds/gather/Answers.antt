@@ -1,7 +1,6 @@
-use Rattle.std.proofs.Common.{◌≡◌, ◌+◌, List, ap, arith, length, subst}
-use Rattle.std.specs.Prelude.{sum_by}
+use Rattle.std.proofs.Common.{List, ap, arith, length, subst}
 use Rattle.view_trial.specs.declared.desk.Desk.{Desk}
-use Rattle.view_trial.specs.Desks.{EachTo}
+use Rattle.pod_base.specs.EachTo.{EachTo}
 use Rattle.view_trial.proofs.DeskLemmas.{MetAt, sum_met}
 use Rattle.view_trial.proofs.live.LiveRounds.gather.Goals as goal
 

@@ -1,0 +1,71 @@
+//! The figures of the crates below: one word a figure, as bench/README.md lists them.
+//!
+//! With no word the program runs all of them with small counts, and prints no times. With a word it
+//! prints that figure's times.
+#![tactic(auto)]
+
+mod building;
+mod joining;
+mod opening;
+mod reading;
+mod serving;
+
+use anyhow::bail;
+use building::build_graph;
+use joining::join_conditions;
+use opening::open_journal;
+use reading::{Looks, read_versions};
+use serving::serve_stream;
+use std::alloc::Global;
+use std::env;
+
+/// The argument of that number, or another where there is none or it is no number.
+fn number(rt: &HostRuntime, place: usize, other: usize) -> anyhow::Result<usize> {
+    let word = env::args(rt)?.nth(place);
+    Ok(word.and_then(|word| word.parse().ok()).unwrap_or(other))
+}
+
+/// Runs the figures of one thread with small counts.
+fn run_small(rt: &HostRuntime, alloc: Global) -> anyhow::Result<()> {
+    build_graph(rt, alloc, 1_000, false)?;
+    join_conditions(rt, alloc, 1_000, false)?;
+    open_journal(rt, alloc, false)?;
+    serve_stream(rt, alloc, 100, 1, false)
+}
+
+/// Prints how many looks gave a version, and the rates if asked.
+fn print_looks(rt: &HostRuntime, looks: (Looks, Looks), times: bool) -> anyhow::Result<()> {
+    let (alone, beside) = looks;
+    println!(rt;
+        "looks that gave a version: {} alone, {} beside a publisher",
+        alone.given, beside.given
+    )?;
+    if times {
+        println!(rt;
+            "looks per second: {} alone, {} beside a publisher",
+            alone.rate, beside.rate
+        )?;
+    }
+    Ok(())
+}
+
+fn main(rt: HostRuntime) -> anyhow::Result<()> {
+    let alloc: Global = rt.alloc();
+    let Some(word) = env::args(&rt)?.nth(1) else {
+        run_small(&rt, alloc)?;
+        let looks = read_versions(&rt, alloc, 1_000)?;
+        return print_looks(&rt, looks, false);
+    };
+    let first = number(&rt, 2, 0)?;
+    match word.as_str() {
+        "graph" => build_graph(&rt, alloc, first, true),
+        "join" => join_conditions(&rt, alloc, first, true),
+        "journal" => open_journal(&rt, alloc, true),
+        "pipe" => serve_stream(&rt, alloc, first, number(&rt, 3, 1)?, true),
+        "view" => {
+            let looks = read_versions(&rt, alloc, first as u64)?;
+            print_looks(&rt, looks, true)
+        }
+        _ => bail!("there is no figure of this name"),
+    }
+}
