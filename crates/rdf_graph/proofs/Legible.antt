@@ -12,7 +12,7 @@ use Rattle.rdf_graph.specs.declared.term.Term.{Term}
 use Rattle.rdf_graph.specs.declared.term.Term.TheVariants.{Iri, Blank, Literal, Tagged}
 use Rattle.rdf_graph.specs.declared.triple.Triple.{Triple}
 use Rattle.rdf_graph.proofs.Exact.{same_parts}
-use Rattle.rdf_graph.proofs.Texts.{first_byte, quoted_parts}
+use Rattle.rdf_graph.specs.TermTexts.{first_byte, quoted_parts}
 
 -- what stands before the first byte c, and what stands behind it
 parts : (c : ℕ) (us vs xs ys : List ℕ) → All (λ b. b ≢ c) us → All (λ b. b ≢ c) vs → us ++ c ∷ xs ≡ vs ++ c ∷ ys → (us ≡ vs) × (xs ≡ ys)

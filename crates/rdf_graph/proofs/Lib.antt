@@ -8,8 +8,8 @@ pub mod Members
 pub mod Merging
 pub mod Patching
 pub mod Ranking
+pub mod Sizes
 pub mod Solving
 pub mod Sorted
 pub mod Spans
 pub mod Telling
-pub mod Texts

@@ -51,12 +51,22 @@ impl Graph {
         Graph { triples }
     }
 
-    /// The graph of triples that stand in its order.
-    pub(crate) fn in_order(triples: Vec<Triple>) -> Graph
+    /// The graph of triples of RDF that are in strict order already. Takes no memory.
+    pub fn in_order(triples: List<Triple>) -> Graph
         requires { IsGraph triples.items }
         ensures { result ≡ triples.items }
     {
-        Graph { triples }
+        Graph {
+            triples: triples.into_vec(),
+        }
+    }
+
+    /// Its triples as a list, in strict byte order of their lines. Takes no memory.
+    pub fn into_list(self) -> List<Triple>
+        ensures triples { result.items ≡ self }
+        ensures graph { IsGraph result.items }
+    {
+        List::from_vec(self.triples)
     }
 
     /// How many triples it has.
@@ -103,6 +113,13 @@ impl Graph {
         ensures rdf { IsTrue result → IsRdf triple.now }
     {
         place(self.triples.as_slice(), triple).is_ok()
+    }
+
+    /// Whether it has all these triples.
+    pub(crate) fn contains_all(&self, triples: &[Triple]) -> bool
+        ensures { IsTrue result ↔ All (Contains self.now) triples.now }
+    {
+        triples.iter().all(|triple| self.contains(triple))
     }
 
     /// Puts a triple in, and tells whether it is new.

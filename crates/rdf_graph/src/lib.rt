@@ -14,8 +14,10 @@ mod order;
 mod patch;
 mod pattern;
 mod search;
+mod size;
 mod solve;
 mod term;
+mod term_order;
 #[cfg(test)]
 mod tests;
 mod triple;

@@ -11,7 +11,7 @@ ghost use Rattle.rdf_graph.specs.declared.patch.PatchFault.TheVariants.{NoMemory
 
 use crate::change::Change;
 use crate::graph::Graph;
-use crate::pattern::{Found, Pattern, Slot};
+use crate::pattern::{Found, Pattern, Slot, value};
 use crate::solve::solutions;
 use crate::term::Term;
 use crate::triple::Triple;
@@ -142,21 +142,9 @@ fn term_in(alloc: Global, pairs: &[(Text, Term)], slot: &Slot) -> Mem<Term>
 {
     match slot {
         Slot::Fixed(term) => term.copy(alloc),
-        Slot::Var(name) => match value(pairs, name) {
+        Slot::Var(name) => match value(pairs, name.as_str()) {
             Some(term) => term.copy(alloc),
             None => unreachable!(),
         },
     }
-}
-
-/// What the name stands for, if anything.
-fn value<'a>(pairs: &'a [(Text, Term)], name: &Text) -> Option<&'a Term>
-    ensures { option_copied result ≡ value_of pairs.now name.now }
-{
-    for (other, term) in pairs {
-        if other.as_str() == name.as_str() {
-            return Some(term);
-        }
-    }
-    None
 }

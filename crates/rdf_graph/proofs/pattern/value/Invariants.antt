@@ -1,6 +1,6 @@
 use Rattle.std.proofs.Common.{◌≡◌, drop}
 use Rattle.rdf_graph.specs.Pattern.{value_of}
-use Rattle.rdf_graph.proofs.patch.value.Given as goal
+use Rattle.rdf_graph.proofs.pattern.value.Given as goal
 
 -- what is left decides
 abbrev pub invariant-loop-other : goal.invariant-loop-other

@@ -1,0 +1,7 @@
+use Rattle.rdf_graph.specs.Size.{saturated}
+use Rattle.rdf_graph.proofs.Sizes.{saturated_sum}
+use Rattle.rdf_graph.proofs.size.saturating_sum.Goals as goal
+
+pub returns : goal.returns
+unfolding saturated
+returns c m n d e = c.saturating_add.ensures ∙ saturated_sum m n c.args.first c.args.second d e
