@@ -1,6 +1,10 @@
 //! Absolute IRIs.
 
-ghost use Rattle.std.specs.Prelude.{◌≡◌, ◌↔◌, IfOk, IsErrOf, List, ℕ, string_bytes};
+ghost use Rattle.std.specs.Prelude.{◌≡◌, ◌↔◌, ◌++◌, IfOk, IsErrOf, List, ℕ, string_bytes, nat_eq, Some};
+ghost use Rattle.std.specs.Arc.{arc_str_bytes};
+ghost use Rattle.std.specs.Cmp.{partial_equiv_from_equiv};
+ghost use Rattle.std.specs.Cmp.Lexicographic.{slice_cmp};
+ghost use Rattle.std.specs.Ordering.{nat_cmp};
 ghost use Rattle.iri_ref.specs.Characters.{AllAllowed};
 ghost use Rattle.iri_ref.specs.Components.{IsAbsolute};
 ghost use Rattle.iri_ref.specs.Resolution.{IsResolved, StaysResolved, TakesScheme};
@@ -10,25 +14,28 @@ use crate::characters::all_allowed;
 use crate::components::{components, is_absolute};
 use crate::target::transform;
 use std::alloc::{AllocError, Global};
+use std::cmp::Ordering;
 use std::marker::Model;
+use std::sync::ArcStr;
 use thiserror::Error;
 
 /// An absolute IRI, kept as it was written. Contracts see it as its list of bytes, which has a scheme and no
 /// character that Turtle's IRIREF forbids.
 #[derive(Debug, Drop)]
 pub struct Iri {
-    text: String,
+    text: ArcStr,
 }
 
 impl Model for Iri {
-    ghost use Rattle.std.specs.Prelude.{List, ℕ, string_bytes};
+    ghost use Rattle.std.specs.Prelude.{List, ℕ};
+    ghost use Rattle.std.specs.Arc.{arc_str_bytes};
     ghost use Rattle.iri_ref.specs.Components.{IsAbsolute};
 
     ghost Value = { List ℕ };
 
-    ghost view = { λ iri. string_bytes iri.text };
+    ghost view = { λ iri. arc_str_bytes iri.text };
 
-    ghost invariant = { λ iri. IsAbsolute (string_bytes iri.text) };
+    ghost invariant = { λ iri. IsAbsolute (arc_str_bytes iri.text) };
 }
 
 /// Why there is no IRI.
@@ -60,7 +67,7 @@ impl Iri {
         if !is_absolute(text) {
             return Err(IriFault::BadReference);
         }
-        let text = String::from_str(alloc, text)?;
+        let text = ArcStr::from_str(alloc, text)?;
         Ok(Iri { text })
     }
 
@@ -72,21 +79,94 @@ impl Iri {
         self.text.as_str()
     }
 
-    /// The same IRI once more. Fails only for want of memory.
-    pub fn copy(&self, alloc: Global) -> Result<Iri, AllocError>
-        ensures { IfOk result (λ iri. iri ≡ self.now) }
+    /// The same IRI, which shares the memory of this one. It never answers `BadReference`.
+    pub fn copy(&self, _alloc: Global) -> Result<Iri, IriFault>
+        ensures text { IfOk result (λ iri. iri ≡ self.now) }
+        ensures never_bad { IsErrOf result IriFault.BadReference → ⊥ }
     {
-        let text = String::from_str(alloc, self.as_str())?;
+        let text = self.text.clone()?;
+        Ok(Iri { text })
+    }
+
+    /// The IRI with `end` after its text, in memory of its own.
+    pub fn appended(&self, alloc: Global, end: &str) -> Result<Iri, IriFault>
+        ensures text { IfOk result (λ iri. iri ≡ self.now ++ end.now) }
+        ensures absolute { IfOk result (λ iri. IsAbsolute iri) }
+        ensures bad_reference { IsErrOf result IriFault.BadReference ↔ (AllAllowed end.now → ⊥) }
+    {
+        if !all_allowed(end) {
+            return Err(IriFault::BadReference);
+        }
+        let text = concatenate(alloc, self.as_str(), end)?;
         Ok(Iri { text })
     }
 }
 
+/// Two texts as one, in one piece of memory of their length.
+fn concatenate(alloc: Global, prefix: &str, end: &str) -> Result<ArcStr, AllocError>
+    ensures { IfOk result (λ text. arc_str_bytes text ≡ prefix.now ++ end.now) }
+{
+    let mut text = String::with_capacity(alloc, prefix.len().saturating_add(end.len()))?;
+    text.push_str(prefix)?;
+    text.push_str(end)?;
+    ArcStr::from_string(text)
+}
+
+impl PartialEq for Iri {
+    ghost use Rattle.std.specs.Cmp.Lexicographic.{pointwise, nat_list_eq_equiv};
+
+    ghost eq = { pointwise nat_eq };
+
+    ghost laws = { partial_equiv_from_equiv nat_list_eq_equiv };
+
+    fn eq(&self, other: &Iri) -> bool {
+        self.as_str() == other.as_str()
+    }
+}
+
+impl Eq for Iri {
+    ghost use Rattle.std.specs.Cmp.Lexicographic.{nat_list_eq_equiv};
+
+    ghost laws = { nat_list_eq_equiv };
+}
+
+impl PartialOrd for Iri {
+    ghost use Rattle.std.specs.Cmp.Lexicographic.{texts_po};
+
+    ghost partial_cmp = { λ x y. Some (slice_cmp nat_cmp x y) };
+
+    ghost laws = { texts_po };
+
+    fn partial_cmp(&self, other: &Iri) -> Option<Ordering> {
+        Some(self.cmp(other))
+    }
+}
+
+/// IRIs are ordered by the bytes of their texts.
+impl Ord for Iri {
+    ghost use mathlib.Core.Path.{refl};
+    ghost use Rattle.std.specs.Cmp.Lexicographic.{nat_list_cmp_total, texts_ties};
+
+    ghost cmp = { slice_cmp nat_cmp };
+
+    ghost total = { nat_list_cmp_total };
+
+    ghost matches_partial_cmp = { λ x y. refl };
+
+    ghost matches_eq = { texts_ties };
+
+    fn cmp(&self, other: &Iri) -> Ordering {
+        self.as_str().cmp(other.as_str())
+    }
+}
+
 /// The text that a reference names, read against a base.
-fn resolved(alloc: Global, base: &str, reference: &str) -> Result<String, AllocError>
-    ensures { IfOk result (λ text. IsResolved base.now reference.now (string_bytes text)) }
+fn resolve_text(alloc: Global, base: &str, reference: &str) -> Result<ArcStr, AllocError>
+    ensures { IfOk result (λ text. IsResolved base.now reference.now (arc_str_bytes text)) }
 {
     let target = transform(components(base), components(reference));
-    target.text(alloc)
+    let text = target.text(alloc)?;
+    ArcStr::from_string(text)
 }
 
 /// The IRI that a reference names, read against a base: RFC 3986, section 5.2, strict.
@@ -103,6 +183,6 @@ pub fn resolve(alloc: Global, base: &Iri, reference: &str) -> Result<Iri, IriFau
     if !all_allowed(reference) {
         return Err(IriFault::BadReference);
     }
-    let text = resolved(alloc, base.as_str(), reference)?;
+    let text = resolve_text(alloc, base.as_str(), reference)?;
     Ok(Iri { text })
 }
