@@ -29,7 +29,8 @@ pub(crate) fn body_step(
     match payload.feed(alloc, bytes) {
         Ok(fed) => {
             if fed.done {
-                let next = finish(alloc, heard, count, said, payload.body())?;
+                let body = payload.body(alloc)?;
+                let next = finish(alloc, heard, count, said, body)?;
                 return Ok((fed.taken, next));
             }
             // No text is so long that this fails.

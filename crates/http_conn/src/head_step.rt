@@ -29,7 +29,8 @@ fn await_body(
     tell_interim(alloc, heard, &said, form)?;
     let payload = Payload::new(alloc, form);
     if payload.is_done() {
-        return finish(alloc, heard, count, said, payload.body());
+        let body = payload.body(alloc)?;
+        return finish(alloc, heard, count, said, body);
     }
     Ok(Stage::Body(OpenBody {
         said,

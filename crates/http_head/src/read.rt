@@ -91,7 +91,7 @@ fn lower_name(alloc: Global, name: &[u8]) -> Mem<Text>
     for byte in name {
         lower.push(byte.to_ascii_lowercase() as char)?;
     }
-    Ok(Text::from_string(lower))
+    Text::from_string(alloc, lower)
 }
 
 /// The field of a line.

@@ -6,7 +6,7 @@ ghost use Rattle.http_out.specs.Text.{response_text, head_text, status_line, phr
 use http::StatusCode;
 use httpdate::HttpDate;
 use itoa::Buffer;
-use pod_base::{Body, Bytes, Fields, Mem, Moment, Response, moment_of};
+use pod_base::{Body, Bytes, BytesBuilder, Fields, Mem, Moment, Response, moment_of};
 use std::alloc::Global;
 
 /// The date of a moment, as HTTP writes it (RFC 9110, section 5.6.7).
@@ -18,7 +18,7 @@ pub(crate) fn date_of(moment: Moment) -> [u8; 29]
 }
 
 /// Appends pieces of text, one after the other.
-fn add_pieces(alloc: Global, text: &mut Bytes, pieces: &[&[u8]]) -> Mem<()>
+fn add_pieces(alloc: Global, text: &mut BytesBuilder, pieces: &[&[u8]]) -> Mem<()>
     ensures { OnOk result (text.new ≡ text.old ++ flat_map (λ piece. piece.now) pieces.now) }
 {
     for piece in pieces {
@@ -28,7 +28,7 @@ fn add_pieces(alloc: Global, text: &mut Bytes, pieces: &[&[u8]]) -> Mem<()>
 }
 
 /// Appends a field's line.
-fn add_field(alloc: Global, text: &mut Bytes, name: &[u8], value: &[u8]) -> Mem<()>
+fn add_field(alloc: Global, text: &mut BytesBuilder, name: &[u8], value: &[u8]) -> Mem<()>
     ensures { OnOk result (text.new ≡ text.old ++ field_line name.now value.now) }
 {
     add_pieces(alloc, text, &[name, b": ", value, b"\r\n"])
@@ -51,7 +51,7 @@ pub(crate) fn phrase_of(code: &StatusCode) -> &'static str
 }
 
 /// Appends the first line.
-fn add_status(alloc: Global, text: &mut Bytes, status: u16) -> Mem<()>
+fn add_status(alloc: Global, text: &mut BytesBuilder, status: u16) -> Mem<()>
     requires { (100 ≤ status) × (status < 600) }
     ensures { OnOk result (text.new ≡ text.old ++ status_line status) }
 {
@@ -62,7 +62,7 @@ fn add_status(alloc: Global, text: &mut Bytes, status: u16) -> Mem<()>
 }
 
 /// Appends the lines of a response's own fields.
-fn add_fields(alloc: Global, text: &mut Bytes, fields: &Fields) -> Mem<()>
+fn add_fields(alloc: Global, text: &mut BytesBuilder, fields: &Fields) -> Mem<()>
     ensures { OnOk result (text.new ≡ text.old ++ field_lines fields.now) }
 {
     for field in fields.list.as_slice() {
@@ -85,7 +85,7 @@ pub(crate) fn told_length(body: &Body) -> u64
 
 /// Appends the line that tells that the connection closes, and the line that tells the body's length, each
 /// where the response has it.
-fn add_ends(alloc: Global, text: &mut Bytes, response: &Response, close: bool) -> Mem<()>
+fn add_ends(alloc: Global, text: &mut BytesBuilder, response: &Response, close: bool) -> Mem<()>
     ensures { OnOk result (text.new ≡ text.old ++ closing_line response.now.status close ++ length_line response.now) }
 {
     if close && response.status != 101 {
@@ -102,13 +102,18 @@ fn add_ends(alloc: Global, text: &mut Bytes, response: &Response, close: bool) -
 }
 
 /// The bytes of a response's head.
-fn head_of(alloc: Global, response: &Response, moment: Moment, close: bool) -> Mem<Bytes>
+fn head_of(
+    alloc: Global,
+    response: &Response,
+    moment: Moment,
+    close: bool,
+) -> Mem<BytesBuilder>
     requires { (100 ≤ response.now.status) × (response.now.status < 600) }
     ensures { IfOk result (λ bytes. (date : List ℕ) × IsDateOf moment.0 date
         × (bytes ≡ head_text response.now date close)) }
 {
     let date = date_of(moment);
-    let mut text = Bytes::new(alloc);
+    let mut text = BytesBuilder::new(alloc);
     add_status(alloc, &mut text, response.status)?;
     add_field(alloc, &mut text, b"Date", &date)?;
     add_fields(alloc, &mut text, &response.fields)?;
@@ -129,5 +134,5 @@ pub fn bytes_of(alloc: Global, response: &Response, moment: Moment, close: bool)
     if let Body::Whole(body) = &response.body {
         text.append(alloc, body.as_slice())?;
     }
-    Ok(text)
+    text.freeze(alloc)
 }

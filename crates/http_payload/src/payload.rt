@@ -7,7 +7,7 @@ use crate::fault::PayloadFault;
 use crate::run::run;
 use crate::stage::Stage;
 use http_head::BodyForm;
-use pod_base::Bytes;
+use pod_base::{Bytes, Mem, NoMemory};
 use std::alloc::Global;
 use std::marker::Model;
 
@@ -116,12 +116,16 @@ impl Payload {
         }
     }
 
-    /// The bytes of a whole body.
-    pub fn body(self) -> Bytes
+    /// The bytes of a complete body.
+    pub fn body(self, alloc: Global) -> Mem<Bytes>
         requires { IsDone self }
-        ensures bytes { result ≡ self.body }
-        ensures spelled { (form : Form) (text : List ℕ) → Stands form self text → IsBody form text result }
+        ensures bytes { IfOk result (λ bytes. bytes ≡ self.body) }
+        ensures spelled { IfOk result (λ bytes. (form : Form) (text : List ℕ) → Stands form self text
+            → IsBody form text bytes) }
     {
-        Bytes::from_vec(self.body)
+        match Bytes::from_vec(alloc, self.body) {
+            Ok(bytes) => Ok(bytes),
+            Err(_bytes) => Err(NoMemory),
+        }
     }
 }

@@ -1,6 +1,6 @@
 -- What an answer of `open` comes from.
 use Rattle.std.specs.Prelude.{◌≡◌, ℕ, List, [], Option}
-use Rattle.pod_io.specs.Counts.{Rose}
+use Rattle.pod_base.specs.Counts.{CountIncreased}
 use Rattle.pod_io.specs.Told.{IfTold}
 use Rattle.journal_log.specs.Images.{IsDamaged}
 use Rattle.journal_log.specs.declared.fault.Side.{Side}
@@ -11,7 +11,7 @@ use Rattle.journal_log.specs.declared.fault.OpenFault.TheVariants.{Empty, Damage
 abbrev pub IsOfReading : ℕ → ℕ → OpenFault → Type 0
 IsOfReading old new Empty = ⊥
 IsOfReading old new (Damaged side at) = ⊥
-IsOfReading old new DiskFault = Rose old new
+IsOfReading old new DiskFault = CountIncreased old new
 IsOfReading old new NoMemory = Unit {0}
 
 -- An empty disk has no bytes; damage is that of what the disk reads, at its place and on the side handed in; a fault of
@@ -19,5 +19,5 @@ IsOfReading old new NoMemory = Unit {0}
 abbrev pub HasCause : Option (List ℕ) → Side → ℕ → ℕ → OpenFault → Type 0
 HasCause content side old new Empty = IfTold content (λ disk. disk ≡ [])
 HasCause content side old new (Damaged on at) = (on ≡ side) × IfTold content (IsDamaged at)
-HasCause content side old new DiskFault = Rose old new
+HasCause content side old new DiskFault = CountIncreased old new
 HasCause content side old new NoMemory = Unit {0}

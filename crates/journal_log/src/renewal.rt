@@ -1,5 +1,5 @@
 ghost use Rattle.std.specs.Prelude.{◌≡◌, ◌≤◌, ◌^◌, ◌++◌, ◌∷◌, [], List, ℕ, length, take, drop, IfOk, IfErr, OnOk, IsErrOf, Some};
-ghost use Rattle.pod_io.specs.Counts.{Counts, Rose};
+ghost use Rattle.pod_io.specs.Counts.{Counts};
 ghost use Rattle.pod_io.specs.Told.{IfTold};
 ghost use Rattle.pod_disk.specs.Disk.{Each, LeavesOnly};
 ghost use Rattle.journal_log.specs.Frames.{framed_of};

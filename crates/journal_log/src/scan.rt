@@ -111,7 +111,10 @@ fn body_at<D: Disk>(
 {
     let mut body = vec![in alloc; 0u8; len as usize]?;
     window.read(disk, at, &mut body)?;
-    Ok(Bytes::from_vec(body))
+    match Bytes::from_vec(alloc, body) {
+        Ok(body) => Ok(body),
+        Err(_body) => Err(OpenFault::NoMemory),
+    }
 }
 
 // The record behind an open gate, whose length was read.

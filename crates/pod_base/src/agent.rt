@@ -1,17 +1,18 @@
+//! Agents, and the modes in which they may use a resource.
 ghost use Rattle.std.specs.Prelude.{◌≡◌, IfOk};
 
 use crate::memory::Mem;
 use crate::text::Text;
 use std::alloc::Global;
 
-/// Who asks: anybody, or the agent of an IRI.
-#[derive(Debug, Drop)]
+/// Who makes a request: anybody, or the agent with this IRI.
+#[derive(Debug, Drop, PartialEq, Eq, PartialOrd, Ord, Hash)]
 pub enum Agent {
     Public,
     Known(Text),
 }
 
-/// What a request does to a resource, as an access list names it.
+/// A mode of access to a resource, as Web Access Control names them.
 #[derive(Clone, Copy, Debug, PartialEq, Eq, Hash)]
 pub enum Mode {
     Read,

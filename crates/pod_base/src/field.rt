@@ -1,10 +1,11 @@
+//! The fields of a message's head.
 ghost use Rattle.std.specs.Prelude.{◌≡◌, ◌++◌, ◌∷◌, [], IfOk, OnOk, OnErr, find, count_by};
 ghost use Rattle.std.specs.Option.{option_copied, option_map};
 ghost use Rattle.pod_base.specs.Fields.{is_named};
 
-use crate::bytes::Bytes;
 use crate::list::List;
 use crate::memory::{Mem, NoMemory};
+use crate::shared_bytes::Bytes;
 use crate::text::Text;
 use std::alloc::Global;
 use std::marker::Model;
@@ -17,14 +18,15 @@ pub struct Field {
 }
 
 impl Field {
-    /// Whether that is the field's name, in any case.
+    /// Whether that is the field's name. Letters of ASCII are compared in any case (RFC 9110
+    /// section 5.1).
     pub fn is_named(&self, name: &str) -> bool
         ensures { result ≡ is_named name.now self.now }
     {
         self.name.as_str().eq_ignore_ascii_case(name)
     }
 
-    /// An equal field.
+    /// An equal field, which shares the name and the value.
     pub fn copy(&self, alloc: Global) -> Mem<Field>
         ensures { IfOk result (λ copy. copy ≡ self.now) }
     {
@@ -41,6 +43,7 @@ pub struct Fields {
 }
 
 impl Model for Fields {
+    //! The fields of a message's head.
     ghost use Rattle.std.specs.Prelude.{List};
     ghost use Rattle.pod_base.specs.declared.field.Field.{Field};
 
@@ -59,7 +62,7 @@ impl Fields {
         }
     }
 
-    /// Appends a field. For want of memory nothing changes.
+    /// Appends a field. Out of memory, nothing changes.
     pub fn add(&mut self, alloc: Global, field: Field) -> Mem<()>
         ensures added { OnOk result (self.new ≡ self.old ++ field ∷ []) }
         ensures unchanged { OnErr result (self.new ≡ self.old) }
@@ -93,7 +96,7 @@ impl Fields {
             .count()
     }
 
-    /// Equal fields.
+    /// Equal fields, which share their names and values. It takes memory for the list alone.
     pub fn copy(&self, alloc: Global) -> Mem<Fields>
         ensures { IfOk result (λ copy. copy ≡ self.now) }
     {

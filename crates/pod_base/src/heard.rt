@@ -1,12 +1,14 @@
+//! [`Heard`]: an event on a connection.
 use crate::request::Request;
 
-/// One thing that a connection hears.
+/// An event that the bytes of a connection parse to.
 #[derive(Debug, Drop)]
 pub enum Heard {
-    /// A whole request.
+    /// A complete request.
     Request(Request),
-    /// The head of a request that waits for `100 Continue` before it sends its body.
+    /// The end of a head whose client waits for `100 Continue` before it sends the body (RFC 9110
+    /// section 10.1.1).
     Interim,
-    /// A place at which the bytes are no message, with the status of the refusal. Nothing is heard after it.
+    /// A malformed message, with the status of the response that refuses it. No event follows it.
     Bad(u16),
 }

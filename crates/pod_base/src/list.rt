@@ -1,4 +1,6 @@
-ghost use Rattle.std.specs.Prelude.{◌≡◌, ◌↔◌, ◌+◌, ◌-◌, ◌<◌, ◌≤◌, ◌==◌, ◌++◌, ◌∷◌, [], if◌then◌else◌, length, is_ok, IsOk, IfErr, IsSome, OnOk, OnErr};
+//! [`List`]: a list that owns its items.
+ghost use Rattle.std.specs.Prelude.{◌≡◌, ◌↔◌, ◌+◌, ◌-◌, ◌<◌, ◌≤◌, ◌==◌, ◌++◌, ◌∷◌, []};
+ghost use Rattle.std.specs.Prelude.{if◌then◌else◌, length, is_ok, IsOk, IfErr, IsSome, OnOk, OnErr};
 ghost use Rattle.std.specs.Option.{option_to_list};
 ghost use Rattle.std.specs.Borrow.{sem};
 ghost use Rattle.pod_base.specs.Lending.{LendsItems};
@@ -9,8 +11,8 @@ use std::marker::Model;
 
 /// A list that owns its items.
 ///
-/// Contracts see its items and its room: for how many more items it has memory already. The memory may
-/// reach for more than that, and never for less.
+/// Contracts see its items and its room: how many more items it has memory for already. It may have
+/// memory for more than that, never for less.
 #[derive(Debug, Drop)]
 pub struct List<T> {
     items: Vec<T>,
@@ -72,8 +74,8 @@ impl<T> List<T> {
         self.items.is_empty()
     }
 
-    /// Appends an item. For want of memory alone it hands the item back; where there is room it takes no
-    /// memory and succeeds.
+    /// Appends an item. It hands the item back only when out of memory; where there is room it
+    /// takes no memory and succeeds.
     pub fn push(&mut self, _alloc: Global, item: T) -> Result<(), T>
         ensures items { self.new.items ≡ (if is_ok result then self.old.items ++ item ∷ [] else self.old.items) }
         ensures back { IfErr result (λ back. back ≡ item) }

@@ -1,4 +1,7 @@
-/// A request's method. `Other` is each method that this server gives no meaning.
+//! The methods of requests.
+
+/// A request's method (RFC 9110 section 9). `Other` is every method that this server doesn't
+/// implement.
 #[derive(Clone, Copy, Debug, PartialEq, Eq, Hash)]
 pub enum Method {
     Get,

@@ -1,16 +1,17 @@
+//! [`Request`]: a complete request.
 ghost use Rattle.std.specs.Prelude.{◌≡◌, IfOk};
 
-use crate::bytes::Bytes;
 use crate::field::Fields;
 use crate::memory::Mem;
 use crate::method::Method;
+use crate::shared_bytes::Bytes;
 use std::alloc::Global;
 
-/// A request as it was heard: its body is whole. Field names are in lower case.
+/// A request with its complete body. Field names are in lower case.
 #[derive(Debug, Drop)]
 pub struct Request {
     pub method: Method,
-    /// The target as it stands in the first line.
+    /// The target, as in the request line.
     pub target: Bytes,
     /// The minor version of HTTP/1.
     pub minor: u8,
@@ -19,7 +20,8 @@ pub struct Request {
 }
 
 impl Request {
-    /// An equal request.
+    /// An equal request, which shares target, names, values and body. It takes memory for the list
+    /// of fields alone.
     pub fn copy(&self, alloc: Global) -> Mem<Request>
         ensures { IfOk result (λ copy. copy ≡ self.now) }
     {

@@ -1,18 +1,20 @@
-use crate::bytes::Bytes;
+//! [`Response`]: the answer to a request.
 use crate::field::Fields;
+use crate::shared_bytes::Bytes;
 
-/// What follows a response's fields.
+/// The body of a response.
 #[derive(Debug, Drop)]
 pub enum Body {
     /// No body.
     Absent,
     /// These bytes.
     Whole(Bytes),
-    /// None, though its length is told: the answer to a HEAD.
+    /// No bytes, though their number is given: the response to a HEAD.
     LengthOnly(u64),
 }
 
-/// A response, without the fields that depend on its moment and on its connection.
+/// A response, without the fields that depend on its moment and its connection (`Date`,
+/// `Connection`, `Content-Length`).
 #[derive(Debug, Drop)]
 pub struct Response {
     pub status: u16,

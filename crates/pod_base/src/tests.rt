@@ -1,3 +1,4 @@
+//! The happy path of each call.
 use super::*;
 use std::alloc::Global;
 use std::test::Fail;
@@ -43,17 +44,34 @@ fn a_list_takes_and_gives_items(rt: HostRuntime) -> Result<(), Fail> {
 }
 
 #[test]
-fn text_and_bytes_are_copied(rt: HostRuntime) -> Result<(), Fail> {
+fn text_is_copied(rt: HostRuntime) -> Result<(), Fail> {
     let alloc = rt.alloc();
-    let text = Text::of(alloc, "grüße")?.copy(alloc)?;
+    let string = String::from_str(alloc, "grüße")?;
+    let text = Text::from_string(alloc, string)?.copy(alloc)?;
+    assert!(rt; text == Text::of(alloc, "grüße")?);
     assert_eq!(rt; text.as_str(), "grüße");
-    let mut bytes = Bytes::of(alloc, b"he")?.copy(alloc)?;
-    bytes.append(alloc, b"llo")?;
-    assert_eq!(rt; bytes.as_slice(), b"hello".as_slice());
     let Agent::Known(iri) = Agent::Known(text).copy(alloc)? else {
         return Err(Fail::from("an agent became public"));
     };
     assert_eq!(rt; iri.as_str(), "grüße");
+    Ok(())
+}
+
+#[test]
+fn bytes_are_built_cut_and_appended(rt: HostRuntime) -> Result<(), Fail> {
+    let alloc = rt.alloc();
+    let mut builder = BytesBuilder::new(alloc);
+    builder.reserve(alloc, 10)?;
+    builder.append(alloc, b"hello, pod")?;
+    let bytes = builder.freeze(alloc)?;
+    let mut word = bytes.slice(alloc, 0, 5)?.copy(alloc)?;
+    word.append(alloc, b"!")?;
+    assert_eq!(rt; word.as_slice(), b"hello!".as_slice());
+    assert_eq!(rt; bytes.len(), 10);
+    assert!(rt; Bytes::from_static(b"hello, pod") == bytes.compact(alloc)?);
+    let vec = bytes.into_vec(alloc)?;
+    assert!(rt; matches!(Bytes::from_vec(alloc, vec), Ok(again) if again > word));
+    assert!(rt; Bytes::new().is_empty());
     Ok(())
 }
 

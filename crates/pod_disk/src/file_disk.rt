@@ -1,5 +1,5 @@
 ghost use Rattle.std.specs.Prelude.{◌≡◌, ◌≤◌, None};
-ghost use Rattle.pod_io.specs.Counts.{Rose};
+ghost use Rattle.pod_base.specs.Counts.{CountIncreased};
 ghost use Rattle.pod_disk.specs.Laws.{none_told};
 
 use crate::disk::Disk;
@@ -48,7 +48,7 @@ impl<R: Files + Drop> FileDisk<R> {
     // Counts an error.
     fn fault(&mut self) -> Failed
         ensures no_fewer { self.old ≤ self.new }
-        ensures rose { Rose self.old self.new }
+        ensures increased { CountIncreased self.old self.new }
     {
         self.faults = self.faults.saturating_add(1);
         Failed

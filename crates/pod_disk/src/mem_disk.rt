@@ -1,6 +1,7 @@
 ghost use Rattle.std.specs.Prelude.{◌≡◌, ◌+◌, ◌<◌, ◌≤◌, ◌^◌, ◌∷◌, [], ◌++◌, ℕ, List, Some, is_some, length, take, drop, OnOk, OnErr, IfOk, ◌⊎◌, true, false};
 ghost use Rattle.std.specs.Option.{option_map};
-ghost use Rattle.pod_io.specs.Counts.{Rose, Counts};
+ghost use Rattle.pod_base.specs.Counts.{CountIncreased};
+ghost use Rattle.pod_io.specs.Counts.{Counts};
 ghost use Rattle.pod_io.specs.Told.{IfTold};
 ghost use Rattle.pod_io.specs.Memory.{next_call};
 ghost use Rattle.pod_disk.specs.Disk.{overwritten, Torn, Cut, Same, Passes};
@@ -139,7 +140,7 @@ impl MemDisk {
         ensures failing { self.new.calls.failing ≡ self.old.calls.failing }
         ensures made { self.new.calls.made ≡ next_call self.old.calls }
         ensures no_fewer { self.old.calls.faults ≤ self.new.calls.faults }
-        ensures rose { Rose self.old.calls.faults self.new.calls.faults }
+        ensures increased { CountIncreased self.old.calls.faults self.new.calls.faults }
     {
         if !self.calls.next_fails() {
             self.calls.count();

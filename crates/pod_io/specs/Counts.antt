@@ -1,10 +1,18 @@
-use Rattle.std.specs.Prelude.{ℕ, ◌-◌, ◌^◌, ◌<◌, ◌≤◌, Result, IsErr}
+-- What the counts of an outside object say of a call.
+use Rattle.std.specs.Prelude.{◌≡◌, ℕ, ◌+◌, ◌-◌, ◌^◌, ◌≤◌, min, Result, IsErr, OnOk, OnErr}
+use Rattle.pod_base.specs.Counts.{CountIncreased}
 
--- A count rose: unless it stands at the last number that it can hold, it is greater than it was.
-abbrev pub Rose : ℕ → ℕ → Type 0
-Rose old new = new < 2 ^ 64 - 1 → old < new
-
--- a call's count of faults never falls, and it rose where the call failed
+-- a call's count of faults never falls, and it increased where the call failed
 pub record Counts {T E : Type 0} (result : Result T E) (old new : ℕ) : Type 0 where
   pub no_fewer : old ≤ new
-  pub failed : IsErr result → Rose old new
+  pub failed : IsErr result → CountIncreased old new
+
+-- A count of 64 bits, one greater than it was. It stops at the last number that it can hold.
+abbrev pub next_count : ℕ → ℕ
+next_count count = min (count + 1) (2 ^ 64 - 1)
+
+-- A read that succeeded is counted, at the end of the source too, and one that failed is not.
+pub record CountsReads {T E : Type 0} (result : Result T E) (old new : ℕ) : Type 0 where
+  pub no_fewer : old ≤ new
+  pub read : OnOk result (new ≡ next_count old)
+  pub failed : OnErr result (new ≡ old)

@@ -1,3 +1,4 @@
+-- What public clauses cite, here and in the crates above.
 pub mod Counts
 pub mod Told
 pub mod Memory

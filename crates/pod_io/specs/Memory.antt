@@ -1,13 +1,14 @@
+-- Objects in memory, as contracts see them.
 use Rattle.std.specs.Prelude.{◌≡◌, ℕ, ◌+◌, ◌^◌, ◌-◌, List, min, Contains}
 
--- The calls of an object in memory: how many were made, the numbers of those that are to fail, from 1,
--- and how many failed.
+-- The calls of an object in memory: how many were made, the numbers of those that are to fail, from
+-- 1, and how many failed.
 pub record Script : Type 0 where
   pub made : ℕ
   pub failing : List ℕ
   pub faults : ℕ
 
--- The number of the next call. It stops at the last number that a count can hold.
+-- the number of the next call; it stops at the last number that a count can hold
 abbrev pub next_call : Script → ℕ
 next_call script = min (script.made + 1) (2 ^ 64 - 1)
 
@@ -15,14 +16,16 @@ next_call script = min (script.made + 1) (2 ^ 64 - 1)
 abbrev pub NextFails : Script → Type 0
 NextFails script = Contains script.failing (next_call script)
 
--- a source in memory: what is still to be read, at most how much a read gives, and its calls
-pub record Reading : Type 0 where
+-- a source in memory: the bytes that are left, at most how many a read gives, how many reads
+-- succeeded, and its calls
+pub record SourceState : Type 0 where
   pub rest : List ℕ
   pub piece : ℕ
+  pub reads : ℕ
   pub calls : Script
 
--- a sink in memory: what it has taken, at most how much a write takes, and its calls
-pub record Writing : Type 0 where
+-- a sink in memory: the bytes that it has taken, at most how many a write takes, and its calls
+pub record SinkState : Type 0 where
   pub taken : List ℕ
   pub piece : ℕ
   pub calls : Script

@@ -1,5 +1,6 @@
+//! [`Calls`]: the calls of an object in memory.
 ghost use Rattle.std.specs.Prelude.{◌≡◌, ◌+◌, ◌-◌, ◌^◌, ◌≤◌, ◌↔◌, if◌then◌else◌, min, IsTrue};
-ghost use Rattle.pod_io.specs.Counts.{Rose};
+ghost use Rattle.pod_base.specs.Counts.{CountIncreased};
 ghost use Rattle.pod_io.specs.Memory.{next_call, NextFails};
 
 use std::marker::Model;
@@ -34,14 +35,14 @@ impl Calls {
         }
     }
 
-    /// Makes a call, and says whether it is to fail. It is counted then.
+    /// Numbers a call, and returns whether it is to fail. A call that is, is counted.
     pub fn next_fails(&mut self) -> bool
         ensures fails { IsTrue result ↔ NextFails self.old }
         ensures made { self.new.made ≡ next_call self.old }
         ensures failing { self.new.failing ≡ self.old.failing }
         ensures faults { self.new.faults ≡ (if result then min (self.old.faults + 1) (2 ^ 64 - 1) else self.old.faults) }
         ensures no_fewer { self.old.faults ≤ self.new.faults }
-        ensures rose { IsTrue result → Rose self.old.faults self.new.faults }
+        ensures increased { IsTrue result → CountIncreased self.old.faults self.new.faults }
     {
         self.made = self.made.saturating_add(1);
         let fails = self.failing.contains(&self.made);
@@ -57,7 +58,7 @@ impl Calls {
         ensures failing { self.new.failing ≡ self.old.failing }
         ensures faults { self.new.faults ≡ min (self.old.faults + 1) (2 ^ 64 - 1) }
         ensures no_fewer { self.old.faults ≤ self.new.faults }
-        ensures rose { Rose self.old.faults self.new.faults }
+        ensures increased { CountIncreased self.old.faults self.new.faults }
     {
         self.faults = self.faults.saturating_add(1);
     }

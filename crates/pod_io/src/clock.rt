@@ -1,3 +1,4 @@
+//! [`Clock`]: what the time is.
 ghost use Rattle.std.specs.Prelude.{◌≡◌, ℕ};
 
 use std::time::SystemTime;
@@ -12,7 +13,7 @@ pub trait Clock {
         ensures { may_give self.now result };
 }
 
-/// A clock that stands still.
+/// A clock that always gives one number.
 #[derive(Clone, Copy, Debug)]
 pub struct SetClock {
     pub seconds: u64,
@@ -26,8 +27,8 @@ impl Clock for SetClock {
     }
 }
 
-/// The host's clock, which may give any number. Where the host cannot tell the time, or tells one before
-/// 1970, it gives 0.
+/// The host's clock, which may give any number. Where the host doesn't know the time, or has one
+/// before 1970, it gives 0.
 #[derive(Debug, Drop)]
 pub struct HostClock<R: Drop> {
     host: R,

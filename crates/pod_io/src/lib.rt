@@ -1,7 +1,15 @@
-//! The outside as the pod server sees it: where bytes come from, where they go to, and what the time is.
+//! The outside as the pod server sees it: where bytes come from, where they go to, and what the
+//! time is.
 //!
-//! Each trait counts its faults, and an object that failed says so by its count. What an object in memory
-//! gives and takes is told to contracts. What a real one gives and takes is not: those are thin, and
+//! ```text
+//! let mut source = MemSource::new(bytes, 3, Vec::new(alloc));
+//! let count = source.read(&mut into)?;        // at most 3 bytes; 0 exactly at the end
+//! source.rest();                              // those that are left
+//! ```
+//!
+//! Each trait counts its faults, and a source its reads. A call fails only where the count of
+//! faults increased, and no count falls (`faults`, `reads`). Contracts see the bytes of objects in
+//! memory (`rest`, `taken`). Those of the host's objects they don't see: these are thin, and
 //! trusted.
 #![tactic(auto)]
 

@@ -1,3 +1,4 @@
+//! [`MemSink`]: a sink in memory.
 ghost use Rattle.std.specs.Prelude.{◌≡◌, ◌<◌, ◌≤◌, [], Some, length, IsErr, IfOk};
 ghost use Rattle.pod_io.specs.Counts.{Counts};
 ghost use Rattle.pod_io.specs.Told.{Appends};
@@ -9,7 +10,7 @@ use crate::source::Failed;
 use std::alloc::Global;
 use std::marker::Model;
 
-/// A sink in memory, which tells what it has taken.
+/// A sink in memory, which shows the bytes that it has taken.
 #[derive(Debug, Drop)]
 pub struct MemSink {
     taken: Vec<u8>,
@@ -19,9 +20,9 @@ pub struct MemSink {
 
 impl Model for MemSink {
     ghost use Rattle.std.specs.Prelude.{◌<◌};
-    ghost use Rattle.pod_io.specs.Memory.{Writing};
+    ghost use Rattle.pod_io.specs.Memory.{SinkState};
 
-    ghost Value = { Writing };
+    ghost Value = { SinkState };
 
     ghost view = { λ s. record { taken = s.taken.items; piece = s.piece; calls = s.calls } };
 
@@ -29,8 +30,8 @@ impl Model for MemSink {
 }
 
 impl MemSink {
-    /// A sink that has taken nothing, of which a write takes at most `piece` bytes at a time. The writes
-    /// of these numbers, from 1, fail. Another one fails only for want of memory.
+    /// A sink that has taken nothing, of which a write takes at most `piece` bytes at a time. The
+    /// writes of these numbers, from 1, fail. Another one fails only when out of memory.
     pub fn new(alloc: Global, piece: usize, failing: Vec<u64>) -> MemSink
         requires { 0 < piece }
         ensures taken { result.taken ≡ [] }
@@ -45,7 +46,7 @@ impl MemSink {
         }
     }
 
-    /// What it has taken.
+    /// The bytes that it has taken.
     pub fn taken(&self) -> &[u8]
         ensures { result.now ≡ self.now.taken }
     {

@@ -1,5 +1,6 @@
+//! [`MemSource`]: a source in memory.
 ghost use Rattle.std.specs.Prelude.{◌≡◌, ◌<◌, ◌≤◌, ◌↔◌, Some, length, IsErr, IfOk};
-ghost use Rattle.pod_io.specs.Counts.{Counts};
+ghost use Rattle.pod_io.specs.Counts.{Counts, CountsReads};
 ghost use Rattle.pod_io.specs.Told.{IfTold, IsRead, Consumes};
 ghost use Rattle.pod_io.specs.Memory.{NextFails};
 
@@ -7,22 +8,28 @@ use crate::calls::Calls;
 use crate::source::{Failed, Source};
 use std::marker::Model;
 
-/// A source in memory, which tells what is still to be read.
+/// A source in memory, which shows the bytes that are left.
 #[derive(Debug, Drop)]
 pub struct MemSource {
     bytes: Vec<u8>,
     at: usize,
     piece: usize,
+    reads: u64,
     calls: Calls,
 }
 
 impl Model for MemSource {
     ghost use Rattle.std.specs.Prelude.{drop, length, ◌≤◌, ◌<◌};
-    ghost use Rattle.pod_io.specs.Memory.{Reading};
+    ghost use Rattle.pod_io.specs.Memory.{SourceState};
 
-    ghost Value = { Reading };
+    ghost Value = { SourceState };
 
-    ghost view = { λ s. record { rest = drop s.at s.bytes.items; piece = s.piece; calls = s.calls } };
+    ghost view = { λ s. record {
+      rest = drop s.at s.bytes.items;
+      piece = s.piece;
+      reads = s.reads;
+      calls = s.calls;
+    } };
 
     ghost invariant = { λ s. (s.at ≤ length s.bytes.items) × (0 < s.piece) };
 }
@@ -33,6 +40,7 @@ impl MemSource {
     pub fn new(bytes: Vec<u8>, piece: usize, failing: Vec<u64>) -> MemSource
         requires { 0 < piece }
         ensures rest { result.rest ≡ bytes.items }
+        ensures reads { result.reads ≡ 0 }
         ensures made { result.calls.made ≡ 0 }
         ensures failing { result.calls.failing ≡ failing.items }
         ensures faults { result.calls.faults ≡ 0 }
@@ -41,8 +49,16 @@ impl MemSource {
             bytes,
             at: 0,
             piece,
+            reads: 0,
             calls: Calls::new(failing),
         }
+    }
+
+    /// The bytes that are left.
+    pub fn rest(&self) -> &[u8]
+        ensures { result.now ≡ self.now.rest }
+    {
+        &self.bytes[self.at..]
     }
 }
 
@@ -51,12 +67,16 @@ impl Source for MemSource {
 
     ghost faults = { λ s. s.calls.faults };
 
+    ghost reads = { λ s. s.reads };
+
     fn read(&mut self, into: &mut [u8]) -> Result<usize, Failed>
         requires { 0 < length into.old }
         ensures len { IfOk result (λ count. count ≤ length into.old) }
-        ensures bytes { IfOk result (λ count. IfTold (Some self.old.rest) (λ rest. IsRead rest count into.old into.new)) }
+        ensures bytes { IfOk result (λ count. IfTold (Some self.old.rest)
+            (λ rest. IsRead rest count into.old into.new)) }
         ensures rest { Consumes result (Some self.old.rest) (Some self.new.rest) }
         ensures faults { Counts result self.old.calls.faults self.new.calls.faults }
+        ensures reads { CountsReads result self.old.reads self.new.reads }
         ensures fails { IsErr result ↔ NextFails self.old.calls }
     {
         if self.calls.next_fails() {
@@ -66,6 +86,7 @@ impl Source for MemSource {
         let count = rest.len().min(into.len()).min(self.piece);
         into[..count].copy_from_slice(&rest[..count]);
         self.at += count;
+        self.reads = self.reads.saturating_add(1);
         Ok(count)
     }
 }

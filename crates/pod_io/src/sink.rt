@@ -1,3 +1,4 @@
+//! [`Sink`]: where bytes go to.
 ghost use Rattle.std.specs.Prelude.{◌≡◌, ◌<◌, ◌≤◌, ℕ, List, Option, length, IfOk};
 ghost use Rattle.pod_io.specs.Counts.{Counts};
 ghost use Rattle.pod_io.specs.Told.{Appends};
@@ -6,13 +7,13 @@ use crate::source::Failed;
 
 /// Where bytes go to.
 pub trait Sink {
-    /// What it has taken, where the sink tells it.
+    /// The bytes that it has taken, where the sink shows them.
     ghost taken: { Self → Option (List ℕ) };
 
-    /// How many writes failed. The count stops at the end of a `u64`.
+    /// How many writes failed: a number of 64 bits, which never falls and stops at the last number.
     ghost faults: { Self → ℕ };
 
-    /// Writes some bytes of the front of `piece`, which is not empty, and says how many: at least one.
+    /// Writes a prefix of `piece`, which is not empty, and returns its length: at least one byte.
     fn write(&mut self, piece: &[u8]) -> Result<usize, Failed>
         requires { 0 < length piece.now }
         ensures some { IfOk result (λ count. 0 < count) }

@@ -1,25 +1,33 @@
+//! [`Source`]: where bytes come from.
 ghost use Rattle.std.specs.Prelude.{◌≡◌, ◌<◌, ◌≤◌, ℕ, List, Option, length, IfOk};
-ghost use Rattle.pod_io.specs.Counts.{Counts};
+ghost use Rattle.pod_io.specs.Counts.{Counts, CountsReads};
 ghost use Rattle.pod_io.specs.Told.{IfTold, IsRead, Consumes};
 
-/// A call that failed. The object that was called counts it.
+/// A call that failed. The object that was called has counted it.
 #[derive(Clone, Copy, Debug, PartialEq, Eq)]
 pub struct Failed;
 
 /// Where bytes come from.
+///
+/// Its counts are numbers of 64 bits, which never fall and stop at the last number.
 pub trait Source {
-    /// What is still to be read, where the source tells it.
+    /// The bytes that are left, where the source shows them.
     ghost rest: { Self → Option (List ℕ) };
 
-    /// How many reads failed. The count stops at the end of a `u64`.
+    /// How many reads failed.
     ghost faults: { Self → ℕ };
 
-    /// Reads some bytes to the front of `into`, which is not empty, and says how many. Where it gives none,
-    /// the source is at its end.
+    /// How many reads succeeded: those that gave bytes, and those that found the end.
+    ghost reads: { Self → ℕ };
+
+    /// Reads some bytes to the start of `into`, which is not empty, and returns how many. Where
+    /// there are none, the source is at its end.
     fn read(&mut self, into: &mut [u8]) -> Result<usize, Failed>
         requires { 0 < length into.old }
         ensures len { IfOk result (λ count. count ≤ length into.old) }
-        ensures bytes { IfOk result (λ count. IfTold (rest self.old) (λ rest. IsRead rest count into.old into.new)) }
+        ensures bytes { IfOk result (λ count. IfTold (rest self.old)
+            (λ rest. IsRead rest count into.old into.new)) }
         ensures rest { Consumes result (rest self.old) (rest self.new) }
-        ensures faults { Counts result (faults self.old) (faults self.new) };
+        ensures faults { Counts result (faults self.old) (faults self.new) }
+        ensures reads { CountsReads result (reads self.old) (reads self.new) };
 }

@@ -1,11 +1,12 @@
+//! [`StdSink`]: a sink over a writer of the host.
 ghost use Rattle.std.specs.Prelude.{None};
 
 use crate::sink::Sink;
 use crate::source::Failed;
 use std::io::Write;
 
-/// A real writer. It tells nothing of what it takes, and counts its errors. A write that takes no byte is
-/// one of them.
+/// A writer of the host. It doesn't show the bytes that it takes, and counts its errors. A write
+/// that takes no byte is one of them.
 #[derive(Debug, Drop)]
 pub struct StdSink<W: Drop> {
     writer: W,

@@ -1,9 +1,10 @@
+//! Objects in memory and of the host, some of which fail.
 use super::*;
 use std::io;
 use std::io::{ErrorKind, Read, Write};
 use std::test::Fail;
 
-/// A real object that always fails.
+/// An object of the host that always fails.
 #[derive(Drop)]
 struct Broken;
 
@@ -24,7 +25,9 @@ impl Write for Broken {
 }
 
 #[test]
-fn a_source_in_memory_gives_pieces_and_fails_as_told(rt: HostRuntime) -> Result<(), Fail> {
+fn a_source_in_memory_gives_pieces_and_fails_at_the_numbered_call(
+    rt: HostRuntime,
+) -> Result<(), Fail> {
     let alloc = rt.alloc();
     let bytes = b"hello".to_vec(alloc)?;
     let mut source = MemSource::new(bytes, 3, vec![in alloc; 2]?);
@@ -32,6 +35,7 @@ fn a_source_in_memory_gives_pieces_and_fails_as_told(rt: HostRuntime) -> Result<
     assert_eq!(rt; source.read(&mut into), Ok(3));
     assert_eq!(rt; into, *b"hel\0");
     assert_eq!(rt; source.read(&mut into), Err(Failed));
+    assert_eq!(rt; source.rest(), b"lo".as_slice());
     assert_eq!(rt; source.read(&mut into), Ok(2));
     assert_eq!(rt; into, *b"lol\0");
     assert_eq!(rt; source.read(&mut into), Ok(0));
@@ -39,7 +43,9 @@ fn a_source_in_memory_gives_pieces_and_fails_as_told(rt: HostRuntime) -> Result<
 }
 
 #[test]
-fn a_sink_in_memory_takes_pieces_and_fails_as_told(rt: HostRuntime) -> Result<(), Fail> {
+fn a_sink_in_memory_takes_pieces_and_fails_at_the_numbered_call(
+    rt: HostRuntime,
+) -> Result<(), Fail> {
     let alloc = rt.alloc();
     let mut sink = MemSink::new(alloc, 3, vec![in alloc; 2]?);
     assert_eq!(rt; sink.write(b"hello"), Ok(3));
@@ -50,7 +56,7 @@ fn a_sink_in_memory_takes_pieces_and_fails_as_told(rt: HostRuntime) -> Result<()
 }
 
 #[test]
-fn a_real_reader_is_read_and_its_errors_are_faults(rt: HostRuntime) {
+fn a_host_reader_is_read_and_its_errors_are_faults(rt: HostRuntime) {
     let mut into = [0u8; 4];
     let mut source = StdSource::new(b"hi".as_slice());
     assert_eq!(rt; source.read(&mut into), Ok(2));
@@ -60,7 +66,7 @@ fn a_real_reader_is_read_and_its_errors_are_faults(rt: HostRuntime) {
 }
 
 #[test]
-fn a_real_writer_is_written_and_taking_nothing_is_a_fault(rt: HostRuntime) {
+fn a_host_writer_is_written_and_taking_no_byte_is_a_fault(rt: HostRuntime) {
     assert_eq!(rt;
         StdSink::new(Vec::<u8>::new(rt.alloc())).write(b"hi"),
         Ok(2)
@@ -69,7 +75,7 @@ fn a_real_writer_is_written_and_taking_nothing_is_a_fault(rt: HostRuntime) {
 }
 
 #[test]
-fn clocks_tell_the_time(rt: HostRuntime) -> Result<(), Fail> {
+fn clocks_give_the_time(rt: HostRuntime) -> Result<(), Fail> {
     let clock = SetClock {
         seconds: 784_111_777,
     };

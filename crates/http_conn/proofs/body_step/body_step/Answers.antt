@@ -14,8 +14,8 @@ pub returns-then-fed-clause-goes : goal.returns-then-fed-clause-goes
 returns-then-fed-clause-goes c =
     let bytes : List ℕ = c.args.bytes.now in
     let front : List ℕ = take c.in-Ok.fed.taken bytes in
-    body_ends c.args.begun front c.body.result c.args.heard.now.items c.finish.new.heard.items c.in_ok-next-in-Ok.next
-    (λ form text s. subst (IsBody form (text ++ front)) (sym c.body.ensures.bytes) (c.in-Ok.ensures.whole c.if-fed.true form text s))
+    body_ends c.args.begun front c.in_ok-body-in-Ok.body c.args.heard.now.items c.finish.new.heard.items c.in_ok-next-in-Ok.next
+    (λ form text s. subst (IsBody form (text ++ front)) (sym c.in_ok-body-in-Ok.ensures.bytes) (c.in-Ok.ensures.whole c.if-fed.true form text s))
     c.in_ok-next-in-Ok.ensures.ends
 
 -- it goes on

@@ -7,8 +7,8 @@ use Rattle.http_conn.proofs.head_step.await_body.Goals as goal
 pub returns-then-is_done-clause-goes : goal.returns-then-is_done-clause-goes
 returns-then-is_done-clause-goes c =
     IfOk-weaker c.finish.result _ _
-    (λ new finishes. awaits_none c.args.count c.args.len c.args.said c.args.form c.args.heard.now.items c.tell_interim.new.heard.items c.finish.new.heard.items new c.body.result
-    c.in_ok-tell_interim.ensures (c.body.ensures.spelled c.args.form [] c.new-payload.ensures) finishes)
+    (λ new finishes. awaits_none c.args.count c.args.len c.args.said c.args.form c.args.heard.now.items c.tell_interim.new.heard.items c.finish.new.heard.items new c.in_ok-body.body
+    c.in_ok-tell_interim.ensures (c.in_ok-body.ensures.spelled c.args.form [] c.new-payload.ensures) finishes)
     c.finish.ensures.ends
 
 -- a body that is waited for

@@ -1,0 +1,4 @@
+-- kept for the crates above
+pub mod CountLemmas
+pub mod EachToLemmas
+pub mod Prefixes
