@@ -119,7 +119,12 @@ impl Graph {
     pub(crate) fn contains_all(&self, triples: &[Triple]) -> bool
         ensures { IsTrue result ↔ All (Contains self.now) triples.now }
     {
-        triples.iter().all(|triple| self.contains(triple))
+        for triple in triples {
+            if !self.contains(triple) {
+                return false;
+            }
+        }
+        true
     }
 
     /// Puts a triple in, and tells whether it is new.

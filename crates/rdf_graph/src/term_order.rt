@@ -77,8 +77,8 @@ impl Ord for Slot {
     fn cmp(&self, other: &Slot) -> Ordering {
         match (self, other) {
             (Slot::Fixed(term), Slot::Fixed(other)) => term.cmp_text(other),
-            (Slot::Fixed(term), Slot::Var(_)) => cmp_variable(term),
-            (Slot::Var(_), Slot::Fixed(term)) => cmp_variable(term).reverse(),
+            (Slot::Fixed(term), Slot::Var(_)) => cmp_to_variable(term),
+            (Slot::Var(_), Slot::Fixed(term)) => cmp_with_variable(term),
             (Slot::Var(name), Slot::Var(other)) => {
                 name.as_str().as_bytes().cmp(other.as_str().as_bytes())
             }
@@ -86,9 +86,20 @@ impl Ord for Slot {
     }
 }
 
+/// How each text that begins with `?` compares with a term's.
+#[tactic(auto, unfolding(crate::specs::Term::text))]
+fn cmp_with_variable(term: &Term) -> Ordering
+    ensures { (name : List ℕ) → result ≡ bytes_cmp (63 ∷ name) (text term.now) }
+{
+    match term {
+        Term::Blank(_) => Ordering::Less,
+        _ => Ordering::Greater,
+    }
+}
+
 /// How a term's text compares with each text that begins with `?`.
 #[tactic(auto, unfolding(crate::specs::Term::text))]
-fn cmp_variable(term: &Term) -> Ordering
+fn cmp_to_variable(term: &Term) -> Ordering
     ensures { (name : List ℕ) → result ≡ bytes_cmp (text term.now) (63 ∷ name) }
 {
     match term {

@@ -1,3 +1,4 @@
+use Rattle.std.proofs.Common.{◌∙◌}
 use Rattle.rdf_graph.specs.Size.{saturated}
 use Rattle.rdf_graph.proofs.Sizes.{saturated_sum}
 use Rattle.rdf_graph.proofs.size.saturating_sum.Goals as goal
