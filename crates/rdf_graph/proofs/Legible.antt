@@ -112,7 +112,7 @@ term_parts (Tagged l t) (Tagged m u) xs ys h k e =
     tagged : (l m t u : List ℕ) → l ≡ m → t ≡ u → Tagged l t ≡ Tagged m u
     tagged l m t u a b = cc
 
-line_rest : (s p o : Term) (rest : List ℕ) → line (record { s = s; p = p; o = o }) ++ rest ≡ text s ++ 32 ∷ (text p ++ 32 ∷ (text o ++ 32 ∷ (46 ∷ 10 ∷ rest)))
+pub line_rest : (s p o : Term) (rest : List ℕ) → line (record { s = s; p = p; o = o }) ++ rest ≡ text s ++ 32 ∷ (text p ++ 32 ∷ (text o ++ 32 ∷ (46 ∷ 10 ∷ rest)))
 unfolding line
 line_rest s p o rest =
     append_assoc (text s) (32 ∷ (text p ++ 32 ∷ (text o ++ codes " .\n"))) rest

@@ -18,4 +18,6 @@ pub mod TermOrderLaws
 pub mod TermTexts
 pub mod Triple
 pub mod TripleLaws
+pub mod TripleRef
+pub mod Walk
 pub mod Written

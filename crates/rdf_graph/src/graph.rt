@@ -3,8 +3,11 @@ ghost use Rattle.std.specs.Prelude.{◌≡◌, ◌==◌, ◌<◌, ◌↔◌, [],
 ghost use Rattle.rdf_graph.specs.Triple.{IsRdf};
 ghost use Rattle.rdf_graph.specs.Graph.{IsGraph, IsOrdered, SameSet, SetWith, SetWithout};
 ghost use Rattle.rdf_graph.specs.Place.{IsGap};
+ghost use Rattle.rdf_graph.specs.TripleRef.{triple_of};
 
+use crate::order::cmp_triples;
 use crate::triple::Triple;
+use crate::triple_ref::TripleRef;
 use pod_base::{List, Mem};
 use std::alloc::Global;
 use std::marker::Model;
@@ -113,6 +116,15 @@ impl Graph {
         ensures rdf { IsTrue result → IsRdf triple.now }
     {
         place(self.triples.as_slice(), triple).is_ok()
+    }
+
+    /// Whether it has the triple of these terms.
+    pub(crate) fn contains_parts(&self, triple: &TripleRef<'_>) -> bool
+        ensures { IsTrue result ↔ Contains self.now (triple_of triple.now) }
+    {
+        self.as_slice()
+            .binary_search_by(|other| cmp_triples(&other.parts(), triple))
+            .is_ok()
     }
 
     /// Whether it has all these triples.

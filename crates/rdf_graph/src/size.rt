@@ -17,8 +17,10 @@ impl Term {
             Term::Iri(iri) => saturating_sum(size_of(1), text_size(iri.as_str())),
             Term::Blank(label) => saturating_sum(size_of(1), text_size(label.as_str())),
             Term::Literal { lexical, datatype } => {
-                let texts =
-                    saturating_sum(text_size(lexical.as_str()), text_size(datatype.as_str()));
+                let texts = saturating_sum(
+                    text_size(lexical.as_str()),
+                    text_size(datatype.as_str()),
+                );
                 saturating_sum(size_of(1), texts)
             }
             Term::Tagged { lexical, lang } => {
@@ -85,7 +87,7 @@ fn text_size(text: &str) -> u64
 
 /// The number as a size.
 #[tactic(auto, unfolding(crate::specs::Size::saturated))]
-fn size_of(number: usize) -> u64
+pub(crate) fn size_of(number: usize) -> u64
     ensures { result ≡ saturated number }
 {
     number as u64
