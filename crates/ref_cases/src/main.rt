@@ -2,6 +2,7 @@
 //! library returns as one more field. The first field of a case names its topic, the second the call.
 #![tactic(auto)]
 
+mod graphs;
 mod paths;
 mod references;
 
@@ -21,6 +22,7 @@ fn answer_topic(alloc: Global, topic: &str, case: &[&str]) -> Result<String, All
     match topic {
         "reference" => references::answer(alloc, case),
         "path" => paths::answer(alloc, case),
+        "graph" => graphs::answer(alloc, case),
         _ => String::from_str(alloc, "no topic"),
     }
 }

@@ -72,12 +72,7 @@ fn under(alloc: Global, field: &str, other: &str) -> Result<String, AllocError> 
     format!(in alloc; "{}", path.under(&other))
 }
 
-fn child(
-    alloc: Global,
-    field: &str,
-    name: &str,
-    container: bool,
-) -> Result<String, AllocError> {
+fn child(alloc: Global, field: &str, name: &str, container: bool) -> Result<String, AllocError> {
     let name = text(alloc, name)?;
     match path(alloc, field)? {
         Ok(path) if path.is_container() => {
