@@ -9,7 +9,7 @@ use Rattle.rdf_graph.specs.Term.{text}
 use Rattle.rdf_graph.specs.Triple.{line, triple_cmp}
 use Rattle.rdf_graph.specs.declared.triple.Triple.{Triple}
 use Rattle.rdf_graph.specs.declared.term.Term.{Term}
-use Rattle.rdf_graph.proofs.Texts.{text_injective}
+use Rattle.rdf_graph.specs.TermTexts.{text_injective}
 
 both_equal : (a b : Ordering) → ordering_then a b ≡ Equal → (a ≡ Equal) × (b ≡ Equal)
 both_equal Less b e = absurd cc

@@ -12,7 +12,7 @@ use Rattle.rdf_graph.specs.declared.term.Term.{Term}
 use Rattle.rdf_graph.specs.declared.term.Term.TheVariants.{Iri, Blank, Literal, Tagged}
 use Rattle.rdf_graph.specs.declared.triple.Triple.{Triple}
 use Rattle.rdf_graph.proofs.Exact.{same_parts}
-use Rattle.rdf_graph.proofs.Texts.{first_byte, quoted_parts}
+use Rattle.rdf_graph.specs.TermTexts.{first_byte, quoted_parts}
 
 -- what stands before the first byte c, and what stands behind it
 parts : (c : ℕ) (us vs xs ys : List ℕ) → All (λ b. b ≢ c) us → All (λ b. b ≢ c) vs → us ++ c ∷ xs ≡ vs ++ c ∷ ys → (us ≡ vs) × (xs ≡ ys)
@@ -112,7 +112,7 @@ term_parts (Tagged l t) (Tagged m u) xs ys h k e =
     tagged : (l m t u : List ℕ) → l ≡ m → t ≡ u → Tagged l t ≡ Tagged m u
     tagged l m t u a b = cc
 
-line_rest : (s p o : Term) (rest : List ℕ) → line (record { s = s; p = p; o = o }) ++ rest ≡ text s ++ 32 ∷ (text p ++ 32 ∷ (text o ++ 32 ∷ (46 ∷ 10 ∷ rest)))
+pub line_rest : (s p o : Term) (rest : List ℕ) → line (record { s = s; p = p; o = o }) ++ rest ≡ text s ++ 32 ∷ (text p ++ 32 ∷ (text o ++ 32 ∷ (46 ∷ 10 ∷ rest)))
 unfolding line
 line_rest s p o rest =
     append_assoc (text s) (32 ∷ (text p ++ 32 ∷ (text o ++ codes " .\n"))) rest

@@ -3,13 +3,16 @@ pub mod Exact
 pub mod Fronts
 pub mod Graphs
 pub mod Grouping
+pub mod Instancing
 pub mod Legible
+pub mod Lookups
 pub mod Members
 pub mod Merging
 pub mod Patching
 pub mod Ranking
+pub mod Sizes
 pub mod Solving
 pub mod Sorted
 pub mod Spans
+pub mod SubjectOrder
 pub mod Telling
-pub mod Texts

@@ -15,7 +15,7 @@ use Rattle.rdf_graph.proofs.Exact.{same_parts}
 use Rattle.rdf_graph.proofs.Members.{contains_cases, contains_here, contains_none, contains_there}
 
 -- a mapping makes a pattern one triple
-one_instance : (m : Binding) (pattern : Pattern) (t u : Triple) → Instantiates m pattern t → Instantiates m pattern u → t ≡ u
+pub one_instance : (m : Binding) (pattern : Pattern) (t u : Triple) → Instantiates m pattern t → Instantiates m pattern u → t ≡ u
 one_instance m pattern t u a b =
     same_parts t.s t.p t.o u.s u.p u.o (same_some _ t.s u.s a.s b.s) (same_some _ t.p u.p a.p b.p) (same_some _ t.o u.o a.o b.o)
 

@@ -32,7 +32,7 @@ pub line_order : (a b : Triple) → triple_cmp a b ≡ Less → slice_cmp nat_cm
 unfolding triple_cmp
 line_order a b e = first_decides (slice_cmp nat_cmp (line a) (line b)) _ e
 
-own_line : (t : Triple) → begins_cmp (line t) (opening t.s) ≡ Equal
+pub own_line : (t : Triple) → begins_cmp (line t) (opening t.s) ≡ Equal
 unfolding line opening
 own_line t =
     subst (λ xs. begins_cmp xs (text t.s ++ codes " ") ≡ Equal)
@@ -40,7 +40,7 @@ own_line t =
     (begins_itself (text t.s ++ codes " ") (text t.p ++ (codes " " ++ (text t.o ++ codes " .\n"))))
 
 module _ (xs : List Triple) (subject : Term) (ordered : IsOrdered xs) where
-  rises : (i j : ℕ) (d : Triple) → i ≤ j → j < length xs → ordering_index (begins_cmp (line (get_or xs i d)) (opening subject)) ≤ ordering_index (begins_cmp (line (get_or xs j d)) (opening subject))
+  pub rises : (i j : ℕ) (d : Triple) → i ≤ j → j < length xs → ordering_index (begins_cmp (line (get_or xs i d)) (opening subject)) ≤ ordering_index (begins_cmp (line (get_or xs j d)) (opening subject))
   rises i j d h l =
       ⊎_elim
       (λ (same : i ≡ j). subst (λ k. ordering_index (begins_cmp (line (get_or xs i d)) (opening subject)) ≤ ordering_index (begins_cmp (line (get_or xs k d)) (opening subject))) same (omega arith))

@@ -1,5 +1,5 @@
 -- What follows from the definitions.
-use Rattle.std.specs.Prelude.{List, [], ◌≡◌, ◌≢◌, All, Contains}
+use Rattle.std.specs.Prelude.{ℕ, List, [], ◌≡◌, ◌≢◌, ◌<◌, ◌≤◌, All, Contains, length, slice_index_or}
 use Rattle.std.specs.declared.cmp.Ordering.TheVariants.{Less, Equal, Greater}
 use Rattle.rdf_graph.specs.Change.{IsChanged}
 use Rattle.rdf_graph.specs.Graph.{IsGraph, SameSet, graph_text}
@@ -31,6 +31,12 @@ OrderIsOfLines = (t u : Triple) → triple_cmp t u ≡ Less → bytes_cmp (line 
 -- a line tells which triple it is
 abbrev pub LinesTell : Type 0
 LinesTell = (t u : Triple) → AreLegible t → AreLegible u → line t ≡ line u → t ≡ u
+
+-- between two triples of one subject stand triples of that subject alone
+abbrev pub SubjectsStandTogether : Type 0
+SubjectsStandTogether =
+    (g : List Triple) (i j k : ℕ) (d : Triple) → IsGraph g → All AreLegible g → i ≤ j → j ≤ k → k < length g
+    → (slice_index_or g i d).s ≡ (slice_index_or g k d).s → (slice_index_or g j d).s ≡ (slice_index_or g i d).s
 
 -- graphs with the same triples are one
 abbrev pub SetsTell : Type 0

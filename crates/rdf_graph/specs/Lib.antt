@@ -8,10 +8,16 @@ pub mod Patch
 pub mod Pattern
 pub mod Place
 pub mod Search
+pub mod Size
 pub mod Solutions
 pub mod Span
 pub mod Term
 pub mod TermLaws
+pub mod TermOrder
+pub mod TermOrderLaws
+pub mod TermTexts
 pub mod Triple
 pub mod TripleLaws
+pub mod TripleRef
+pub mod Walk
 pub mod Written

@@ -1,6 +1,8 @@
 -- What a patch means (Solid Protocol, N3 Patch).
-use Rattle.std.specs.Prelude.{ℕ, List, ◌≡◌, ◌↔◌, ◌⊎◌, Contains, IsSome}
-use Rattle.rdf_graph.specs.Pattern.{Binding, HasVariable, value_of, Instantiates, IsSolution, IsVariableOf, SameBinding}
+use Rattle.std.specs.Prelude.{ℕ, List, ◌≡◌, ◌↔◌, ◌⊎◌, ◌+◌, Contains, IsSome, None, Option, Some, map, sum}
+use Rattle.rdf_graph.specs.Size.{term_size}
+use Rattle.rdf_graph.specs.declared.term.Term.TheVariants.{Iri}
+use Rattle.rdf_graph.specs.Pattern.{slot_term, Binding, HasVariable, value_of, Instantiates, IsSolution, IsVariableOf, SameBinding}
 use Rattle.rdf_graph.specs.Solutions.{AreTwoSolutions}
 use Rattle.rdf_graph.specs.Triple.{IsRdf}
 use Rattle.rdf_graph.specs.declared.change.Change.{Change}
@@ -64,6 +66,48 @@ IsFaultOf g patch ManyMatches = AreTwoSolutions g patch.conditions.items
 IsFaultOf g patch MissingDeletion = LacksDeletion g patch
 IsFaultOf g patch NotTriple = HasNoTriple g patch
 IsFaultOf g patch NoMemory = Unit {0}
+
+-- why conditions give a patch no mapping
+abbrev pub IsMappingFault : List Triple → List Pattern → PatchFault → Type 0
+IsMappingFault g conditions NoMatch = (m : Binding) → IsSolution g conditions m → ⊥
+IsMappingFault g conditions ManyMatches = AreTwoSolutions g conditions
+IsMappingFault g conditions MissingDeletion = ⊥
+IsMappingFault g conditions NotTriple = ⊥
+IsMappingFault g conditions NoMemory = Unit {0}
+
+-- under the mapping the deletions are triples of g, and the insertions are triples of RDF
+pub record FitsGraph (g : List Triple) (patch : Patch) (m : Binding) : Type 0 where
+  pub in_graph : (x : Triple) → IsInstance m patch.deletions.items x → Contains g x
+  pub removed_rdf : (x : Triple) → IsInstance m patch.deletions.items x → IsRdf x
+  pub added_rdf : (x : Triple) → IsInstance m patch.insertions.items x → IsRdf x
+
+-- why they are not
+abbrev pub IsMisfit : List Triple → Patch → Binding → PatchFault → Type 0
+IsMisfit g patch m NoMatch = ⊥
+IsMisfit g patch m ManyMatches = ⊥
+IsMisfit g patch m MissingDeletion = (x : Triple) × IsInstance m patch.deletions.items x × (Contains g x → ⊥)
+IsMisfit g patch m NotTriple =
+    ((x : Triple) → IsInstance m patch.deletions.items x → Contains g x)
+    × ((x : Triple) × IsInstance m patch.insertions.items x × (IsRdf x → ⊥))
+IsMisfit g patch m NoMemory = ⊥
+
+-- under the mapping some pattern has this IRI as its predicate
+abbrev pub HasPredicate : Binding → List Pattern → List ℕ → Type 0
+HasPredicate m patterns iri =
+    (pattern : Pattern) × Contains patterns pattern × (slot_term m pattern.p ≡ Some (Iri iri))
+
+-- the size of the triple that a mapping makes of a pattern
+abbrev pub slot_size : Option Term → ℕ
+slot_size None = 0
+slot_size (Some term) = term_size term
+
+abbrev pub instance_size : Binding → Pattern → ℕ
+instance_size m pattern =
+    slot_size (slot_term m pattern.s) + (slot_size (slot_term m pattern.p) + slot_size (slot_term m pattern.o))
+
+-- that of all instances, where those that are equal count as often as they are made
+abbrev pub instances_size : Binding → List Pattern → ℕ
+instances_size m patterns = sum (map (instance_size m) patterns)
 
 -- the pairs have a term for the variable in the slot, for those of the pattern, for those of the patterns
 abbrev pub IsKnownIn : List (List ℕ × Term) → Slot → Type 0

@@ -6,6 +6,7 @@ use Rattle.std.specs.Ordering.{nat_cmp, on, then_cmp, ordering_then}
 use Rattle.std.specs.Cmp.Lexicographic.{slice_cmp}
 use Rattle.rdf_graph.specs.Term.{text, term_eq, IsLiteral, IsIri}
 use Rattle.rdf_graph.specs.declared.term.Term.{Term}
+use Rattle.rdf_graph.specs.declared.term.Term.TheVariants.{Iri}
 use Rattle.rdf_graph.specs.declared.triple.Triple.{Triple}
 
 -- subject, space, predicate, space, object, space, `.`, LF
@@ -24,6 +25,10 @@ triple_cmp = then_cmp (on line bytes_cmp) (then_cmp (on (λ t. text t.s) bytes_c
 -- a triple of RDF has no literal as its subject, and an IRI as its predicate (RDF 1.1, section 3.1)
 abbrev pub IsRdf : Triple → Type 0
 IsRdf t = (¬ IsLiteral t.s) × IsIri t.p
+
+-- the triple of three IRIs
+abbrev pub iri_triple : List ℕ → List ℕ → List ℕ → Triple
+iri_triple s p o = record { s = Iri s; p = Iri p; o = Iri o }
 
 -- where a line stands against those that begin so
 abbrev pub begins_cmp : List ℕ → List ℕ → Ordering

@@ -1,5 +1,5 @@
 //! Changes of graphs.
-ghost use Rattle.std.specs.Prelude.{◌≡◌, ◌↔◌, ◌⊎◌, ◌<◌, IfOk, IsTrue, Some, length, slice_get};
+ghost use Rattle.std.specs.Prelude.{◌≡◌, ◌↔◌, ◌⊎◌, ◌<◌, All, Contains, IfOk, IsTrue, Some, length, slice_get};
 ghost use Rattle.std.specs.Bool.{OnTrue, OnFalse};
 ghost use Rattle.rdf_graph.specs.Change.{IsChanged};
 ghost use Rattle.rdf_graph.specs.Place.{ComesFirst};
@@ -7,7 +7,7 @@ ghost use Rattle.rdf_graph.specs.Graph.{IsOrdered};
 
 use crate::graph::Graph;
 use crate::triple::Triple;
-use pod_base::Mem;
+use pod_base::{List, Mem};
 use std::alloc::Global;
 
 /// What a patch takes out of a graph, and what it puts in.
@@ -26,6 +26,13 @@ impl Change {
         let added = self.added.copy(alloc)?;
         Ok(Change { removed, added })
     }
+
+    /// Whether the graph has every triple that is removed. Takes no memory.
+    pub fn fits(&self, graph: &Graph) -> bool
+        ensures { IsTrue result ↔ All (Contains graph.now) self.now.removed }
+    {
+        graph.contains_all(self.removed.as_slice())
+    }
 }
 
 /// The graph that a change makes of this one: what is removed goes first, and what is added comes then.
@@ -34,7 +41,7 @@ pub fn changed(alloc: Global, graph: &Graph, change: &Change) -> Mem<Graph>
 {
     let (removed, added) = (change.removed.as_slice(), change.added.as_slice());
     let triples = merge(alloc, graph.as_slice(), removed, added)?;
-    Ok(Graph::in_order(triples))
+    Ok(Graph::in_order(List::from_vec(triples)))
 }
 
 /// The old triples without the removed ones, and the added ones, in one pass over the three.
@@ -45,7 +52,11 @@ fn merge(alloc: Global, old: &[Triple], removed: &[Triple], added: &[Triple]) ->
     ensures members { IfOk result (λ new. IsChanged old.now removed.now added.now new.items) }
     ensures ordered { IfOk result (λ new. IsOrdered new.items) }
 {
-    let mut new = Vec::with_capacity(alloc, old.len())?;
+    let most = old
+        .len()
+        .saturating_sub(removed.len())
+        .saturating_add(added.len());
+    let mut new = Vec::with_capacity(alloc, most)?;
     let (mut i, mut j, mut k) = (0, 0, 0);
     while i < old.len() || k < added.len() {
         if comes_first(added, k, old, i) {

@@ -3,8 +3,11 @@ ghost use Rattle.std.specs.Prelude.{◌≡◌, ◌==◌, ◌<◌, ◌↔◌, [],
 ghost use Rattle.rdf_graph.specs.Triple.{IsRdf};
 ghost use Rattle.rdf_graph.specs.Graph.{IsGraph, IsOrdered, SameSet, SetWith, SetWithout};
 ghost use Rattle.rdf_graph.specs.Place.{IsGap};
+ghost use Rattle.rdf_graph.specs.TripleRef.{triple_of};
 
+use crate::order::cmp_triples;
 use crate::triple::Triple;
+use crate::triple_ref::TripleRef;
 use pod_base::{List, Mem};
 use std::alloc::Global;
 use std::marker::Model;
@@ -51,12 +54,22 @@ impl Graph {
         Graph { triples }
     }
 
-    /// The graph of triples that stand in its order.
-    pub(crate) fn in_order(triples: Vec<Triple>) -> Graph
+    /// The graph of triples of RDF that are in strict order already. Takes no memory.
+    pub fn in_order(triples: List<Triple>) -> Graph
         requires { IsGraph triples.items }
         ensures { result ≡ triples.items }
     {
-        Graph { triples }
+        Graph {
+            triples: triples.into_vec(),
+        }
+    }
+
+    /// Its triples as a list, in strict byte order of their lines. Takes no memory.
+    pub fn into_list(self) -> List<Triple>
+        ensures triples { result.items ≡ self }
+        ensures graph { IsGraph result.items }
+    {
+        List::from_vec(self.triples)
     }
 
     /// How many triples it has.
@@ -103,6 +116,27 @@ impl Graph {
         ensures rdf { IsTrue result → IsRdf triple.now }
     {
         place(self.triples.as_slice(), triple).is_ok()
+    }
+
+    /// Whether it has the triple of these terms.
+    pub(crate) fn contains_parts(&self, triple: &TripleRef<'_>) -> bool
+        ensures { IsTrue result ↔ Contains self.now (triple_of triple.now) }
+    {
+        self.as_slice()
+            .binary_search_by(|other| cmp_triples(&other.parts(), triple))
+            .is_ok()
+    }
+
+    /// Whether it has all these triples.
+    pub(crate) fn contains_all(&self, triples: &[Triple]) -> bool
+        ensures { IsTrue result ↔ All (Contains self.now) triples.now }
+    {
+        for triple in triples {
+            if !self.contains(triple) {
+                return false;
+            }
+        }
+        true
     }
 
     /// Puts a triple in, and tells whether it is new.

@@ -1,6 +1,6 @@
 //! What follows from the definitions: the contracts of these functions are laws, and they do nothing.
 ghost use Rattle.std.specs.Cmp.{IsTotalOrder};
-ghost use Rattle.rdf_graph.specs.Laws.{OrderIsExact, OrderIsOfLines, LinesTell, SetsTell, TextsTell, NothingChanges, AddedStays};
+ghost use Rattle.rdf_graph.specs.Laws.{OrderIsExact, OrderIsOfLines, LinesTell, SetsTell, SubjectsStandTogether, TextsTell, NothingChanges, AddedStays};
 ghost use Rattle.rdf_graph.specs.Triple.{triple_cmp};
 
 /// The order of triples is total and tells different triples apart. It is the byte order of their
@@ -10,6 +10,11 @@ pub fn order_law()
     ensures exact { OrderIsExact }
     ensures lines { OrderIsOfLines }
     ensures tell { LinesTell }
+{}
+
+/// The triples of a subject stand together, where no label and no tag has a space in it.
+pub fn subject_law()
+    ensures { SubjectsStandTogether }
 {}
 
 /// A graph is its set of triples: graphs with the same triples are one. So are graphs with the same

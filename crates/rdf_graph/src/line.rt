@@ -1,11 +1,13 @@
 //! The line of a triple, byte by byte.
 ghost use Rattle.std.specs.Prelude.{◌≡◌};
-ghost use Rattle.rdf_graph.specs.Triple.{line, opening, begins_cmp};
+ghost use Rattle.rdf_graph.specs.Triple.{begins_cmp, iri_triple, line, opening};
 ghost use Rattle.rdf_graph.specs.Line.{line_rest};
 ghost use Rattle.rdf_graph.specs.Compare.{from_predicate, from_object};
+ghost use Rattle.rdf_graph.specs.TripleRef.{triple_of};
 
 use crate::term::{Term, Written};
 use crate::triple::Triple;
+use crate::triple_ref::TripleRef;
 use std::cmp::Ordering;
 
 /// The bytes of a triple's line, one after another.
@@ -18,8 +20,10 @@ pub struct Line<'a> {
 /// What stands in a line behind the term that is being written.
 #[derive(Drop)]
 enum Then<'a> {
-    Predicate(&'a Triple),
-    Object(&'a Triple),
+    Predicate(TripleRef<'a>),
+    Object(TripleRef<'a>),
+    PredicateIri(&'a str, &'a str),
+    ObjectIri(&'a str),
     Stop,
     Space,
     Nothing,
@@ -48,6 +52,14 @@ impl<'a> Iterator for Line<'a> {
                 self.now = triple.o.written();
                 self.then = Then::Stop;
             }
+            Then::PredicateIri(p, o) => {
+                self.now = Written::iri(p);
+                self.then = Then::ObjectIri(o);
+            }
+            Then::ObjectIri(o) => {
+                self.now = Written::iri(o);
+                self.then = Then::Stop;
+            }
             Then::Stop => {
                 self.now = Written::plain(b".\n");
                 self.then = Then::Nothing;
@@ -61,11 +73,74 @@ impl<'a> Iterator for Line<'a> {
     }
 }
 
-/// Where the line stands against those that begin with the bytes of `front`.
-fn cmp_front(mut line: Line<'_>, front: Line<'_>) -> Ordering
-    ensures { result ≡ begins_cmp (line_rest line.entry) (line_rest front.entry) }
+impl Triple {
+    /// The bytes of the triple's line.
+    #[tactic(auto, unfolding(crate::specs::Triple::line))]
+    pub fn line(&self) -> Line<'_>
+        ensures { line_rest result ≡ line self.now }
+    {
+        line_of(&self.parts())
+    }
+}
+
+/// The bytes of the line of a triple.
+#[tactic(auto, unfolding(crate::specs::Triple::line))]
+pub(crate) fn line_of<'a>(triple: &TripleRef<'a>) -> Line<'a>
+    ensures { line_rest result ≡ line (triple_of triple.now) }
 {
-    for byte in front {
+    Line {
+        now: triple.s.written(),
+        then: Then::Predicate(*triple),
+    }
+}
+
+/// The bytes of the line of a triple from its predicate on.
+pub(crate) fn line_from_predicate<'a>(triple: &TripleRef<'a>) -> Line<'a>
+    ensures { line_rest result ≡ from_predicate (triple_of triple.now) }
+{
+    Line {
+        now: triple.p.written(),
+        then: Then::Object(*triple),
+    }
+}
+
+/// The bytes of the line of a triple from its object on.
+pub(crate) fn line_from_object<'a>(triple: &TripleRef<'a>) -> Line<'a>
+    ensures { line_rest result ≡ from_object (triple_of triple.now) }
+{
+    Line {
+        now: triple.o.written(),
+        then: Then::Stop,
+    }
+}
+
+/// The bytes of the line of a triple of three IRIs.
+#[tactic(auto, unfolding(crate::specs::Triple::line, crate::specs::Term::text))]
+pub(crate) fn line_of_iris<'a>(s: &'a str, p: &'a str, o: &'a str) -> Line<'a>
+    ensures { line_rest result ≡ line (iri_triple s.now p.now o.now) }
+{
+    Line {
+        now: Written::iri(s),
+        then: Then::PredicateIri(p, o),
+    }
+}
+
+/// The bytes with which the lines of the triples begin that have this subject.
+#[tactic(auto, unfolding(crate::specs::Triple::opening))]
+pub(crate) fn line_prefix(subject: &Term) -> Line<'_>
+    ensures { line_rest result ≡ opening subject.now }
+{
+    Line {
+        now: subject.written(),
+        then: Then::Space,
+    }
+}
+
+/// How a line compares with those that begin with the bytes of a prefix.
+pub(crate) fn cmp_prefix(mut line: Line<'_>, prefix: Line<'_>) -> Ordering
+    ensures { result ≡ begins_cmp (line_rest line.entry) (line_rest prefix.entry) }
+{
+    for byte in prefix {
         match line.next() {
             None => return Ordering::Less,
             Some(first) => match first.cmp(&byte) {
@@ -75,57 +150,4 @@ fn cmp_front(mut line: Line<'_>, front: Line<'_>) -> Ordering
         }
     }
     Ordering::Equal
-}
-
-impl Term {
-    /// The bytes with which the lines of the triples begin that have this subject.
-    #[tactic(auto, unfolding(crate::specs::Triple::opening))]
-    pub(crate) fn opening(&self) -> Line<'_>
-        ensures { line_rest result ≡ opening self.now }
-    {
-        Line {
-            now: self.written(),
-            then: Then::Space,
-        }
-    }
-}
-
-impl Triple {
-    /// The bytes of the triple's line.
-    #[tactic(auto, unfolding(crate::specs::Triple::line))]
-    pub fn line(&self) -> Line<'_>
-        ensures { line_rest result ≡ line self.now }
-    {
-        Line {
-            now: self.s.written(),
-            then: Then::Predicate(self),
-        }
-    }
-
-    /// The bytes of the triple's line from its predicate on.
-    pub(crate) fn line_from_predicate(&self) -> Line<'_>
-        ensures { line_rest result ≡ from_predicate self.now }
-    {
-        Line {
-            now: self.p.written(),
-            then: Then::Object(self),
-        }
-    }
-
-    /// The bytes of the triple's line from its object on.
-    pub(crate) fn line_from_object(&self) -> Line<'_>
-        ensures { line_rest result ≡ from_object self.now }
-    {
-        Line {
-            now: self.o.written(),
-            then: Then::Stop,
-        }
-    }
-
-    /// Where the triple's line stands against those of a subject.
-    pub(crate) fn cmp_opening(&self, subject: &Term) -> Ordering
-        ensures { result ≡ begins_cmp (line self.now) (opening subject.now) }
-    {
-        cmp_front(self.line(), subject.opening())
-    }
 }

@@ -51,9 +51,9 @@ fn lines_of<'a>(triples: &'a [Triple], subject: &Term) -> &'a [Triple]
     requires { IsOrdered triples.now }
     ensures span { IsSpan (Some subject.now) triples.now result.now }
 {
-    let low = triples.partition_point(|triple| triple.cmp_opening(subject).is_lt());
+    let low = triples.partition_point(|triple| triple.cmp_subject(subject).is_lt());
     let behind = &triples[low..];
-    let count = behind.partition_point(|triple| triple.cmp_opening(subject).is_le());
+    let count = behind.partition_point(|triple| triple.cmp_subject(subject).is_le());
     &behind[..count]
 }
 

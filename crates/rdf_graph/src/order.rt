@@ -6,8 +6,11 @@ ghost use Rattle.std.specs.Cmp.Rules.{comparing};
 ghost use Rattle.std.specs.Ordering.{as_partial_cmp, eq_by_cmp};
 ghost use Rattle.rdf_graph.specs.Triple.{triple_cmp};
 ghost use Rattle.rdf_graph.specs.TripleLaws.{triple_cmp_total};
+ghost use Rattle.rdf_graph.specs.TripleRef.{triple_of};
 
+use crate::compare::cmp_lines;
 use crate::triple::Triple;
+use crate::triple_ref::TripleRef;
 use std::cmp::Ordering;
 
 impl PartialEq for Triple {
@@ -44,15 +47,22 @@ impl Ord for Triple {
 
     ghost matches_eq = { Prim.search (comparing, rules) };
 
-    #[tactic(auto, unfolding(crate::specs::Triple::triple_cmp))]
     fn cmp(&self, other: &Triple) -> Ordering {
-        match self.cmp_line(other) {
-            // Only labels and tags with spaces in them give two triples one line.
-            Ordering::Equal => match self.s.cmp_text(&other.s) {
-                Ordering::Equal => self.p.cmp_text(&other.p),
-                unequal => unequal,
-            },
+        cmp_triples(&self.parts(), &other.parts())
+    }
+}
+
+/// The order of two triples.
+#[tactic(auto, unfolding(crate::specs::Triple::triple_cmp))]
+pub(crate) fn cmp_triples(a: &TripleRef<'_>, b: &TripleRef<'_>) -> Ordering
+    ensures { result ≡ triple_cmp (triple_of a.now) (triple_of b.now) }
+{
+    match cmp_lines(a, b) {
+        // Only labels and tags with spaces in them give two triples one line.
+        Ordering::Equal => match a.s.cmp_text(b.s) {
+            Ordering::Equal => a.p.cmp_text(b.p),
             unequal => unequal,
-        }
+        },
+        unequal => unequal,
     }
 }

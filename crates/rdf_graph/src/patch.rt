@@ -1,21 +1,14 @@
 //! Patches, and the changes that they make.
-ghost use Rattle.std.specs.Prelude.{◌≡◌, All, Contains, IfOk, IfErr, MatchBool, Some};
-ghost use Rattle.std.specs.Bool.{OnTrue};
-ghost use Rattle.std.specs.List.{AllZip};
-ghost use Rattle.std.specs.Option.{option_copied};
-ghost use Rattle.rdf_graph.specs.Patch.{AreKnown, IsBound, IsChangeOf, IsFaultOf, IsKnown, IsKnownIn};
-ghost use Rattle.rdf_graph.specs.Pattern.{Instantiates, slot_term, value_of};
-ghost use Rattle.rdf_graph.specs.Triple.{IsRdf};
-ghost use Rattle.rdf_graph.specs.declared.triple.Triple.{Triple};
+ghost use Rattle.std.specs.Prelude.{◌≡◌, IfErr, IfOk};
+ghost use Rattle.rdf_graph.specs.Patch.{IsBound, IsChangeOf, IsFaultOf, IsMappingFault};
+ghost use Rattle.rdf_graph.specs.Solutions.{IsOnlySolution};
 ghost use Rattle.rdf_graph.specs.declared.patch.PatchFault.TheVariants.{NoMemory as OutOfMemory};
 
 use crate::change::Change;
 use crate::graph::Graph;
-use crate::pattern::{Found, Pattern, Slot};
+use crate::pattern::{Found, Mapping, Pattern};
 use crate::solve::solutions;
-use crate::term::Term;
-use crate::triple::Triple;
-use pod_base::{List, Mem, NoMemory, Text};
+use pod_base::{List, NoMemory};
 use std::alloc::Global;
 use thiserror::Error;
 
@@ -66,97 +59,46 @@ pub fn instantiate(alloc: Global, graph: &Graph, patch: &Patch) -> Result<Change
     ensures change { IfOk result (IsChangeOf graph.now patch.now) }
     ensures fault { IfErr result (IsFaultOf graph.now patch.now) }
 {
-    let mapping = match solutions(alloc, graph, &patch.conditions)? {
-        Found::Nothing => return Err(PatchFault::NoMatch),
-        Found::One(mapping) => mapping,
-        Found::Many => return Err(PatchFault::ManyMatches),
-    };
-    let pairs = mapping.pairs.as_slice();
-    let removed = instances(alloc, pairs, patch.deletions.as_slice())?;
-    if !are_in(graph, removed.as_slice()) {
-        return Err(PatchFault::MissingDeletion);
+    match the_mapping(alloc, graph, &patch.conditions) {
+        Err(fault) => Err(fault),
+        Ok(mapping) => change_of(alloc, graph, patch, &mapping),
     }
-    let added = instances(alloc, pairs, patch.insertions.as_slice())?;
-    if !are_rdf(added.as_slice()) {
-        return Err(PatchFault::NotTriple);
-    }
-    Ok(Change {
-        removed: Graph::of(List::from_vec(removed)),
-        added: Graph::of(List::from_vec(added)),
-    })
 }
 
-/// Whether the graph has all these triples.
-fn are_in(graph: &Graph, triples: &[Triple]) -> bool
-    ensures rdf { OnTrue result (All IsRdf triples.now) }
-    ensures all { MatchBool result (All (Contains graph.now) triples.now) ((x : Triple) × Contains triples.now x × (Contains graph.now x → ⊥)) }
+/// The one mapping under which the conditions hold. `NoMatch` and `ManyMatches` come as `solutions`
+/// says, and no other fault but `NoMemory`.
+pub fn the_mapping(
+    alloc: Global,
+    graph: &Graph,
+    conditions: &List<Pattern>,
+) -> Result<Mapping, PatchFault>
+    ensures mapping { IfOk result (λ mapping. IsOnlySolution graph.now conditions.now.items mapping.pairs.items) }
+    ensures fault { IfErr result (IsMappingFault graph.now conditions.now.items) }
 {
-    for triple in triples {
-        if !graph.contains(triple) {
-            return false;
-        }
+    match solutions(alloc, graph, conditions)? {
+        Found::Nothing => Err(PatchFault::NoMatch),
+        Found::One(mapping) => Ok(mapping),
+        Found::Many => Err(PatchFault::ManyMatches),
     }
-    true
 }
 
-/// Whether all these are triples of RDF.
-fn are_rdf(triples: &[Triple]) -> bool
-    ensures { MatchBool result (All IsRdf triples.now) ((x : Triple) × Contains triples.now x × (IsRdf x → ⊥)) }
+/// The change that the patch makes under the one mapping of its conditions.
+fn change_of(
+    alloc: Global,
+    graph: &Graph,
+    patch: &Patch,
+    mapping: &Mapping,
+) -> Result<Change, PatchFault>
+    requires bound { IsBound patch.now }
+    requires only { IsOnlySolution graph.now patch.now.conditions.items mapping.now.pairs.items }
+    ensures change { IfOk result (IsChangeOf graph.now patch.now) }
+    ensures fault { IfErr result (IsFaultOf graph.now patch.now) }
 {
-    for triple in triples {
-        if !triple.is_rdf() {
-            return false;
-        }
-    }
-    true
-}
-
-/// The triples that the pairs make of the patterns.
-fn instances(alloc: Global, pairs: &[(Text, Term)], patterns: &[Pattern]) -> Mem<Vec<Triple>>
-    requires { AreKnown pairs.now patterns.now }
-    ensures { IfOk result (λ triples. AllZip (Instantiates (value_of pairs.now)) patterns.now triples.items) }
-{
-    let mut triples = Vec::with_capacity(alloc, patterns.len())?;
-    for pattern in patterns {
-        let triple = instance(alloc, pairs, pattern)?;
-        triples.push(triple)?;
-    }
-    Ok(triples)
-}
-
-/// The triple that the pairs make of the pattern.
-fn instance(alloc: Global, pairs: &[(Text, Term)], pattern: &Pattern) -> Mem<Triple>
-    requires { IsKnown pairs.now pattern.now }
-    ensures { IfOk result (Instantiates (value_of pairs.now) pattern.now) }
-{
-    let s = term_in(alloc, pairs, &pattern.s)?;
-    let p = term_in(alloc, pairs, &pattern.p)?;
-    let o = term_in(alloc, pairs, &pattern.o)?;
-    Ok(Triple { s, p, o })
-}
-
-/// A copy of what stands in the slot.
-fn term_in(alloc: Global, pairs: &[(Text, Term)], slot: &Slot) -> Mem<Term>
-    requires { IsKnownIn pairs.now slot.now }
-    ensures { IfOk result (λ term. slot_term (value_of pairs.now) slot.now ≡ Some term) }
-{
-    match slot {
-        Slot::Fixed(term) => term.copy(alloc),
-        Slot::Var(name) => match value(pairs, name) {
-            Some(term) => term.copy(alloc),
-            None => unreachable!(),
+    match patch.check(graph, mapping) {
+        Err(fault) => Err(fault),
+        Ok(()) => match patch.change(alloc, mapping) {
+            Err(NoMemory) => Err(PatchFault::NoMemory),
+            Ok(change) => Ok(change),
         },
     }
-}
-
-/// What the name stands for, if anything.
-fn value<'a>(pairs: &'a [(Text, Term)], name: &Text) -> Option<&'a Term>
-    ensures { option_copied result ≡ value_of pairs.now name.now }
-{
-    for (other, term) in pairs {
-        if other.as_str() == name.as_str() {
-            return Some(term);
-        }
-    }
-    None
 }

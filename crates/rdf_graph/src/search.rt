@@ -99,10 +99,10 @@ fn next_condition<'a>(
     ensures none { IfNone result (All (λ is_taken. is_taken ≡ true) taken.now) }
 {
     let mut best = None;
-    let mut fewest = usize::MAX;
+    let mut fewest = first_bound(taken);
     for (i, condition) in conditions.iter().enumerate() {
         if !taken[i] {
-            let matches = matches_of(triples, bound, condition);
+            let matches = matches_of(triples, bound, condition, fewest);
             if best.is_none() || matches < fewest {
                 best = Some(i);
                 fewest = matches;
@@ -112,8 +112,20 @@ fn next_condition<'a>(
     best
 }
 
-/// How many triples have the terms that are known of the condition.
-fn matches_of<'a>(triples: &'a [Triple], bound: &[Bound<'a>], condition: &'a Pattern) -> usize
+/// The bound of the first count: none where several conditions are left, and else 0, since nothing needs
+/// to be counted.
+fn first_bound(taken: &[bool]) -> usize {
+    let left = taken.iter().filter(|is_taken| !**is_taken).count();
+    if left > 1 { usize::MAX } else { 0 }
+}
+
+/// How many triples have the terms that are known of the condition, counted up to a bound.
+fn matches_of<'a>(
+    triples: &'a [Triple],
+    bound: &[Bound<'a>],
+    condition: &'a Pattern,
+    most: usize,
+) -> usize
     requires { IsOrdered triples.now }
 {
     let s = slot_term(bound, &condition.s);
@@ -123,5 +135,6 @@ fn matches_of<'a>(triples: &'a [Triple], bound: &[Bound<'a>], condition: &'a Pat
     candidates
         .iter()
         .filter(|triple| has_terms(triple, s, p, o))
+        .take(most)
         .count()
 }

@@ -4,13 +4,14 @@ ghost use Rattle.rdf_graph.specs.Term.{text, escaped_byte, term_eq, IsIri, IsLit
 ghost use Rattle.std.specs.Cmp.{partial_equiv_from_equiv};
 ghost use Rattle.rdf_graph.specs.TermLaws.{term_eq_laws};
 ghost use Rattle.rdf_graph.specs.Written.{written_rest};
+ghost use Rattle.rdf_graph.specs.declared.term.Term.TheVariants.{Iri as IriTerm};
 
 use iri_ref::Iri;
 use pod_base::{Mem, NoMemory, Text};
 use std::alloc::Global;
 
 /// The IRI of the datatype that a literal's text leaves out.
-const XSD_STRING: &str = "http://www.w3.org/2001/XMLSchema#string";
+pub(crate) const XSD_STRING: &str = "http://www.w3.org/2001/XMLSchema#string";
 
 /// A term of RDF 1.1: an IRI, a blank node by its label, or a literal with a datatype or a language
 /// tag.
@@ -77,10 +78,18 @@ impl<'a> Written<'a> {
     {
         pieces(bytes, b"", b"", b"", b"")
     }
+
+    /// The bytes of an IRI's text.
+    #[tactic(auto, unfolding(crate::specs::Term::text))]
+    pub(crate) fn iri(iri: &'a str) -> Written<'a>
+        ensures { written_rest result ≡ text (IriTerm iri.now) }
+    {
+        pieces(b"<", b"", iri.as_bytes(), b">", b"")
+    }
 }
 
 /// A byte of a literal, or the first byte of its escape, and then what is left of the escape.
-fn escape(byte: u8) -> (u8, &'static [u8])
+pub(crate) fn escape(byte: u8) -> (u8, &'static [u8])
     ensures { result.0 ∷ result.1.now ≡ escaped_byte byte }
 {
     match byte {

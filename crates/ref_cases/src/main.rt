@@ -2,6 +2,7 @@
 //! with the result as one more field. The first field of a case is its topic, the second the call.
 #![tactic(auto)]
 
+mod graphs;
 mod paths;
 mod references;
 mod tokens;
@@ -22,6 +23,7 @@ fn answer_topic(alloc: Global, topic: &str, case: &[&str]) -> Result<String, All
     match topic {
         "reference" => references::answer(alloc, case),
         "path" => paths::answer(alloc, case),
+        "graph" => graphs::answer(alloc, case),
         "token" => tokens::answer(alloc, case),
         _ => String::from_str(alloc, "no topic"),
     }

@@ -1,0 +1,56 @@
+//! Triples by references to their terms, such as the instances of patterns before they are copied.
+ghost use Rattle.std.specs.Prelude.{◌≡◌, ◌↔◌, IfOk, IsTrue};
+ghost use Rattle.rdf_graph.specs.Size.{saturated, triple_size};
+ghost use Rattle.rdf_graph.specs.Triple.{IsRdf};
+ghost use Rattle.rdf_graph.specs.TripleRef.{triple_of};
+
+use crate::size::parts_size;
+use crate::term::Term;
+use crate::triple::Triple;
+use pod_base::Mem;
+use std::alloc::Global;
+
+/// A triple by references to its terms.
+#[derive(Clone, Copy)]
+pub(crate) struct TripleRef<'a> {
+    pub(crate) s: &'a Term,
+    pub(crate) p: &'a Term,
+    pub(crate) o: &'a Term,
+}
+
+impl Triple {
+    /// The references to its terms.
+    pub(crate) fn parts(&self) -> TripleRef<'_>
+        ensures { triple_of result ≡ self.now }
+    {
+        TripleRef {
+            s: &self.s,
+            p: &self.p,
+            o: &self.o,
+        }
+    }
+}
+
+/// A triple of copies of these terms.
+pub(crate) fn copy_parts(alloc: Global, triple: &TripleRef<'_>) -> Mem<Triple>
+    ensures { IfOk result (λ copy. copy ≡ triple_of triple.now) }
+{
+    let s = triple.s.copy(alloc)?;
+    let p = triple.p.copy(alloc)?;
+    let o = triple.o.copy(alloc)?;
+    Ok(Triple { s, p, o })
+}
+
+/// Whether these terms are a triple of RDF.
+pub(crate) fn are_rdf_parts(triple: &TripleRef<'_>) -> bool
+    ensures { IsTrue result ↔ IsRdf (triple_of triple.now) }
+{
+    triple.p.is_iri() && !triple.s.is_literal()
+}
+
+/// The encoded size of the triple of these terms.
+pub(crate) fn size_of_parts(triple: &TripleRef<'_>) -> u64
+    ensures { result ≡ saturated (triple_size (triple_of triple.now)) }
+{
+    parts_size(triple.s, triple.p, triple.o)
+}

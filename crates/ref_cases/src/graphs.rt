@@ -1,0 +1,213 @@
+//! Cases of `rdf_graph`: graphs, changes and patches. A graph or a list of patterns is a field of three words for each
+//! triple, and `;` after each but the last. A word begins with `<` for an IRI (a name without `http:` is one of
+//! e.example), `_` for a label, `"` for an integer, `'` for a plain string and `?` for a variable. Any other
+//! word is a text in English.
+
+use case_lines::{shown_whole, text};
+use iri_ref::{Iri, IriFault};
+use pod_base::{List, Mem, NoMemory, Text};
+use rdf_graph::{
+    Found, Graph, Patch, PatchFault, Pattern, Slot, Term, Triple, changed, instantiate, solutions,
+};
+use std::alloc::{AllocError, Global};
+
+/// The term of an IRI, or of a label where the text is no IRI.
+fn iri_term(alloc: Global, text: &str) -> Mem<Term> {
+    match Iri::read(alloc, text) {
+        Ok(iri) => Ok(Term::Iri(iri)),
+        Err(IriFault::NoMemory) => Err(NoMemory),
+        Err(IriFault::BadReference) => Ok(Term::Blank(Text::of(alloc, text)?)),
+    }
+}
+
+fn named(alloc: Global, name: &str) -> Mem<Term> {
+    if name.starts_with("http:") {
+        return iri_term(alloc, name);
+    }
+    let text = format!(in alloc; "http://e.example/{name}")?;
+    iri_term(alloc, text.as_str())
+}
+
+/// A literal of a datatype of XML Schema.
+fn literal(alloc: Global, lexical: &str, datatype: &str) -> Mem<Term> {
+    let datatype = format!(in alloc; "http://www.w3.org/2001/XMLSchema#{datatype}")?;
+    let lexical = Text::of(alloc, lexical)?;
+    match Iri::read(alloc, datatype.as_str()) {
+        Ok(datatype) => Ok(Term::Literal { lexical, datatype }),
+        Err(_) => Err(NoMemory),
+    }
+}
+
+fn term_of(alloc: Global, text: &str) -> Mem<Term> {
+    if let Some(name) = text.strip_prefix("<") {
+        return named(alloc, name);
+    }
+    if let Some(label) = text.strip_prefix("_") {
+        return Ok(Term::Blank(Text::of(alloc, label)?));
+    }
+    if let Some(number) = text.strip_prefix("\"") {
+        return literal(alloc, number, "integer");
+    }
+    if let Some(string) = text.strip_prefix("'") {
+        return literal(alloc, string, "string");
+    }
+    Ok(Term::Tagged {
+        lexical: Text::of(alloc, text)?,
+        lang: Text::of(alloc, "en")?,
+    })
+}
+
+fn term(alloc: Global, word: &str) -> Mem<Term> {
+    let text = text(alloc, word)?;
+    term_of(alloc, text.as_str())
+}
+
+fn slot(alloc: Global, word: &str) -> Mem<Slot> {
+    match word.strip_prefix("?") {
+        Some(name) => Ok(Slot::Var(Text::of(alloc, name)?)),
+        None => Ok(Slot::Fixed(term(alloc, word)?)),
+    }
+}
+
+fn patterns(alloc: Global, field: &str) -> Mem<List<Pattern>> {
+    let mut patterns = Vec::new(alloc);
+    for row in field.split(';') {
+        let mut words = row.split(' ');
+        if let (Some(s), Some(p), Some(o)) = (words.next(), words.next(), words.next()) {
+            patterns.push(Pattern {
+                s: slot(alloc, s)?,
+                p: slot(alloc, p)?,
+                o: slot(alloc, o)?,
+            })?;
+        }
+    }
+    Ok(List::from_vec(patterns))
+}
+
+/// The graph of a field, without what is no triple of RDF.
+fn graph(alloc: Global, field: &str) -> Mem<Graph> {
+    let mut graph = Graph::new(alloc);
+    for row in field.split(';') {
+        let mut words = row.split(' ');
+        if let (Some(s), Some(p), Some(o)) = (words.next(), words.next(), words.next()) {
+            let triple = Triple {
+                s: term(alloc, s)?,
+                p: term(alloc, p)?,
+                o: term(alloc, o)?,
+            };
+            if triple.is_rdf() {
+                graph.insert(alloc, triple)?;
+            }
+        }
+    }
+    Ok(graph)
+}
+
+/// The text of triples, as it is shown.
+fn lines(alloc: Global, triples: &[Triple]) -> Mem<String> {
+    let mut text = Vec::new(alloc);
+    for triple in triples {
+        triple.append_to(alloc, &mut text)?;
+    }
+    Ok(shown_whole(alloc, text.as_slice())?)
+}
+
+fn patch_fault(alloc: Global, fault: PatchFault) -> Mem<String> {
+    match fault {
+        PatchFault::NoMemory => Err(NoMemory),
+        fault => Ok(format!(in alloc; "{fault:?}")?),
+    }
+}
+
+/// The graph that a patch leaves, or its fault.
+fn patched(alloc: Global, graph: &Graph, patch: &Patch) -> Mem<String> {
+    if !patch.is_bound() {
+        return Ok(String::from_str(alloc, "free variable")?);
+    }
+    match instantiate(alloc, graph, patch) {
+        Ok(change) => {
+            let new = changed(alloc, graph, &change.copy(alloc)?)?;
+            lines(alloc, new.as_slice())
+        }
+        Err(fault) => patch_fault(alloc, fault),
+    }
+}
+
+fn patch(alloc: Global, old: &str, parts: [&str; 3]) -> Mem<String> {
+    let [conditions, deletions, insertions] = parts;
+    let patch = Patch {
+        conditions: patterns(alloc, conditions)?,
+        deletions: patterns(alloc, deletions)?,
+        insertions: patterns(alloc, insertions)?,
+    };
+    patched(alloc, &graph(alloc, old)?, &patch)
+}
+
+/// What a name stands for in the one mapping of the conditions.
+fn solve(alloc: Global, old: &str, conditions: &str, name: &str) -> Mem<String> {
+    let conditions = patterns(alloc, conditions)?;
+    match solutions(alloc, &graph(alloc, old)?, &conditions)? {
+        Found::Nothing => Ok(String::from_str(alloc, "nothing")?),
+        Found::Many => Ok(String::from_str(alloc, "many")?),
+        Found::One(mapping) => match mapping.get(name) {
+            None => Ok(String::from_str(alloc, "no term")?),
+            Some(term) => {
+                let mut text = Vec::new(alloc);
+                term.append_to(alloc, &mut text)?;
+                Ok(shown_whole(alloc, text.as_slice())?)
+            }
+        },
+    }
+}
+
+/// A term, or none for `-`.
+fn wanted(alloc: Global, word: &str) -> Mem<Option<Term>> {
+    if word == "-" {
+        return Ok(None);
+    }
+    Ok(Some(term(alloc, word)?))
+}
+
+fn matching(alloc: Global, old: &str, words: [&str; 3]) -> Mem<String> {
+    let [s, p, o] = words;
+    let (s, p, o) = (wanted(alloc, s)?, wanted(alloc, p)?, wanted(alloc, o)?);
+    let graph = graph(alloc, old)?;
+    let found = graph.matching(alloc, s.as_ref(), p.as_ref(), o.as_ref())?;
+    lines(alloc, found.as_slice())
+}
+
+fn has_iris(alloc: Global, old: &str, words: [&str; 3]) -> Mem<String> {
+    let [s, p, o] = words;
+    let graph = graph(alloc, old)?;
+    let (s, p, o) = (text(alloc, s)?, text(alloc, p)?, text(alloc, o)?);
+    let has = graph.has_iris(s.as_str(), p.as_str(), o.as_str());
+    Ok(format!(in alloc; "{has}")?)
+}
+
+fn compare(alloc: Global, one: &str, other: &str) -> Mem<String> {
+    let order = slot(alloc, one)?.cmp(&slot(alloc, other)?);
+    Ok(format!(in alloc; "{order:?}")?)
+}
+
+fn call(alloc: Global, case: &[&str]) -> Mem<String> {
+    match case {
+        ["text", only] => lines(alloc, graph(alloc, only)?.as_slice()),
+        ["size", only] => Ok(format!(in alloc; "{}", graph(alloc, only)?.encoded_size())?),
+        ["patch", old, conditions, deletions, insertions] => {
+            patch(alloc, old, [conditions, deletions, insertions])
+        }
+        ["solutions", old, conditions, name] => solve(alloc, old, conditions, name),
+        ["matching", old, s, p, o] => matching(alloc, old, [s, p, o]),
+        ["has_iris", old, s, p, o] => has_iris(alloc, old, [s, p, o]),
+        ["cmp", one, other] => compare(alloc, one, other),
+        _ => Ok(String::from_str(alloc, "no case")?),
+    }
+}
+
+/// What `rdf_graph` returns for a call and its arguments.
+pub(crate) fn answer(alloc: Global, case: &[&str]) -> Result<String, AllocError> {
+    match call(alloc, case) {
+        Ok(answer) => Ok(answer),
+        Err(NoMemory) => Err(AllocError),
+    }
+}
