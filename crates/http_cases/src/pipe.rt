@@ -26,7 +26,7 @@ fn words(alloc: Global) -> Result<Vec<String>, AllocError> {
 }
 
 /// A run over an input that is read and written in pieces of at most that size.
-fn run(alloc: Global, input: &[u8], size: usize) -> Result<Run, AllocError> {
+fn serve_input(alloc: Global, input: &[u8], size: usize) -> Result<Run, AllocError> {
     let words = words(alloc)?;
     let mut input = MemSource::new(input.to_vec(alloc)?, size.max(1), Vec::new(alloc));
     let mut output = MemSink::new(alloc, size.max(1), Vec::new(alloc));
@@ -70,9 +70,9 @@ fn run_text(alloc: Global, run: &Run) -> Result<String, AllocError> {
 /// What a connection over an input leaves, the same in pieces of these sizes.
 fn in_sizes(alloc: Global, field: &str, sizes: &[usize]) -> Result<String, AllocError> {
     let input = bytes(alloc, field)?;
-    let whole = run(alloc, input.as_slice(), 100_000)?;
+    let whole = serve_input(alloc, input.as_slice(), 100_000)?;
     for size in sizes {
-        let other = run(alloc, input.as_slice(), *size)?;
+        let other = serve_input(alloc, input.as_slice(), *size)?;
         if !is_same(&whole, &other) {
             return format!(in alloc; "differs in pieces of {size} bytes");
         }
@@ -111,7 +111,7 @@ pub(crate) fn ended_anywhere(alloc: Global, field: &str) -> Result<String, Alloc
     let mut text = String::from_str(alloc, "ends at")?;
     let mut last: usize = 0;
     for (at, _byte) in input.iter().enumerate() {
-        let run = run(alloc, &input[..at], 7)?;
+        let run = serve_input(alloc, &input[..at], 7)?;
         match cut_length(&run) {
             Some(rest) if rest == at - last.min(at) => {}
             Some(_rest) => return format!(in alloc; "cut wrongly at {at}"),
