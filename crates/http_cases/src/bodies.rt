@@ -25,9 +25,7 @@ fn fault_text(alloc: Global, fault: PayloadFault) -> Result<String, AllocError> 
 /// What a payload has become after it took so many bytes.
 fn state_text(alloc: Global, payload: Payload, taken: usize) -> Result<String, AllocError> {
     if payload.is_done() {
-        let Ok(body) = payload.body(alloc) else {
-            return Err(AllocError);
-        };
+        let body = payload.body();
         let body = shown(alloc, body.as_slice())?;
         format!(in alloc; "done {taken} \"{body}\"")
     } else {

@@ -35,7 +35,7 @@ pub(crate) fn body_step(
     match payload.feed(alloc, bytes) {
         Ok(fed) => {
             if fed.done {
-                let body = payload.body(alloc)?;
+                let body = payload.body();
                 let next = push_request(alloc, events, count, head, body)?;
                 return Ok((fed.taken, next));
             }

@@ -34,7 +34,7 @@ fn start_body(
     push_interim(alloc, events, &head, form)?;
     let payload = Payload::new(alloc, form);
     if payload.is_done() {
-        let body = payload.body(alloc)?;
+        let body = payload.body();
         return push_request(alloc, events, count, head, body);
     }
     Ok(ParserState::Body(PartialBody {

@@ -75,7 +75,7 @@ fn first_body(alloc: Global, form: BodyForm, bytes: &[u8]) -> Mem<Option<(Bytes,
     match payload.feed(alloc, bytes) {
         Ok(fed) => {
             if fed.done {
-                let body = payload.body(alloc)?;
+                let body = payload.body();
                 Ok(Some((body, fed.taken)))
             } else {
                 Ok(None)

@@ -2,6 +2,7 @@
 pub mod Bodies
 pub mod Chunks
 pub mod PayloadState
+pub mod BodyBytes
 pub mod Laws
 -- internal: cited by private clauses alone
 pub mod ChunkLines

@@ -6,7 +6,7 @@
 //! while !payload.is_done() {
 //!     let fed = payload.feed(alloc, next_piece())?;
 //! }
-//! let body = payload.body(alloc)?;
+//! let body = payload.body();
 //! ```
 //!
 //! [`Payload`] keeps the body, and of the line before a chunk what has come of it; all else is
@@ -20,6 +20,7 @@
 //! on `pod_base`.
 #![tactic(auto)]
 
+mod body_bytes;
 mod chunk_line;
 mod feed_loop;
 pub mod laws;

@@ -6,11 +6,11 @@ ghost use Rattle.http_head.specs.declared.body_form.BodyForm.{BodyForm as Form};
 ghost use Rattle.http_payload.specs.Bodies.{IsBody, IsFault, IsPartial, IsOrOutOfMemory};
 ghost use Rattle.http_payload.specs.PayloadState.{IsDone, Represents, fault_of};
 
-use crate::feed_loop::feed_piece;
+use crate::body_bytes::{BodyBytes, feed_body};
 use crate::payload_fault::PayloadFault;
 use crate::stage::Stage;
 use http_head::BodyForm;
-use pod_base::{Bytes, Mem, NoMemory};
+use pod_base::{Bytes, Mem};
 use std::alloc::Global;
 use std::marker::Model;
 
@@ -27,22 +27,24 @@ pub struct Fed {
 ///
 /// It doesn't keep what was fed. Contracts say which texts it represents (`Represents`): those
 /// after which the same bytes complete the body. The body grows in a block of its own, so it keeps
-/// neither the head nor the pieces alive.
+/// neither the head nor the pieces alive. Once it is complete, it is held as shared [`Bytes`].
 #[derive(Debug, Drop)]
 pub struct Payload {
     stage: Stage,
     line: Vec<u8>,
-    body: Vec<u8>,
+    body: BodyBytes,
 }
 
 impl Model for Payload {
     ghost use Rattle.http_payload.specs.PayloadState.{PayloadState, payload_state, IsSoundAt};
+    ghost use Rattle.http_payload.specs.BodyBytes.{bytes_of_body, IsKeptAt};
 
     ghost Value = { PayloadState };
 
-    ghost view = { λ p. payload_state p.stage p.line.items p.body.items };
+    ghost view = { λ p. payload_state p.stage p.line.items (bytes_of_body p.body) };
 
-    ghost invariant = { λ p. IsSoundAt p.stage p.line.items p.body.items };
+    ghost invariant = { λ p. IsSoundAt p.stage p.line.items (bytes_of_body p.body)
+        × IsKeptAt p.stage p.body };
 }
 
 impl Payload {
@@ -50,10 +52,11 @@ impl Payload {
     pub fn new(alloc: Global, form: BodyForm) -> Payload
         ensures { Represents form result [] }
     {
+        let stage = Stage::first(form);
         Payload {
-            stage: Stage::first(form),
+            stage,
             line: Vec::new(alloc),
-            body: Vec::new(alloc),
+            body: BodyBytes::new(alloc, stage),
         }
     }
 
@@ -72,12 +75,15 @@ impl Payload {
     /// Takes the next piece of the body's bytes, up to the body's end. A complete body takes
     /// nothing more.
     ///
+    /// It takes memory for the bytes that it keeps. The feed that completes the body also takes the
+    /// memory for the count of owners of [`Payload::body`], unless the body has no bytes.
+    ///
     /// # Errors
     ///
     /// [`PayloadFault::Malformed`] exactly where the text that was fed is no prefix of a body, and
     /// [`PayloadFault::TooLarge`] exactly where a chunk line in it has too large a size, or
     /// [`PayloadFault::NoMemory`]. After an error each feed returns that error again.
-    pub fn feed(&mut self, _alloc: Global, piece: &[u8]) -> Result<Fed, PayloadFault>
+    pub fn feed(&mut self, alloc: Global, piece: &[u8]) -> Result<Fed, PayloadFault>
         ensures within { IfOk result (λ fed. fed.taken ≤ length piece.now) }
         ensures represents { IfOk result (λ fed. (form : Form) (text : List ℕ)
             → Represents form self.old text
@@ -119,7 +125,7 @@ impl Payload {
         if let Stage::Failed(fault) = self.stage {
             return Err(fault);
         }
-        match feed_piece(self.stage, &mut self.line, &mut self.body, piece) {
+        match feed_body(alloc, self.stage, &mut self.line, &mut self.body, piece) {
             Ok(step) => {
                 self.stage = step.stage;
                 Ok(Fed {
@@ -134,19 +140,14 @@ impl Payload {
         }
     }
 
-    /// The bytes of a complete body, in the block in which they grew. It takes memory for their
-    /// count of owners alone.
-    pub fn body(self, alloc: Global) -> Mem<Bytes>
+    /// The bytes of a complete body, in the block in which they grew. It takes no memory.
+    pub fn body(self) -> Bytes
         requires { IsDone self }
-        ensures bytes { IfOk result (λ bytes. bytes ≡ self.body) }
-        ensures decodes { IfOk result (λ bytes. (form : Form) (text : List ℕ)
-            → Represents form self text
-            → IsBody form text bytes) }
+        ensures bytes { result ≡ self.body }
+        ensures decodes { (form : Form) (text : List ℕ) → Represents form self text
+            → IsBody form text result }
     {
-        match Bytes::from_vec(alloc, self.body) {
-            Ok(bytes) => Ok(bytes),
-            Err(_bytes) => Err(NoMemory),
-        }
+        self.body.into_bytes()
     }
 }
 
@@ -156,7 +157,7 @@ impl Payload {
         ensures { IfOk result (λ copy. copy ≡ self.now) }
     {
         let line = Vec::from_slice(alloc, self.line.as_slice())?;
-        let body = Vec::from_slice(alloc, self.body.as_slice())?;
+        let body = self.body.copy(alloc)?;
         Ok(Payload {
             stage: self.stage,
             line,

@@ -14,8 +14,8 @@ pub returns-then-fed-clause-parses : goal.returns-then-fed-clause-parses
 returns-then-fed-clause-parses c =
     let bytes : List ℕ = c.args.bytes.now in
     let front : List ℕ = take c.in-Ok.fed.taken bytes in
-    body_ends c.args.partial front c.in_ok-body-in-Ok.body c.args.events.now.items c.push_request.new.events.items c.in_ok-next-in-Ok.next
-    (λ form text s. subst (IsBody form (text ++ front)) (sym c.in_ok-body-in-Ok.ensures.bytes) (c.in-Ok.ensures.whole c.if-fed.true form text s))
+    body_ends c.args.partial front c.body-body.result c.args.events.now.items c.push_request.new.events.items c.in_ok-next-in-Ok.next
+    (λ form text s. subst (IsBody form (text ++ front)) (sym c.body-body.ensures.bytes) (c.in-Ok.ensures.whole c.if-fed.true form text s))
     c.in_ok-next-in-Ok.ensures.ends
 
 -- it goes on

@@ -7,8 +7,8 @@ use Rattle.http_conn.proofs.head_step.start_body.Goals as goal
 pub returns-then-is_done-clause-parses : goal.returns-then-is_done-clause-parses
 returns-then-is_done-clause-parses c =
     IfOk-weaker c.push_request.result _ _
-    (λ new finishes. awaits_none c.args.count c.args.len c.args.head c.args.form c.args.events.now.items c.push_interim.new.events.items c.push_request.new.events.items new c.in_ok-body.body
-    c.in_ok-push_interim.ensures (c.in_ok-body.ensures.decodes c.args.form [] c.new-payload.ensures) finishes)
+    (λ new finishes. awaits_none c.args.count c.args.len c.args.head c.args.form c.args.events.now.items c.push_interim.new.events.items c.push_request.new.events.items new c.body-body.result
+    c.in_ok-push_interim.ensures (c.body-body.ensures.decodes c.args.form [] c.new-payload.ensures) finishes)
     c.push_request.ensures.ends
 
 -- a body that has not come

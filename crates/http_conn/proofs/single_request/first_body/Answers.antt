@@ -9,7 +9,7 @@ use Rattle.http_conn.proofs.single_request.first_body.Goals as goal
 pub returns-then-fed-clause-some : goal.returns-then-fed-clause-some
 returns-then-fed-clause-some c = (
   c.in-Ok.ensures.within,
-  subst (IsBody c.args.form (take c.in-Ok.fed.taken c.args.bytes.now)) (sym c.in_ok-body-in-Ok.ensures.bytes)
+  subst (IsBody c.args.form (take c.in-Ok.fed.taken c.args.bytes.now)) (sym c.body-body.ensures.bytes)
       (c.in-Ok.ensures.whole c.if-fed.true c.args.form [] c.new-payload.ensures),
 )
 

@@ -2,13 +2,14 @@ use Rattle.std.proofs.Common.{◌≡◌, ◌++◌, ◌∙◌, List, ℕ, take, r
 use Rattle.http_head.specs.declared.body_form.BodyForm.{BodyForm}
 use Rattle.http_payload.specs.Bodies.{IsBody, IsPartial}
 use Rattle.http_payload.specs.PayloadState.{PayloadState, payload_state, Represents, fault_of}
+use Rattle.http_payload.specs.BodyBytes.{bytes_of_body}
 use Rattle.http_payload.proofs.Representation.{body_of}
 use Rattle.http_payload.proofs.Feeding.{partial_at, whole_told, partial_told, fault_told, Blames, whole_failed, partial_failed, fault_failed, no_fault_at, same_held, must_be_true, same_fed, nothing_again, no_truth}
 use Rattle.http_payload.proofs.payload.Payload.feed.Goals as goal
 
 -- what the payload holds after the run
 later : goal.After-is_end → PayloadState
-later c = payload_state c.in-Ok.step.stage c.feed_piece.new.line.items c.feed_piece.new.body.items
+later c = payload_state c.in-Ok.step.stage c.feed_body.new.line.items (bytes_of_body c.feed_body.new.body)
 
 represents_after : (c : goal.After-is_end) (form : BodyForm) (text : List ℕ) → Represents form c.args.self.now text
     → Represents form (later c) (text ++ take c.in-Ok.step.taken c.args.piece.now)
@@ -17,7 +18,7 @@ represents_after c form text represents =
     c.in-Ok.ensures.represents form text (subst (λ h. Represents form h text) (sym c.self.view_is) represents)
 
 whole_after : (c : goal.After-is_end) (form : BodyForm) (text : List ℕ) → Represents form c.args.self.now text
-    → IsTrue c.is_end.result → IsBody form (text ++ take c.in-Ok.step.taken c.args.piece.now) c.feed_piece.new.body.items
+    → IsTrue c.is_end.result → IsBody form (text ++ take c.in-Ok.step.taken c.args.piece.now) (bytes_of_body c.feed_body.new.body)
 unfolding later
 whole_after c form text represents known =
     body_of form (later c) (text ++ take c.in-Ok.step.taken c.args.piece.now) (represents_after c form text represents) (c.is_end.ensures.yes known)
@@ -41,13 +42,13 @@ returns-in-Ok c = record {
   partial = λ known form text represents. partial_after c form text represents known;
   fault = tt;
   exact_whole = λ form text prefix rest body represents e is_body.
-      whole_told form text c.args.piece.now c.in-Ok.step.taken c.is_end.result c.feed_piece.new.body.items c.in-Ok.ensures.within
+      whole_told form text c.args.piece.now c.in-Ok.step.taken c.is_end.result (bytes_of_body c.feed_body.new.body) c.in-Ok.ensures.within
       (whole_after c form text represents) (partial_after c form text represents) prefix rest body e is_body;
   exact_partial = λ form text represents partial.
-      partial_told form text c.args.piece.now c.in-Ok.step.taken c.is_end.result c.feed_piece.new.body.items
+      partial_told form text c.args.piece.now c.in-Ok.step.taken c.is_end.result (bytes_of_body c.feed_body.new.body)
       (whole_after c form text represents) (λ known. c.in-Ok.ensures.all (c.is_end.ensures.no known)) partial;
   exact_fault = λ form text fault represents is_fault.
-      fault_told form text c.args.piece.now c.in-Ok.step.taken c.is_end.result c.feed_piece.new.body.items fault
+      fault_told form text c.args.piece.now c.in-Ok.step.taken c.is_end.result (bytes_of_body c.feed_body.new.body) fault
       (whole_after c form text represents) (partial_after c form text represents) is_fault;
   ended = λ done.
       let kept = c.in-Ok.ensures.done (ap (λ h. h.stage) c.self.view_is ∙ done) in

@@ -9,5 +9,5 @@ returns-clause-whole c known form text represents =
 
 pub returns-clause-partial : goal.returns-clause-partial
 returns-clause-partial c known form text represents =
-    partial_of form c.args.self.now text represents (subst IsSound c.self.view_is c.self.invariant)
+    partial_of form c.args.self.now text represents (subst IsSound c.self.view_is c.self.invariant.0)
     (λ done. c.is_end.ensures.no known (ap (λ h. h.stage) c.self.view_is ∙ done))
