@@ -1,4 +1,4 @@
-use Rattle.std.proofs.Common.{◌≡◌, None, Some, [], map, subst, sym}
+use Rattle.std.proofs.Common.{None, Some, subst, sym}
 use Rattle.rdf_graph.specs.Lookup.{AreCandidates, IsLookup}
 use Rattle.rdf_graph.proofs.Candidates.{all_candidates, index_alone, not_empty}
 use Rattle.rdf_graph.proofs.lookup.Lookup.with_object.Goals as goal
