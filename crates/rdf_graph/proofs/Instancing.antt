@@ -3,7 +3,7 @@ use Rattle.std.proofs.Common.{ℕ, ◌+◌, ◌<◌, ◌≤◌, ◌≡◌, List,
 use Rattle.std.specs.List.{All, AllZip, Contains}
 use Rattle.std.proofs.lemmas.List.{take_all, take_more}
 use Rattle.std.proofs.lemmas.List.Elements.{Contains-append_cases}
-use Rattle.rdf_graph.specs.Patch.{HasPredicate, IsFaultOf, IsInstance, IsMappingFault, IsMisfit}
+use Rattle.rdf_graph.specs.Patch.{IsFaultOf, IsInstance, IsMappingFault, IsMisfit}
 use Rattle.rdf_graph.specs.Pattern.{Binding, Instantiates, value_of}
 use Rattle.rdf_graph.specs.Solutions.{IsOnlySolution}
 use Rattle.rdf_graph.specs.declared.patch.Patch.{Patch}

@@ -1,4 +1,5 @@
 pub mod Bindings
+pub mod Candidates
 pub mod Exact
 pub mod Fronts
 pub mod Graphs

@@ -1,18 +1,16 @@
 -- What a search has found, joined and carried over.
 use Rattle.std.proofs.Common.{ℕ, zero, suc, ◌+◌, ◌<◌, ◌≡◌, ◌≢◌, ◌⊎◌, ◌↔◌, List, [], ◌∷◌, ◌++◌, Bool, true, false, Option, None, Some, refl, sym, ap, ◌∙◌, subst, inl, inr, ⊎_elim, length, take, get_or, set, arith}
 use Rattle.std.specs.Prelude.{IsSome, slice_get, map}
-use Rattle.std.specs.List.{Contains, All}
-use Rattle.std.specs.declared.cmp.Ordering.TheVariants.{Less}
+use Rattle.std.specs.List.{Contains, All, IsDistinct}
+use Rattle.std.specs.Ordering.{eq_by_cmp}
 use Rattle.std.proofs.lemmas.Bool.{cases_eq, true≢false}
 use Rattle.std.proofs.lemmas.List.{take_more, length-map, get_or-map, set-set, set-get_or}
-use Rattle.std.proofs.lemmas.List.Elements.{All-contains, All-head, Contains-append_left, Contains-push, Contains-push_cases}
+use Rattle.std.proofs.lemmas.List.Elements.{All-contains, Contains-append_left, Contains-push, Contains-push_cases}
 use Rattle.std.proofs.lemmas.Option.{slice_get-get_or, slice_get_within, get_or_from_slice_get}
-use Rattle.rdf_graph.specs.Graph.{IsOrdered}
+use Rattle.rdf_graph.specs.Lookup.{AreCandidates}
 use Rattle.rdf_graph.specs.Pattern.{Binding, Extends, HoldsIn, Instantiates, IsVariableOf, slot_term, value_of}
 use Rattle.rdf_graph.specs.Search.{AreTwo, IsFull, IsPartial, IsTheOne, Satisfies, Tells, bind_pattern, either}
-use Rattle.rdf_graph.specs.Span.{IsSpan}
 use Rattle.rdf_graph.specs.Triple.{IsAsked, triple_cmp}
-use Rattle.rdf_graph.specs.TripleLaws.{triple_cmp_total}
 use Rattle.rdf_graph.specs.declared.pattern.Found.{Found}
 use Rattle.rdf_graph.specs.declared.pattern.Found.TheVariants.{Nothing, One, Many}
 use Rattle.rdf_graph.specs.declared.pattern.Pattern.{Pattern}
@@ -21,9 +19,8 @@ use Rattle.rdf_graph.specs.declared.pattern.Slot.TheVariants.{Var}
 use Rattle.rdf_graph.specs.declared.term.Term.{Term}
 use Rattle.rdf_graph.specs.declared.triple.Triple.{Triple}
 use Rattle.rdf_graph.proofs.Bindings.{Pairs, GrowsByPattern, grows_pattern, refused_pattern, holds_kept, instances_apart, is_some_from, same_some, some_not_none, slot_kept, instance_kept, Extends-trans}
-use Rattle.rdf_graph.proofs.Exact.{triple_cmp_exact}
+use Rattle.rdf_graph.proofs.Candidates.{not_before}
 use Rattle.rdf_graph.proofs.Members.{contains_none}
-use Rattle.rdf_graph.proofs.Sorted.{sorted_take, sorted_cross, not_among_below}
 
 slice_get-set_other : {X : Type 0} (xs : List X) (i k : ℕ) (x : X) → (k ≡ i → ⊥) → slice_get (set xs i x) k ≡ slice_get xs k
 slice_get-set_other [] i k x apart = refl
@@ -188,19 +185,27 @@ module _ (g : List Triple) (patterns : List Pattern) where
           ))
           f a
 
-    asked_of : (m : Binding) → Extends pairs m → (o : Option Term) → slot_term (value_of pairs) pattern.s ≡ o → (x : Term) → slot_term m pattern.s ≡ Some x → IsAsked o x
-    asked_of m q None e x is = tt
-    asked_of m q (Some u) e x is = same_some (slot_term m pattern.s) x u is (slot_kept (value_of pairs) m q pattern.s u e)
+    asked_of : (m : Binding) → Extends pairs m → (slot : Slot) (o : Option Term) → slot_term (value_of pairs) slot ≡ o → (x : Term) → slot_term m slot ≡ Some x → IsAsked o x
+    asked_of m q slot None e x is = tt
+    asked_of m q slot (Some u) e x is = same_some (slot_term m slot) x u is (slot_kept (value_of pairs) m q slot u e)
 
     -- all triples that the pattern can be
-    pub upto_all : (span : List Triple) → IsSpan (slot_term (value_of pairs) pattern.s) g span → (f : Found) → Tells g patterns (Upto pairs pattern span) f → Tells g patterns (Extends pairs) f
+    pub upto_all : (span : List Triple) → AreCandidates (slot_term (value_of pairs) pattern.s) (slot_term (value_of pairs) pattern.o) g span → (f : Found) → Tells g patterns (Upto pairs pattern span) f → Tells g patterns (Extends pairs) f
     upto_all span is f a =
         tells_among (Upto pairs pattern span) (Extends pairs)
         (λ m s. (
           λ q. q.0,
           λ q.
-              let holds : HoldsIn g m pattern = All-contains (HoldsIn g m) patterns pattern s pattern_is_one in
-              (q, (holds.0, is.complete holds.0 holds.2 (asked_of m q (slot_term (value_of pairs) pattern.s) refl holds.0.s holds.1.s), holds.1)),
+              let holds : HoldsIn g m pattern = All-contains (HoldsIn g m) patterns pattern s pattern_is_one in (
+                q,
+                (
+                  holds.0,
+                  is.complete holds.0 holds.2
+                      (asked_of m q pattern.s (slot_term (value_of pairs) pattern.s) refl holds.0.s holds.1.s)
+                      (asked_of m q pattern.o (slot_term (value_of pairs) pattern.o) refl holds.0.o holds.1.o),
+                  holds.1,
+                ),
+              ),
         ))
         f a
 
@@ -208,25 +213,18 @@ module _ (g : List Triple) (patterns : List Pattern) where
     pub upto_two : (span : List Triple) (n : ℕ) → AreTwo g patterns (Upto pairs pattern (take n span)) → AreTwo g patterns (Extends pairs)
     upto_two span n a = two_among (Upto pairs pattern (take n span)) (Extends pairs) (λ m q. q.0) a
 
--- what stands at a place of a list in order isn't among those before
-pub not_before : (xs : List Triple) (i : ℕ) (t : Triple) → IsOrdered xs → i < length xs → get_or xs i t ≡ t → Contains (take i xs) t → ⊥
-not_before xs i t s l e =
-    let front : take (i + 1) xs ≡ take i xs ++ t ∷ [] = take_more xs i t l ∙ ap (λ x. take i xs ++ x ∷ []) e in
-    let cross = sorted_cross triple_cmp (take i xs) (t ∷ []) (subst IsOrdered front (sorted_take triple_cmp (i + 1) xs s)) in
-    not_among_below triple_cmp_total triple_cmp_exact t (take i xs) (λ k d m. All-head (λ y. triple_cmp (get_or (take i xs) k d) y ≡ Less) t [] (cross k d m))
-
 -- ---- one triple of the candidates after another
 
-module _ (g : List Triple) (patterns : List Pattern) (taken : List Bool) (pairs : Pairs) (i : ℕ) (pattern : Pattern) (at : slice_get patterns i ≡ Some pattern) (span : List Triple) (n : ℕ) (t : Triple) (l : n < length span) (is : t ≡ get_or span n t) where
+module _ (g : List Triple) (patterns : List Pattern) (taken : List Bool) (pairs : Pairs) (i : ℕ) (pattern : Pattern) (at : slice_get patterns i ≡ Some pattern) (span : List Triple) (n : ℕ) (t : Triple) (here : slice_get span n ≡ Some t) where
   one_more : take (n + 1) span ≡ take n span ++ t ∷ []
-  one_more = take_more span n t l ∙ ap (λ x. take n span ++ x ∷ []) (sym is)
+  one_more = take_more span n t (slice_get_within span n t here) ∙ ap (λ x. take n span ++ x ∷ []) (get_or_from_slice_get span n t t here)
 
-  pub next_fits : IsOrdered span → (new : Pairs) → bind_pattern pairs pattern t ≡ Some new → (f h found : Found) → found ≡ either f h
+  pub next_fits : IsDistinct (eq_by_cmp triple_cmp) span → (new : Pairs) → bind_pattern pairs pattern t ≡ Some new → (f h found : Found) → found ≡ either f h
       → Tells g patterns (Upto pairs pattern (take n span)) f → Tells g patterns (Extends new) h → Tells g patterns (Upto pairs pattern (take (n + 1) span)) found
   next_fits s new fits f h found e a b =
       subst (λ zs. Tells g patterns (Upto pairs pattern zs) found) (sym one_more)
       (subst (Tells g patterns (Upto pairs pattern (take n span ++ t ∷ []))) (sym e)
-      (upto_more g patterns taken pairs i pattern at (take n span) t new (not_before span n t s l (sym is)) (grows_pattern pairs pattern t new fits) f h a b))
+      (upto_more g patterns taken pairs i pattern at (take n span) t new (not_before span n t s here) (grows_pattern pairs pattern t new fits) f h a b))
 
   pub next_differs : bind_pattern pairs pattern t ≡ None → (f found : Found) → found ≡ f → Tells g patterns (Upto pairs pattern (take n span)) f → Tells g patterns (Upto pairs pattern (take (n + 1) span)) found
   next_differs refused f found e a =
@@ -234,9 +232,9 @@ module _ (g : List Triple) (patterns : List Pattern) (taken : List Bool) (pairs 
       (subst (Tells g patterns (Upto pairs pattern (take n span ++ t ∷ []))) (sym e)
       (upto_same g patterns taken pairs i pattern at (take n span) t refused f a))
 
-  pub next_partial : IsSpan (slot_term (value_of pairs) pattern.s) g span → (new : Pairs) → bind_pattern pairs pattern t ≡ Some new → IsPartial g patterns taken pairs → IsPartial g patterns (set taken i true) new
+  pub next_partial : ((x : Triple) → Contains span x → Contains g x) → (new : Pairs) → bind_pattern pairs pattern t ≡ Some new → IsPartial g patterns taken pairs → IsPartial g patterns (set taken i true) new
   next_partial s new fits partial =
-      partial_grows g patterns taken pairs i pattern at t new (s.within t (n, l, sym is)) partial (grows_pattern pairs pattern t new fits)
+      partial_grows g patterns taken pairs i pattern at t new (s t (n, slice_get_within span n t here, get_or_from_slice_get span n t t here)) partial (grows_pattern pairs pattern t new fits)
 
 -- taken and given back
 pub set-back : (taken : List Bool) (i : ℕ) → slice_get taken i ≡ Some false → set (set taken i true) i false ≡ taken

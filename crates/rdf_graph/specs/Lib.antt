@@ -4,6 +4,7 @@ pub mod Graph
 pub mod Groups
 pub mod Laws
 pub mod Line
+pub mod Lookup
 pub mod Patch
 pub mod Pattern
 pub mod Place

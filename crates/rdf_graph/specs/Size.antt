@@ -2,7 +2,6 @@
 -- a text has eight bytes for its length, a term one byte for its kind, and a graph eight bytes for
 -- its count.
 use Rattle.std.specs.Prelude.{ℕ, List, ◌+◌, ◌-◌, ◌^◌, length, map, min, sum}
-use Rattle.rdf_graph.specs.declared.change.Change.{Change}
 use Rattle.rdf_graph.specs.declared.term.Term.{Term}
 use Rattle.rdf_graph.specs.declared.term.Term.TheVariants.{Iri, Blank, Literal, Tagged}
 use Rattle.rdf_graph.specs.declared.triple.Triple.{Triple}

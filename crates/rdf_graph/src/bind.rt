@@ -63,7 +63,7 @@ fn is_variable_of(conditions: &[Pattern], name: &Text) -> bool
 }
 
 /// Whether the pattern has the variable.
-fn has_variable(pattern: &Pattern, name: &Text) -> bool
+pub(crate) fn has_variable(pattern: &Pattern, name: &Text) -> bool
     ensures { IsTrue result ↔ HasVariable pattern.now name.now }
 {
     is_variable(&pattern.s, name) || is_variable(&pattern.p, name) || is_variable(&pattern.o, name)

@@ -1,8 +1,9 @@
 //! Graphs: sets of triples, kept in the order of their lines.
-ghost use Rattle.std.specs.Prelude.{◌≡◌, ◌==◌, ◌<◌, ◌↔◌, [], length, All, Contains, IsTrue, IfOk, OnOk, OnErr, MatchBool, MatchResult, Some, slice_get};
+ghost use Rattle.std.specs.Prelude.{◌≡◌, ◌==◌, ◌<◌, ◌≤◌, ◌↔◌, [], length, All, Contains, IsTrue, IfOk, OnOk, OnErr, MatchBool, MatchResult, Some, slice_get};
 ghost use Rattle.rdf_graph.specs.Triple.{IsRdf};
 ghost use Rattle.rdf_graph.specs.Graph.{IsGraph, IsOrdered, SameSet, SetWith, SetWithout};
 ghost use Rattle.rdf_graph.specs.Place.{IsGap};
+ghost use Rattle.rdf_graph.specs.Size.{triples_size};
 ghost use Rattle.rdf_graph.specs.TripleRef.{triple_of};
 
 use crate::order::cmp_triples;
@@ -47,6 +48,7 @@ impl Graph {
     pub fn of(triples: List<Triple>) -> Graph
         requires { All IsRdf triples.items }
         ensures members { SameSet result triples.items }
+        ensures size { triples_size result ≤ triples_size triples.items }
     {
         let mut triples = triples.into_vec();
         triples.sort_unstable();

@@ -1,10 +1,10 @@
 //! What a mapping makes of the patterns of a patch.
-ghost use Rattle.std.specs.Prelude.{◌≡◌, ◌+◌, ◌⊎◌, ◌↔◌, All, Contains, IfErr, IfOk, IsTrue, MatchBool, None, Some};
+ghost use Rattle.std.specs.Prelude.{◌≡◌, ◌≤◌, ◌+◌, ◌⊎◌, ◌↔◌, All, Contains, IfErr, IfOk, IsTrue, MatchBool, None, Some};
 ghost use Rattle.std.specs.Bool.{OnTrue};
 ghost use Rattle.std.specs.List.{AllZip};
 ghost use Rattle.rdf_graph.specs.Patch.{AreInstances, AreKnown, instance_size, FitsGraph, HasPredicate, IsInstance, IsKnown, IsKnownIn, IsMisfit, instances_size};
 ghost use Rattle.rdf_graph.specs.Pattern.{Instantiates, slot_term, value_of};
-ghost use Rattle.rdf_graph.specs.Size.{saturated};
+ghost use Rattle.rdf_graph.specs.Size.{change_size, saturated, triples_size};
 ghost use Rattle.rdf_graph.specs.Triple.{IsRdf};
 ghost use Rattle.rdf_graph.specs.TripleRef.{triple_of};
 ghost use Rattle.rdf_graph.specs.declared.term.Term.TheVariants.{Iri as IriTerm};
@@ -59,7 +59,8 @@ impl Patch {
     }
 
     /// The encoded size of the triples that the mapping makes of the deletions and insertions, those
-    /// that are equal counted as often as they are made. At most 2^64 - 1. Takes no memory.
+    /// that are equal counted as often as they are made. At most 2^64 - 1. Takes no memory. A caller
+    /// that refuses a patch by this size bounds the encoded size of its change, by 16 bytes more.
     pub fn instances_size(&self, mapping: &Mapping) -> u64
         requires deletions { AreKnown mapping.now.pairs.items self.now.deletions.items }
         requires insertions { AreKnown mapping.now.pairs.items self.now.insertions.items }
@@ -73,7 +74,8 @@ impl Patch {
     }
 
     /// The triples that the mapping makes of the deletions and of the insertions, each once. They
-    /// share the memory of the mapping's and the patch's texts.
+    /// share the memory of the mapping's and the patch's texts. The change's encoded size is at most
+    /// `instances_size` and the two counts of 8 bytes each.
     pub fn change(&self, alloc: Global, mapping: &Mapping) -> Mem<Change>
         requires deletions { AreKnown mapping.now.pairs.items self.now.deletions.items }
         requires insertions { AreKnown mapping.now.pairs.items self.now.insertions.items }
@@ -81,6 +83,7 @@ impl Patch {
         requires added_rdf { (x : Triple) → IsInstance (value_of mapping.now.pairs.items) self.now.insertions.items x → IsRdf x }
         ensures removed { IfOk result (λ change. AreInstances (value_of mapping.now.pairs.items) self.now.deletions.items change.removed) }
         ensures added { IfOk result (λ change. AreInstances (value_of mapping.now.pairs.items) self.now.insertions.items change.added) }
+        ensures size { IfOk result (λ change. change_size change.removed change.added ≤ instances_size (value_of mapping.now.pairs.items) self.now.deletions.items + instances_size (value_of mapping.now.pairs.items) self.now.insertions.items + 16) }
     {
         let pairs = mapping.pairs.as_slice();
         let removed = graph_of(alloc, pairs, self.deletions.as_slice())?;
@@ -93,7 +96,8 @@ impl Patch {
 fn graph_of(alloc: Global, pairs: &[(Text, Term)], patterns: &[Pattern]) -> Mem<Graph>
     requires known { AreKnown pairs.now patterns.now }
     requires rdf { (x : Triple) → IsInstance (value_of pairs.now) patterns.now x → IsRdf x }
-    ensures { IfOk result (AreInstances (value_of pairs.now) patterns.now) }
+    ensures members { IfOk result (AreInstances (value_of pairs.now) patterns.now) }
+    ensures size { IfOk result (λ triples. triples_size triples ≤ instances_size (value_of pairs.now) patterns.now) }
 {
     let triples = instances(alloc, pairs, patterns)?;
     Ok(Graph::of(List::from_vec(triples)))

@@ -12,6 +12,7 @@ mod instances;
 mod iris;
 mod laws;
 mod line;
+mod lookup;
 mod matching;
 mod order;
 mod patch;

@@ -1,16 +1,14 @@
 //! The search for mappings under which conditions are triples of a graph.
 ghost use Rattle.std.specs.Prelude.{◌≡◌, ◌<◌, All, IfOk, IfSome, IfNone, OnOk, IsTrue, ◌↔◌, Some, false, true, length, map, slice_get};
-ghost use Rattle.rdf_graph.specs.Graph.{IsOrdered};
+ghost use Rattle.rdf_graph.specs.Lookup.{AreCandidates, IsLookup, listed};
 ghost use Rattle.rdf_graph.specs.Pattern.{Extends};
 ghost use Rattle.rdf_graph.specs.Search.{IsPartial, Tells, either, pairs_of};
-ghost use Rattle.rdf_graph.specs.Span.{IsSpan};
 ghost use Rattle.rdf_graph.specs.Pattern.{slot_term, value_of};
 ghost use Rattle.rdf_graph.specs.declared.pattern.Found.TheVariants.{Many};
 
 use crate::bound::{Bound, extend, mapping_of, slot_term};
-use crate::matching::{has_terms, span};
+use crate::lookup::{Candidates, Lookup};
 use crate::pattern::{Found, Pattern};
-use crate::triple::Triple;
 use pod_base::Mem;
 use std::alloc::Global;
 
@@ -39,28 +37,30 @@ impl Found {
 /// After an `Err` nothing is known of what was lent.
 pub(crate) fn search<'a>(
     alloc: Global,
-    triples: &'a [Triple],
+    lookup: Lookup<'a>,
     conditions: &[&'a Pattern],
     taken: &mut [bool],
     bound: &mut Vec<Bound<'a>>,
 ) -> Mem<Found>
-    requires ordered { IsOrdered triples.now }
+    requires lookup { IsLookup lookup }
     requires flags { length taken.old ≡ length conditions.now }
-    requires partial { IsPartial triples.now (map (λ c. c.now) conditions.now) taken.old (pairs_of bound.old.items) }
+    requires partial { IsPartial lookup.triples.now (map (λ c. c.now) conditions.now) taken.old (pairs_of bound.old.items) }
     ensures taken { OnOk result (taken.new ≡ taken.old) }
     ensures bound { OnOk result (bound.new.items ≡ bound.old.items) }
-    ensures tells { IfOk result (Tells triples.now (map (λ c. c.now) conditions.now) (Extends (pairs_of bound.old.items))) }
+    ensures tells { IfOk result (Tells lookup.entry.triples.now (map (λ c. c.now) conditions.now) (Extends (pairs_of bound.old.items))) }
 {
-    let Some(next) = next_condition(triples, conditions, taken, bound.as_slice()) else {
+    let Some(next) = next_condition(lookup, conditions, taken, bound.as_slice()) else {
         return Ok(Found::One(mapping_of(alloc, bound.as_slice())?));
     };
     taken[next] = true;
     let before = bound.len();
     let condition = conditions[next];
     let mut found = Found::Nothing;
-    for triple in candidates(triples, bound.as_slice(), condition) {
+    let candidates = candidates_of(lookup, bound.as_slice(), condition);
+    for place in 0..candidates.len() {
+        let triple = candidates.at(place);
         if extend(bound, condition, triple)? {
-            let more = search(alloc, triples, conditions, taken, bound)?;
+            let more = search(alloc, lookup, conditions, taken, bound)?;
             found = found.either(more);
         }
         bound.truncate(before);
@@ -73,26 +73,28 @@ pub(crate) fn search<'a>(
     Ok(found)
 }
 
-/// The triples among which those stand that the condition can be.
-fn candidates<'a>(
-    triples: &'a [Triple],
+/// The triples among which those are that the condition may be.
+fn candidates_of<'a>(
+    lookup: Lookup<'a>,
     bound: &[Bound<'a>],
     condition: &'a Pattern,
-) -> &'a [Triple]
-    requires { IsOrdered triples.now }
-    ensures { IsSpan (slot_term (value_of (pairs_of bound.now)) condition.now.s) triples.now result.now }
+) -> Candidates<'a>
+    requires { IsLookup lookup }
+    ensures { AreCandidates (slot_term (value_of (pairs_of bound.now)) condition.now.s) (slot_term (value_of (pairs_of bound.now)) condition.now.o) lookup.entry.triples.now (listed result) }
 {
-    span(triples, slot_term(bound, &condition.s))
+    let s = slot_term(bound, &condition.s);
+    let o = slot_term(bound, &condition.o);
+    lookup.candidates(s, o)
 }
 
 /// The condition with the fewest matches among those that aren't taken, if there are any.
 fn next_condition<'a>(
-    triples: &'a [Triple],
+    lookup: Lookup<'a>,
     conditions: &[&'a Pattern],
     taken: &[bool],
     bound: &[Bound<'a>],
 ) -> Option<usize>
-    requires ordered { IsOrdered triples.now }
+    requires lookup { IsLookup lookup }
     requires flags { length taken.now ≡ length conditions.now }
     ensures some { IfSome result (λ i. slice_get taken.now i ≡ Some false) }
     ensures within { IfSome result (λ i. i < length taken.now) }
@@ -102,7 +104,7 @@ fn next_condition<'a>(
     let mut fewest = first_bound(taken);
     for (i, condition) in conditions.iter().enumerate() {
         if !taken[i] {
-            let matches = matches_of(triples, bound, condition, fewest);
+            let matches = matches_of(lookup, bound, condition, fewest);
             if best.is_none() || matches < fewest {
                 best = Some(i);
                 fewest = matches;
@@ -121,20 +123,15 @@ fn first_bound(taken: &[bool]) -> usize {
 
 /// How many triples have the terms that are known of the condition, counted up to a bound.
 fn matches_of<'a>(
-    triples: &'a [Triple],
+    lookup: Lookup<'a>,
     bound: &[Bound<'a>],
     condition: &'a Pattern,
     most: usize,
 ) -> usize
-    requires { IsOrdered triples.now }
+    requires { IsLookup lookup }
 {
     let s = slot_term(bound, &condition.s);
     let p = slot_term(bound, &condition.p);
     let o = slot_term(bound, &condition.o);
-    let candidates = span(triples, s);
-    candidates
-        .iter()
-        .filter(|triple| has_terms(triple, s, p, o))
-        .take(most)
-        .count()
+    lookup.candidates(s, o).count(s, p, o, most)
 }

@@ -1,15 +1,15 @@
 //! What mappings make all conditions triples of a graph.
 ghost use Rattle.std.specs.Prelude.{◌≡◌, IfOk, IsTrue, ◌↔◌, map};
-ghost use Rattle.rdf_graph.specs.Graph.{IsOrdered};
+ghost use Rattle.rdf_graph.specs.Lookup.{IsLookup};
 ghost use Rattle.rdf_graph.specs.Search.{Everything, IsBoth, Tells};
 ghost use Rattle.rdf_graph.specs.Solutions.{AreSolutions};
 ghost use Rattle.rdf_graph.specs.declared.pattern.Found.TheVariants.{Nothing};
 
 use crate::graph::Graph;
 use crate::groups::{group_of, groups};
+use crate::lookup::{Lookup, index_for};
 use crate::pattern::{Found, Mapping, Pattern};
 use crate::search::search;
-use crate::triple::Triple;
 use pod_base::{List, Mem};
 use std::alloc::Global;
 
@@ -18,17 +18,23 @@ use std::alloc::Global;
 /// Protocol, N3 Patch).
 ///
 /// Conditions that no variables connect are solved apart, and the second mapping ends each search.
+/// Where a search may know a condition's object and not its subject, an index of the triples by object
+/// is made once.
 pub fn solutions(alloc: Global, graph: &Graph, conditions: &List<Pattern>) -> Mem<Found>
     ensures { IfOk result (AreSolutions graph.now conditions.now.items) }
 {
     let conditions = conditions.as_slice();
     let labels = groups(alloc, conditions)?;
+    let triples = graph.as_slice();
+    let index = index_for(alloc, triples, conditions)?;
+    let by_object = index.as_slice();
+    let lookup = Lookup { triples, by_object };
     let mut found = Found::One(Mapping {
         pairs: List::new(alloc),
     });
     for label in 0..conditions.len() {
         let group = group_of(alloc, conditions, labels.as_slice(), label)?;
-        let more = solve(alloc, graph.as_slice(), group.as_slice())?;
+        let more = solve(alloc, lookup, group.as_slice())?;
         if more.is_nothing() {
             return Ok(Found::Nothing);
         }
@@ -38,13 +44,13 @@ pub fn solutions(alloc: Global, graph: &Graph, conditions: &List<Pattern>) -> Me
 }
 
 /// What there is for these conditions.
-fn solve<'a>(alloc: Global, triples: &'a [Triple], conditions: &[&'a Pattern]) -> Mem<Found>
-    requires { IsOrdered triples.now }
-    ensures { IfOk result (Tells triples.now (map (λ c. c.now) conditions.now) Everything) }
+fn solve<'a>(alloc: Global, lookup: Lookup<'a>, conditions: &[&'a Pattern]) -> Mem<Found>
+    requires { IsLookup lookup }
+    ensures { IfOk result (Tells lookup.entry.triples.now (map (λ c. c.now) conditions.now) Everything) }
 {
     let mut taken = vec![in alloc; false; conditions.len()]?;
     let mut bound = Vec::new(alloc);
-    search(alloc, triples, conditions, taken.as_mut_slice(), &mut bound)
+    search(alloc, lookup, conditions, taken.as_mut_slice(), &mut bound)
 }
 
 impl Found {

@@ -1,7 +1,5 @@
 use Rattle.std.proofs.Common.{inl, inr}
-use Rattle.rdf_graph.specs.Pattern.{value_of}
 use Rattle.rdf_graph.proofs.Instancing.{fault_of_check}
-use Rattle.rdf_graph.proofs.Patching.{the_solution}
 use Rattle.rdf_graph.proofs.patch.change_of.Goals as goal
 
 pub check-requires : goal.check-requires

@@ -1,8 +1,8 @@
 use Rattle.std.proofs.Common.{◌≡◌, ◌∙◌, ◌<◌, ◌≤◌, ◌+◌, ap, sym, subst, length, map, set, true, false, take, arith, Some, None, cond}
 use Rattle.std.proofs.lemmas.List.{length-map, length-set, take_all}
 use Rattle.rdf_graph.specs.Search.{IsTheOne, IsPartial, Tells, pairs_of, bind_pattern}
+use Rattle.rdf_graph.specs.Lookup.{AreCandidates, listed}
 use Rattle.rdf_graph.specs.Pattern.{Extends, slot_term, value_of}
-use Rattle.rdf_graph.specs.Span.{IsSpan}
 use Rattle.rdf_graph.specs.declared.pattern.Found.TheVariants.{Many}
 use Rattle.rdf_graph.proofs.Telling.{all_taken, leaf_tells, untaken, untaken-set, read_map, next_fits, next_differs, next_partial, set-back, upto_all, upto_two, Upto}
 use Rattle.rdf_graph.proofs.search.+search.Goals as goal
@@ -11,98 +11,96 @@ use Rattle.rdf_graph.proofs.search.+search.Goals.{then-branch+in_ok-more, else-b
 pub returns-in_default-clause-tells : goal.returns-in_default-clause-tells
 returns-in_default-clause-tells t c =
     let pairs : c.in_ok-mapping_of.field-0.pairs.items ≡ pairs_of c.args.bound.now.items = c.in_ok-mapping_of.ensures ∙ ap pairs_of c.as_slice-in_default.ensures.value in
-    subst (IsTheOne c.args.triples.now _ (Extends (pairs_of c.args.bound.now.items))) (sym pairs)
-    (leaf_tells c.args.triples.now _ (pairs_of c.args.bound.now.items)
-    (all_taken c.args.triples.now _ c.args.taken.now (pairs_of c.args.bound.now.items) (c.requires.flags ∙ sym (length-map c.args.conditions.now (λ r. r.now))) c.in_default.ensures.none c.requires.partial))
+    subst (IsTheOne c.args.lookup.triples.now _ (Extends (pairs_of c.args.bound.now.items))) (sym pairs)
+    (leaf_tells c.args.lookup.triples.now _ (pairs_of c.args.bound.now.items)
+    (all_taken c.args.lookup.triples.now _ c.args.taken.now (pairs_of c.args.bound.now.items) (c.requires.flags ∙ sym (length-map c.args.conditions.now (λ r. r.now))) c.in_default.ensures.none c.requires.partial))
 
 pub search-requires : goal.search-requires
 search-requires t c =
-    let fits : bind_pattern (pairs_of c.args.bound.now.items) c.index-conditions-next.result.now c.triple-item.result ≡ Some (pairs_of c.extend.new.bound.items) =
-    subst (λ b. bind_pattern (pairs_of b) c.index-conditions-next.result.now c.triple-item.result ≡ Some (pairs_of c.extend.new.bound.items)) c.loop-triple.invariant.bound
+    let fits : bind_pattern (pairs_of c.args.bound.now.items) c.index-conditions-next.result.now c.at-triple.result.now ≡ Some (pairs_of c.extend.new.bound.items) =
+    subst (λ b. bind_pattern (pairs_of b) c.index-conditions-next.result.now c.at-triple.result.now ≡ Some (pairs_of c.extend.new.bound.items)) c.loop-place.invariant.bound
     (c.in_ok-extend.ensures.fits ∙ ap (λ b. cond b (Some (pairs_of c.extend.new.bound.items)) None) c.if-branch.true) in
     let at = read_map (λ r. r.now) c.args.conditions.now c.in-Some.next c.index-conditions-next.result (subst (λ n. c.in-Some.next < n) c.requires.flags c.in-Some.ensures.within) c.index-conditions-next.is in
-    let spanned : IsSpan (slot_term (value_of (pairs_of c.args.bound.now.items)) c.index-conditions-next.result.now.s) c.args.triples.now c.candidates-triple-items.result.now =
-    subst (λ b. IsSpan (slot_term (value_of (pairs_of b)) c.index-conditions-next.result.now.s) c.args.triples.now c.candidates-triple-items.result.now) c.as_slice-2.ensures.value c.candidates-triple-items.ensures in
-    let partial = next_partial c.args.triples.now (map (λ r. r.now) c.args.conditions.now) c.args.taken.now (pairs_of c.args.bound.now.items) c.in-Some.next c.index-conditions-next.result.now at
-    c.candidates-triple-items.result.now c.loop-triple.triple-index c.triple-item.result c.loop-triple-test.true c.triple-item.is spanned (pairs_of c.extend.new.bound.items) fits c.requires.partial in
-    let fewer : untaken c.loop-triple.taken < untaken c.args.taken.now =
-    subst (λ b. untaken b < untaken c.args.taken.now) (sym c.loop-triple.invariant.taken) (untaken-set c.args.taken.now c.in-Some.next c.in-Some.ensures.some) in (
+    let partial = next_partial c.args.lookup.triples.now (map (λ r. r.now) c.args.conditions.now) c.args.taken.now (pairs_of c.args.bound.now.items) c.in-Some.next c.index-conditions-next.result.now at
+    (listed c.candidates_of-candidates.result) c.loop-place.place c.at-triple.result.now c.at-triple.ensures c.candidates_of-candidates.ensures.within (pairs_of c.extend.new.bound.items) fits c.requires.partial in
+    let fewer : untaken c.loop-place.taken < untaken c.args.taken.now =
+    subst (λ b. untaken b < untaken c.args.taken.now) (sym c.loop-place.invariant.taken) (untaken-set c.args.taken.now c.in-Some.next c.in-Some.ensures.some) in (
       omega (arith, fewer, c.decreases),
       (
-        c.requires.ordered,
+        c.requires.lookup,
         (
-          ap length c.loop-triple.invariant.taken ∙ length-set c.args.taken.now c.in-Some.next true ∙ c.requires.flags,
-          subst (λ b. IsPartial c.args.triples.now (map (λ r. r.now) c.args.conditions.now) b (pairs_of c.extend.new.bound.items)) (sym c.loop-triple.invariant.taken) partial,
+          ap length c.loop-place.invariant.taken ∙ length-set c.args.taken.now c.in-Some.next true ∙ c.requires.flags,
+          subst (λ b. IsPartial c.args.lookup.triples.now (map (λ r. r.now) c.args.conditions.now) b (pairs_of c.extend.new.bound.items)) (sym c.loop-place.invariant.taken) partial,
         ),
       ),
     )
 
-pub loop-triple-preserved : goal.loop-triple-preserved
-loop-triple-preserved t c =
+pub loop-place-preserved : goal.loop-place-preserved
+loop-place-preserved t c =
     let at = read_map (λ r. r.now) c.args.conditions.now c.in-Some.next c.index-conditions-next.result (subst (λ n. c.in-Some.next < n) c.requires.flags c.in-Some.ensures.within) c.index-conditions-next.is in
-    let fits_as = subst (λ b. bind_pattern (pairs_of b) c.index-conditions-next.result.now c.triple-item.result ≡ cond c.in_ok-extend.field-0 (Some (pairs_of c.extend.new.bound.items)) None) c.loop-triple.invariant.bound c.in_ok-extend.ensures.fits in
+    let fits_as = subst (λ b. bind_pattern (pairs_of b) c.index-conditions-next.result.now c.at-triple.result.now ≡ cond c.in_ok-extend.field-0 (Some (pairs_of c.extend.new.bound.items)) None) c.loop-place.invariant.bound c.in_ok-extend.ensures.fits in
     record {
       tells = elim c.if-branch.branch [
         | then-branch+in_ok-more w ↦
-            next_fits c.args.triples.now (map (λ r. r.now) c.args.conditions.now) c.args.taken.now (pairs_of c.args.bound.now.items) c.in-Some.next c.index-conditions-next.result.now at
-            c.candidates-triple-items.result.now c.loop-triple.triple-index c.triple-item.result c.loop-triple-test.true c.triple-item.is c.candidates-triple-items.ensures.ordered
+            next_fits c.args.lookup.triples.now (map (λ r. r.now) c.args.conditions.now) c.args.taken.now (pairs_of c.args.bound.now.items) c.in-Some.next c.index-conditions-next.result.now at
+            (listed c.candidates_of-candidates.result) c.loop-place.place c.at-triple.result.now c.at-triple.ensures c.candidates_of-candidates.ensures.once
             (pairs_of c.extend.new.bound.items) (fits_as ∙ ap (λ b. cond b (Some (pairs_of c.extend.new.bound.items)) None) w.if-branch.true)
-            c.loop-triple.found w.in_ok-more.more c.if-branch.found (w.found-is ∙ w.either-found.ensures) c.loop-triple.invariant.tells w.in_ok-more.ensures.tells
+            c.loop-place.found w.in_ok-more.more c.if-branch.found (w.found-is ∙ w.either-found.ensures) c.loop-place.invariant.tells w.in_ok-more.ensures.tells
         | else-branch w ↦
-            next_differs c.args.triples.now (map (λ r. r.now) c.args.conditions.now) c.args.taken.now (pairs_of c.args.bound.now.items) c.in-Some.next c.index-conditions-next.result.now at
-            c.candidates-triple-items.result.now c.loop-triple.triple-index c.triple-item.result c.loop-triple-test.true c.triple-item.is
+            next_differs c.args.lookup.triples.now (map (λ r. r.now) c.args.conditions.now) c.args.taken.now (pairs_of c.args.bound.now.items) c.in-Some.next c.index-conditions-next.result.now at
+            (listed c.candidates_of-candidates.result) c.loop-place.place c.at-triple.result.now c.at-triple.ensures
             (fits_as ∙ ap (λ b. cond b (Some (pairs_of c.extend.new.bound.items)) None) w.if-branch.false)
-            c.loop-triple.found c.if-branch.found w.found-is c.loop-triple.invariant.tells
+            c.loop-place.found c.if-branch.found w.found-is c.loop-place.invariant.tells
       ];
-      taken = elim c.if-branch.branch [ then-branch+in_ok-more w ↦ w.taken-is ∙ w.in_ok-more.ensures.taken ∙ c.loop-triple.invariant.taken | else-branch w ↦ w.taken-is ∙ c.loop-triple.invariant.taken ];
+      taken = elim c.if-branch.branch [ then-branch+in_ok-more w ↦ w.taken-is ∙ w.in_ok-more.ensures.taken ∙ c.loop-place.invariant.taken | else-branch w ↦ w.taken-is ∙ c.loop-place.invariant.taken ];
       bound =
-          let long : c.len-before.result ≡ length c.loop-triple.bound.items = c.len-before.ensures ∙ c.args.bound.now.ok.0 ∙ ap (λ b. length b) (sym c.loop-triple.invariant.bound) in
+          let long : c.len-before.result ≡ length c.loop-place.bound.items = c.len-before.ensures ∙ c.args.bound.now.ok.0 ∙ ap (λ b. length b) (sym c.loop-place.invariant.bound) in
           c.truncate.ensures.items ∙ ap (λ n. take n c.if-branch.bound.items) long
           ∙ elim c.if-branch.branch [
-            | then-branch+in_ok-more w ↦ ap (λ b. take (length c.loop-triple.bound.items) b) (ap (λ v. v.items) w.bound-is ∙ w.in_ok-more.ensures.bound)
-            | else-branch w ↦ ap (λ v. take (length c.loop-triple.bound.items) v.items) w.bound-is
+            | then-branch+in_ok-more w ↦ ap (λ b. take (length c.loop-place.bound.items) b) (ap (λ v. v.items) w.bound-is ∙ w.in_ok-more.ensures.bound)
+            | else-branch w ↦ ap (λ v. take (length c.loop-place.bound.items) v.items) w.bound-is
           ]
-          ∙ c.in_ok-extend.ensures.kept ∙ c.loop-triple.invariant.bound;
+          ∙ c.in_ok-extend.ensures.kept ∙ c.loop-place.invariant.bound;
     }
 
 pub returns-then-is_many-clause-taken : goal.returns-then-is_many-clause-taken
 returns-then-is_many-clause-taken t c =
     elim c.if-branch.branch [
-      | then-branch+in_ok-more w ↦ ap (λ b. set b c.in-Some.next false) (w.taken-is ∙ w.in_ok-more.ensures.taken ∙ c.loop-triple.invariant.taken) ∙ set-back c.args.taken.now c.in-Some.next c.in-Some.ensures.some
-      | else-branch w ↦ ap (λ b. set b c.in-Some.next false) (w.taken-is ∙ c.loop-triple.invariant.taken) ∙ set-back c.args.taken.now c.in-Some.next c.in-Some.ensures.some
+      | then-branch+in_ok-more w ↦ ap (λ b. set b c.in-Some.next false) (w.taken-is ∙ w.in_ok-more.ensures.taken ∙ c.loop-place.invariant.taken) ∙ set-back c.args.taken.now c.in-Some.next c.in-Some.ensures.some
+      | else-branch w ↦ ap (λ b. set b c.in-Some.next false) (w.taken-is ∙ c.loop-place.invariant.taken) ∙ set-back c.args.taken.now c.in-Some.next c.in-Some.ensures.some
     ]
 
 pub returns-then-is_many-clause-tells : goal.returns-then-is_many-clause-tells
 returns-then-is_many-clause-tells t c =
     let at = read_map (λ r. r.now) c.args.conditions.now c.in-Some.next c.index-conditions-next.result (subst (λ n. c.in-Some.next < n) c.requires.flags c.in-Some.ensures.within) c.index-conditions-next.is in
-    let fits_as = subst (λ b. bind_pattern (pairs_of b) c.index-conditions-next.result.now c.triple-item.result ≡ cond c.in_ok-extend.field-0 (Some (pairs_of c.extend.new.bound.items)) None) c.loop-triple.invariant.bound c.in_ok-extend.ensures.fits in
+    let fits_as = subst (λ b. bind_pattern (pairs_of b) c.index-conditions-next.result.now c.at-triple.result.now ≡ cond c.in_ok-extend.field-0 (Some (pairs_of c.extend.new.bound.items)) None) c.loop-place.invariant.bound c.in_ok-extend.ensures.fits in
     let many : c.if-branch.found ≡ Many = c.is_many.ensures.0 c.if-is_many.true in
-    let next : Tells c.args.triples.now (map (λ r. r.now) c.args.conditions.now) (Upto (pairs_of c.args.bound.now.items) c.index-conditions-next.result.now (take (c.loop-triple.triple-index + 1) c.candidates-triple-items.result.now)) c.if-branch.found =
+    let next : Tells c.args.lookup.triples.now (map (λ r. r.now) c.args.conditions.now) (Upto (pairs_of c.args.bound.now.items) c.index-conditions-next.result.now (take (c.loop-place.place + 1) (listed c.candidates_of-candidates.result))) c.if-branch.found =
     elim c.if-branch.branch [
       | then-branch+in_ok-more w ↦
-          next_fits c.args.triples.now (map (λ r. r.now) c.args.conditions.now) c.args.taken.now (pairs_of c.args.bound.now.items) c.in-Some.next c.index-conditions-next.result.now at
-          c.candidates-triple-items.result.now c.loop-triple.triple-index c.triple-item.result c.loop-triple-test.true c.triple-item.is c.candidates-triple-items.ensures.ordered
+          next_fits c.args.lookup.triples.now (map (λ r. r.now) c.args.conditions.now) c.args.taken.now (pairs_of c.args.bound.now.items) c.in-Some.next c.index-conditions-next.result.now at
+          (listed c.candidates_of-candidates.result) c.loop-place.place c.at-triple.result.now c.at-triple.ensures c.candidates_of-candidates.ensures.once
           (pairs_of c.extend.new.bound.items) (fits_as ∙ ap (λ b. cond b (Some (pairs_of c.extend.new.bound.items)) None) w.if-branch.true)
-          c.loop-triple.found w.in_ok-more.more c.if-branch.found (w.found-is ∙ w.either-found.ensures) c.loop-triple.invariant.tells w.in_ok-more.ensures.tells
+          c.loop-place.found w.in_ok-more.more c.if-branch.found (w.found-is ∙ w.either-found.ensures) c.loop-place.invariant.tells w.in_ok-more.ensures.tells
       | else-branch w ↦
-          next_differs c.args.triples.now (map (λ r. r.now) c.args.conditions.now) c.args.taken.now (pairs_of c.args.bound.now.items) c.in-Some.next c.index-conditions-next.result.now at
-          c.candidates-triple-items.result.now c.loop-triple.triple-index c.triple-item.result c.loop-triple-test.true c.triple-item.is
+          next_differs c.args.lookup.triples.now (map (λ r. r.now) c.args.conditions.now) c.args.taken.now (pairs_of c.args.bound.now.items) c.in-Some.next c.index-conditions-next.result.now at
+          (listed c.candidates_of-candidates.result) c.loop-place.place c.at-triple.result.now c.at-triple.ensures
           (fits_as ∙ ap (λ b. cond b (Some (pairs_of c.extend.new.bound.items)) None) w.if-branch.false)
-          c.loop-triple.found c.if-branch.found w.found-is c.loop-triple.invariant.tells
+          c.loop-place.found c.if-branch.found w.found-is c.loop-place.invariant.tells
     ] in
-    subst (Tells c.args.triples.now (map (λ r. r.now) c.args.conditions.now) (Extends (pairs_of c.args.bound.now.items))) (sym many)
-    (upto_two c.args.triples.now (map (λ r. r.now) c.args.conditions.now) c.args.taken.now (pairs_of c.args.bound.now.items) c.in-Some.next c.index-conditions-next.result.now at
-    c.candidates-triple-items.result.now (c.loop-triple.triple-index + 1)
-    (subst (Tells c.args.triples.now (map (λ r. r.now) c.args.conditions.now) (Upto (pairs_of c.args.bound.now.items) c.index-conditions-next.result.now (take (c.loop-triple.triple-index + 1) c.candidates-triple-items.result.now))) many next))
+    subst (Tells c.args.lookup.triples.now (map (λ r. r.now) c.args.conditions.now) (Extends (pairs_of c.args.bound.now.items))) (sym many)
+    (upto_two c.args.lookup.triples.now (map (λ r. r.now) c.args.conditions.now) c.args.taken.now (pairs_of c.args.bound.now.items) c.in-Some.next c.index-conditions-next.result.now at
+    (listed c.candidates_of-candidates.result) (c.loop-place.place + 1)
+    (subst (Tells c.args.lookup.triples.now (map (λ r. r.now) c.args.conditions.now) (Upto (pairs_of c.args.bound.now.items) c.index-conditions-next.result.now (take (c.loop-place.place + 1) (listed c.candidates_of-candidates.result)))) many next))
 
 pub returns-clause-taken : goal.returns-clause-taken
-returns-clause-taken t c = ap (λ b. set b c.in-Some.next false) c.loop-triple.invariant.taken ∙ set-back c.args.taken.now c.in-Some.next c.in-Some.ensures.some
+returns-clause-taken t c = ap (λ b. set b c.in-Some.next false) c.loop-place.invariant.taken ∙ set-back c.args.taken.now c.in-Some.next c.in-Some.ensures.some
 
 pub returns-clause-tells : goal.returns-clause-tells
 returns-clause-tells t c =
     let at = read_map (λ r. r.now) c.args.conditions.now c.in-Some.next c.index-conditions-next.result (subst (λ n. c.in-Some.next < n) c.requires.flags c.in-Some.ensures.within) c.index-conditions-next.is in
-    let spanned : IsSpan (slot_term (value_of (pairs_of c.args.bound.now.items)) c.index-conditions-next.result.now.s) c.args.triples.now c.candidates-triple-items.result.now =
-    subst (λ b. IsSpan (slot_term (value_of (pairs_of b)) c.index-conditions-next.result.now.s) c.args.triples.now c.candidates-triple-items.result.now) c.as_slice-2.ensures.value c.candidates-triple-items.ensures in
-    let past : length c.candidates-triple-items.result.now ≤ c.loop-triple.triple-index = omega arith in
-    upto_all c.args.triples.now (map (λ r. r.now) c.args.conditions.now) c.args.taken.now (pairs_of c.args.bound.now.items) c.in-Some.next c.index-conditions-next.result.now at c.candidates-triple-items.result.now spanned c.loop-triple.found
-    (subst (λ zs. Tells c.args.triples.now (map (λ r. r.now) c.args.conditions.now) (Upto (pairs_of c.args.bound.now.items) c.index-conditions-next.result.now zs) c.loop-triple.found) (take_all c.loop-triple.triple-index c.candidates-triple-items.result.now past) c.loop-triple.invariant.tells)
+    let spanned : AreCandidates (slot_term (value_of (pairs_of c.args.bound.now.items)) c.index-conditions-next.result.now.s) (slot_term (value_of (pairs_of c.args.bound.now.items)) c.index-conditions-next.result.now.o) c.args.lookup.triples.now (listed c.candidates_of-candidates.result) =
+    subst (λ b. AreCandidates (slot_term (value_of (pairs_of b)) c.index-conditions-next.result.now.s) (slot_term (value_of (pairs_of b)) c.index-conditions-next.result.now.o) c.args.lookup.triples.now (listed c.candidates_of-candidates.result)) c.as_slice-2.ensures.value c.candidates_of-candidates.ensures in
+    let past : length (listed c.candidates_of-candidates.result) ≤ c.loop-place.place = omega arith in
+    upto_all c.args.lookup.triples.now (map (λ r. r.now) c.args.conditions.now) c.args.taken.now (pairs_of c.args.bound.now.items) c.in-Some.next c.index-conditions-next.result.now at (listed c.candidates_of-candidates.result) spanned c.loop-place.found
+    (subst (λ zs. Tells c.args.lookup.triples.now (map (λ r. r.now) c.args.conditions.now) (Upto (pairs_of c.args.bound.now.items) c.index-conditions-next.result.now zs) c.loop-place.found) (take_all c.loop-place.place (listed c.candidates_of-candidates.result) past) c.loop-place.invariant.tells)

@@ -1,4 +1,5 @@
-use Rattle.std.proofs.Common.{◌≡◌, ◌∙◌, ap, subst, length, map, arith}
+use Rattle.std.proofs.Common.{◌≡◌, ◌∙◌, ap, sym, subst, length, map, arith}
+use Rattle.rdf_graph.specs.Lookup.{IsByObject, IsLookup}
 use Rattle.rdf_graph.specs.Search.{Everything, Tells}
 use Rattle.rdf_graph.specs.Solutions.{AreSolutions}
 use Rattle.rdf_graph.specs.declared.pattern.Found.TheVariants.{Nothing, One}
@@ -10,12 +11,22 @@ loop-label-init c =
     tells_before c.args.graph.now c.as_slice-conditions.result.now c.in_ok-labels.labels.items c.in_ok-labels.ensures.groups (One (record { pairs = c.new.result }))
     (one_of_none c.args.graph.now c.new.result.items c.new.ensures.items)
 
+pub solve-requires : goal.solve-requires
+unfolding IsLookup
+solve-requires c =
+    record {
+      ordered = c.as_slice-triples.ensures.graph.ordered;
+      by_object = λ some.
+          subst (IsByObject c.as_slice-triples.result.now) (sym c.as_slice-by_object.ensures.value)
+          (c.in_ok-index.ensures (λ none. some (c.as_slice-by_object.ensures.value ∙ none)));
+    }
+
 pub returns-then-is_nothing : goal.returns-then-is_nothing
 returns-then-is_nothing c =
     let part : Tells c.args.graph.now (with_label c.as_slice-conditions.result.now c.in_ok-labels.labels.items c.loop-label.label) Everything c.in_ok-more.more =
     subst (λ ps. Tells c.args.graph.now ps Everything c.in_ok-more.more)
-    (ap (map (λ r. r.now)) c.as_slice-in-loop-label-2.ensures.value ∙ c.in_ok-group.ensures ∙ ap (λ labels. with_label c.as_slice-conditions.result.now labels c.loop-label.label) c.as_slice.ensures.value)
-    (subst (λ g. Tells g (map (λ r. r.now) c.as_slice-in-loop-label-2.result.now) Everything c.in_ok-more.more) c.as_slice-in-loop-label.ensures.triples c.in_ok-more.ensures) in
+    (ap (map (λ r. r.now)) c.as_slice-in-loop-label.ensures.value ∙ c.in_ok-group.ensures ∙ ap (λ labels. with_label c.as_slice-conditions.result.now labels c.loop-label.label) c.as_slice.ensures.value)
+    (subst (λ g. Tells g (map (λ r. r.now) c.as_slice-in-loop-label.result.now) Everything c.in_ok-more.more) c.as_slice-triples.ensures.triples c.in_ok-more.ensures) in
     subst (λ conditions. AreSolutions c.args.graph.now conditions Nothing) c.as_slice-conditions.ensures
     (none_in_group c.args.graph.now c.as_slice-conditions.result.now c.in_ok-labels.labels.items c.in_ok-labels.ensures.groups c.loop-label.label
     (subst (Tells c.args.graph.now (with_label c.as_slice-conditions.result.now c.in_ok-labels.labels.items c.loop-label.label) Everything) (c.is_nothing.ensures.0 c.if-is_nothing.true) part))
@@ -24,8 +35,8 @@ pub loop-label-preserved : goal.loop-label-preserved
 loop-label-preserved c =
     let part : Tells c.args.graph.now (with_label c.as_slice-conditions.result.now c.in_ok-labels.labels.items c.loop-label.label) Everything c.in_ok-more.more =
     subst (λ ps. Tells c.args.graph.now ps Everything c.in_ok-more.more)
-    (ap (map (λ r. r.now)) c.as_slice-in-loop-label-2.ensures.value ∙ c.in_ok-group.ensures ∙ ap (λ labels. with_label c.as_slice-conditions.result.now labels c.loop-label.label) c.as_slice.ensures.value)
-    (subst (λ g. Tells g (map (λ r. r.now) c.as_slice-in-loop-label-2.result.now) Everything c.in_ok-more.more) c.as_slice-in-loop-label.ensures.triples c.in_ok-more.ensures) in
+    (ap (map (λ r. r.now)) c.as_slice-in-loop-label.ensures.value ∙ c.in_ok-group.ensures ∙ ap (λ labels. with_label c.as_slice-conditions.result.now labels c.loop-label.label) c.as_slice.ensures.value)
+    (subst (λ g. Tells g (map (λ r. r.now) c.as_slice-in-loop-label.result.now) Everything c.in_ok-more.more) c.as_slice-triples.ensures.triples c.in_ok-more.ensures) in
     tells_more c.args.graph.now c.as_slice-conditions.result.now c.in_ok-labels.labels.items c.in_ok-labels.ensures.groups c.loop-label.label c.loop-label.found c.in_ok-more.more c.in_ok-found.found
     c.in_ok-found.ensures c.loop-label.invariant part
 

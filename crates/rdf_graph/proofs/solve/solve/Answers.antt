@@ -8,7 +8,7 @@ use Rattle.rdf_graph.proofs.solve.solve.Goals as goal
 pub returns : goal.returns
 returns c =
     IfOk-weaker c.search.result
-    (Tells c.args.triples.now (map (λ r. r.now) c.args.conditions.now) (Extends (pairs_of c.new-bound.result.items)))
-    (Tells c.args.triples.now (map (λ r. r.now) c.args.conditions.now) Everything)
-    (λ found h. tells_everything c.args.triples.now (map (λ r. r.now) c.args.conditions.now) (pairs_of c.new-bound.result.items) found (ap pairs_of c.new-bound.ensures.items) h)
+    (Tells c.args.lookup.triples.now (map (λ r. r.now) c.args.conditions.now) (Extends (pairs_of c.new-bound.result.items)))
+    (Tells c.args.lookup.triples.now (map (λ r. r.now) c.args.conditions.now) Everything)
+    (λ found h. tells_everything c.args.lookup.triples.now (map (λ r. r.now) c.args.conditions.now) (pairs_of c.new-bound.result.items) found (ap pairs_of c.new-bound.ensures.items) h)
     c.search.ensures.tells

@@ -1,6 +1,7 @@
-use Rattle.std.proofs.Common.{subst, sym}
-use Rattle.rdf_graph.specs.Patch.{AreInstances, IsInstance}
+use Rattle.std.proofs.Common.{arith, ◌≤◌, subst, sym}
+use Rattle.rdf_graph.specs.Patch.{AreInstances, instances_size, IsInstance}
 use Rattle.rdf_graph.specs.Pattern.{value_of}
+use Rattle.rdf_graph.specs.Size.{triples_size}
 use Rattle.rdf_graph.specs.Triple.{IsRdf}
 use Rattle.rdf_graph.specs.declared.triple.Triple.{Triple}
 use Rattle.rdf_graph.proofs.patch.Patch.change.Goals as goal
@@ -18,9 +19,19 @@ graph_of-requires-2-clause-rdf c =
 pub returns-clause-removed : goal.returns-clause-removed
 returns-clause-removed c =
     subst (λ pairs. AreInstances (value_of pairs) c.args.self.now.deletions.items c.in_ok-removed.removed) c.as_slice-pairs.ensures
-    (subst (λ ps. AreInstances (value_of c.as_slice-pairs.result.now) ps c.in_ok-removed.removed) c.as_slice.ensures c.in_ok-removed.ensures)
+    (subst (λ ps. AreInstances (value_of c.as_slice-pairs.result.now) ps c.in_ok-removed.removed) c.as_slice.ensures c.in_ok-removed.ensures.members)
 
 pub returns-clause-added : goal.returns-clause-added
 returns-clause-added c =
     subst (λ pairs. AreInstances (value_of pairs) c.args.self.now.insertions.items c.in_ok-added.added) c.as_slice-pairs.ensures
-    (subst (λ ps. AreInstances (value_of c.as_slice-pairs.result.now) ps c.in_ok-added.added) c.as_slice-2.ensures c.in_ok-added.ensures)
+    (subst (λ ps. AreInstances (value_of c.as_slice-pairs.result.now) ps c.in_ok-added.added) c.as_slice-2.ensures c.in_ok-added.ensures.members)
+
+pub returns-clause-size : goal.returns-clause-size
+returns-clause-size c =
+    let removed : triples_size c.in_ok-removed.removed ≤ instances_size (value_of c.args.mapping.now.pairs.items) c.args.self.now.deletions.items =
+    subst (λ pairs. triples_size c.in_ok-removed.removed ≤ instances_size (value_of pairs) c.args.self.now.deletions.items) c.as_slice-pairs.ensures
+    (subst (λ ps. triples_size c.in_ok-removed.removed ≤ instances_size (value_of c.as_slice-pairs.result.now) ps) c.as_slice.ensures c.in_ok-removed.ensures.size) in
+    let added : triples_size c.in_ok-added.added ≤ instances_size (value_of c.args.mapping.now.pairs.items) c.args.self.now.insertions.items =
+    subst (λ pairs. triples_size c.in_ok-added.added ≤ instances_size (value_of pairs) c.args.self.now.insertions.items) c.as_slice-pairs.ensures
+    (subst (λ ps. triples_size c.in_ok-added.added ≤ instances_size (value_of c.as_slice-pairs.result.now) ps) c.as_slice-2.ensures c.in_ok-added.ensures.size) in
+    omega (arith, removed, added)

@@ -1,0 +1,20 @@
+use Rattle.std.proofs.Common.{rules, ◌≡◌, map, subst}
+use Rattle.std.specs.List.Sorted.{IsPermutation}
+use Rattle.std.proofs.lemmas.Iterator.{YieldsList-from_slice}
+use Rattle.std.proofs.lemmas.Iterator.Consumers.{map_from_collect}
+use Rattle.std.proofs.lemmas.Result.{IfOk-at_ok}
+use Rattle.std.proofs.lemmas.List.Sorted.{answers_always, IsPermutation-map, ranks_by}
+use denote.Ref.{Bor}
+use Rattle.rdf_graph.specs.declared.triple.Triple.{Triple}
+use Rattle.rdf_graph.specs.TermOrderLaws.{term_cmp_total}
+use Rattle.rdf_graph.proofs.lookup.by_object.Goals as goal
+
+pub returns : goal.returns
+returns c =
+    let all : map (λ (r : Bor Triple). r.now) c.in_ok-index.index.items ≡ c.args.triples.now =
+    IfOk-at_ok _ c.in_ok-index.was (map_from_collect _ c.collect.ensures.ran (YieldsList-from_slice c.args.triples.now cc)) in
+    record {
+      moved = subst (λ ts. IsPermutation ts (map (λ (r : Bor Triple). r.now) c.sort_unstable_by.new.self.items)) all
+          (IsPermutation-map (λ (r : Bor Triple). r.now) c.in_ok-index.index.items c.sort_unstable_by.new.self.items c.sort_unstable_by.ensures.permutation);
+      sorted = c.sort_unstable_by.ensures.sorted _ (ranks_by term_cmp_total (λ (r : Bor Triple). r.now.o)) (answers_always _ _ _ (λ f a r g called. search rules));
+    }

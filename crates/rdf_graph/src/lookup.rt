@@ -1,0 +1,197 @@
+//! What a search looks triples up in: the triples of a graph, by their subjects or by their objects.
+ghost use Rattle.std.specs.Prelude.{◌≡◌, ◌≢◌, ◌<◌, if◌then◌else◌, List, [], IfOk, None, Some, length, map, slice_get};
+ghost use Rattle.std.specs.Option.{option_copied};
+ghost use Rattle.rdf_graph.specs.Graph.{IsOrdered};
+ghost use Rattle.rdf_graph.specs.Lookup.{AreCandidates, IsByObject, IsLookup, listed};
+ghost use Rattle.rdf_graph.specs.declared.triple.Triple.{Triple};
+
+use crate::bind::has_variable;
+use crate::matching::{has_terms, span};
+use crate::pattern::{Pattern, Slot};
+use crate::term::Term;
+use crate::triple::Triple;
+use pod_base::Mem;
+use std::alloc::Global;
+
+/// The triples of a graph in their order, and in that of their objects where this was made.
+#[derive(Clone, Copy)]
+pub(crate) struct Lookup<'a> {
+    pub(crate) triples: &'a [Triple],
+    pub(crate) by_object: &'a [&'a Triple],
+}
+
+/// Triples among which those are that a condition may be: some of a graph in its order, or in that of
+/// their objects. One of the slices is empty.
+#[derive(Clone, Copy)]
+pub(crate) struct Candidates<'a> {
+    in_order: &'a [Triple],
+    by_object: &'a [&'a Triple],
+}
+
+impl<'a> Candidates<'a> {
+    /// Whether they are in the order of their objects.
+    fn is_by_object(self) -> bool
+        ensures { listed self.entry ≡ (if result then map (λ r. r.now) self.entry.by_object.now else self.entry.in_order.now) }
+    {
+        !self.by_object.is_empty()
+    }
+
+    /// How many they are.
+    pub(crate) fn len(self) -> usize
+        ensures { result ≡ length (listed self.entry) }
+    {
+        if self.is_by_object() {
+            self.by_object.len()
+        } else {
+            self.in_order.len()
+        }
+    }
+
+    /// The one at that place.
+    pub(crate) fn at(self, i: usize) -> &'a Triple
+        requires { i < length (listed self) }
+        ensures { slice_get (listed self.entry) i ≡ Some result.now }
+    {
+        if self.is_by_object() {
+            by_object_at(self.by_object, i)
+        } else {
+            in_order_at(self.in_order, i)
+        }
+    }
+
+    /// How many of them have these terms, where they are given, counted up to a bound.
+    pub(crate) fn count(
+        self,
+        s: Option<&Term>,
+        p: Option<&Term>,
+        o: Option<&Term>,
+        most: usize,
+    ) -> usize {
+        if self.is_by_object() {
+            self.by_object
+                .iter()
+                .filter(|triple| has_terms(triple, s, p, o))
+                .take(most)
+                .count()
+        } else {
+            self.in_order
+                .iter()
+                .filter(|triple| has_terms(triple, s, p, o))
+                .take(most)
+                .count()
+        }
+    }
+}
+
+/// The triple at that place of an index.
+fn by_object_at<'a>(triples: &'a [&'a Triple], i: usize) -> &'a Triple
+    requires { i < length triples.now }
+    ensures { slice_get (map (λ r. r.now) triples.now) i ≡ Some result.now }
+{
+    triples[i]
+}
+
+/// The triple at that place of a graph.
+fn in_order_at(triples: &[Triple], i: usize) -> &Triple
+    requires { i < length triples.now }
+    ensures { slice_get triples.now i ≡ Some result.now }
+{
+    &triples[i]
+}
+
+impl<'a> Lookup<'a> {
+    /// The triples among which those are that have this subject and this object, where they are given.
+    pub(crate) fn candidates(self, s: Option<&Term>, o: Option<&Term>) -> Candidates<'a>
+        requires { IsLookup self }
+        ensures { AreCandidates (option_copied s.entry) (option_copied o.entry) self.entry.triples.now (listed result) }
+    {
+        match (s, o) {
+            (None, Some(object)) => self.with_object(object),
+            _ => Candidates {
+                in_order: span(self.triples, s),
+                by_object: &[],
+            },
+        }
+    }
+
+    /// The triples among which those are that have this object.
+    fn with_object(self, object: &Term) -> Candidates<'a>
+        requires { IsLookup self }
+        ensures { AreCandidates None (Some object.now) self.entry.triples.now (listed result) }
+    {
+        if self.by_object.is_empty() {
+            Candidates {
+                in_order: self.triples,
+                by_object: &[],
+            }
+        } else {
+            Candidates {
+                in_order: &[],
+                by_object: range_of(self.by_object, object),
+            }
+        }
+    }
+}
+
+/// The triples with this object, of triples in the order of their objects.
+fn range_of<'a>(by_object: &'a [&'a Triple], object: &Term) -> &'a [&'a Triple]
+    ensures { (triples : List Triple) → IsOrdered triples → IsByObject triples by_object.now → AreCandidates None (Some object.now) triples (map (λ r. r.now) result.now) }
+{
+    let low = by_object.partition_point(|triple| triple.o.cmp(object).is_lt());
+    let rest = &by_object[low..];
+    let count = rest.partition_point(|triple| triple.o.cmp(object).is_le());
+    &rest[..count]
+}
+
+/// The triples in the order of their objects where a search for these conditions may look for those
+/// of an object, and else none.
+pub(crate) fn index_for<'a>(
+    alloc: Global,
+    triples: &'a [Triple],
+    conditions: &[Pattern],
+) -> Mem<Vec<&'a Triple>>
+    ensures { IfOk result (λ index. index.items ≢ [] → IsByObject triples.now index.items) }
+{
+    if needs_index(conditions) {
+        by_object(alloc, triples)
+    } else {
+        Ok(Vec::new(alloc))
+    }
+}
+
+/// The triples in the order of their objects.
+fn by_object<'a>(alloc: Global, triples: &'a [Triple]) -> Mem<Vec<&'a Triple>>
+    ensures { IfOk result (λ index. IsByObject triples.now index.items) }
+{
+    let mut index: Vec<&Triple> = triples.iter().collect(alloc)?;
+    index.sort_unstable_by(|first, second| first.o.cmp(&second.o));
+    Ok(index)
+}
+
+/// Whether a search for these conditions may know the object of one and not its subject.
+fn needs_index(conditions: &[Pattern]) -> bool {
+    conditions
+        .iter()
+        .any(|condition| may_follow_any(condition, conditions))
+}
+
+/// Whether some condition may leave the object of this one known and its subject unknown.
+fn may_follow_any(condition: &Pattern, conditions: &[Pattern]) -> bool {
+    conditions.iter().any(|first| may_follow(condition, first))
+}
+
+/// Whether the terms of `first` may leave the object of the condition known and its subject unknown.
+fn may_follow(condition: &Pattern, first: &Pattern) -> bool {
+    match &condition.s {
+        Slot::Fixed(_) => false,
+        Slot::Var(subject) => { !has_variable(first, subject) && may_be_known(&condition.o, first) }
+    }
+}
+
+/// Whether the slot has a term, or a variable of the pattern.
+fn may_be_known(slot: &Slot, pattern: &Pattern) -> bool {
+    match slot {
+        Slot::Fixed(_) => true,
+        Slot::Var(name) => has_variable(pattern, name),
+    }
+}
