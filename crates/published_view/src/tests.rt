@@ -18,11 +18,11 @@ struct Counted {
 }
 
 impl Told for Counted {
-    ghost use Rattle.std.specs.Prelude.{◌≡◌, ◌+◌, length};
+    ghost use Rattle.std.specs.Prelude.{◌≡◌, length};
 
     type Item = u64;
 
-    ghost stands = { λ v first list. v.number ≡ first + length list };
+    ghost stands = { λ v _first list. v.number ≡ length list };
 }
 
 fn version_of(alloc: Global, number: u64) -> Mem<Arc<Counted>>
