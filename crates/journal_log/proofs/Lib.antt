@@ -1,13 +1,14 @@
 -- kept for the crates above
 pub mod DoubtCases
+pub mod Splits
+pub mod Once
+pub mod Records
+pub mod AppendRuns
+pub mod Classifying
 -- internal
 mod Writing
-mod Splits
-mod Once
 mod GateWrites
 mod WriteRuns
-mod Records
-mod AppendRuns
 mod HeadBytes
 mod ReadRuns
 mod WindowReads
@@ -15,4 +16,3 @@ mod FrameReads
 mod WalkSteps
 mod OpenRuns
 mod RenewRuns
-mod Classifying

@@ -100,6 +100,7 @@ impl Journal {
         ensures moments { (bodies : List (List ℕ)) → IsClean (D.image disk.old) self.old bodies
             → LeavesOnly D.moment D.left_since disk.old disk.new
             (IsEither self.old.format self.old.epoch bodies framed.now) }
+        ensures kept { (self.new.format ≡ self.old.format) × (self.new.epoch ≡ self.old.epoch) }
         ensures appended { OnOk result ((bodies : List (List ℕ))
             → IsClean (D.image disk.old) self.old bodies
             → IsClean (D.image disk.new) self.new (bodies ++ framed.now ∷ [])) }
@@ -126,6 +127,7 @@ impl Journal {
             → IsInDoubt (D.image disk.old) self.old bodies body
             → LeavesOnly D.moment D.left_since disk.old disk.new
             (IsEither self.old.format self.old.epoch bodies body) }
+        ensures kept { (self.new.format ≡ self.old.format) × (self.new.epoch ≡ self.old.epoch) }
         ensures repaired { OnOk result ((bodies : List (List ℕ)) (body : List ℕ)
             → IsInDoubt (D.image disk.old) self.old bodies body
             → IsClean (D.image disk.new) self.new bodies) }
