@@ -1,0 +1,28 @@
+-- What the code keeps of a walk.
+use Rattle.std.specs.Prelude.{◌≡◌, ◌≤◌, ℕ, List, All}
+use Rattle.std.specs.BTreeSet.{contains_text}
+use Rattle.rdf_graph.specs.Size.{saturated, triples_size}
+use Rattle.rdf_graph.specs.Triple.{IsRdf}
+use Rattle.jsonld_expanded.specs.declared.TheConstants.{TRIPLES_LIMIT}
+use Rattle.jsonld_expanded.specs.declared.scope.Scope.{Scope as Kept}
+use Rattle.jsonld_expanded.specs.declared.walk.Walk.{Walk}
+use Rattle.jsonld_expanded.specs.Expands.{State, Scope}
+
+-- The walk has come to this state: the triples are kept as long as they are within the limit.
+pub record Stands (walk : Walk) (a : State) : Type 0 where
+  pub next : walk.next ≡ a.next
+  pub size : walk.size ≡ saturated (triples_size a.triples)
+  pub kept : triples_size a.triples ≤ TRIPLES_LIMIT → walk.triples.items ≡ a.triples
+  pub rdf : All IsRdf walk.triples.items
+
+-- the walk has done the step
+abbrev pub Advances : (State → State → Type 0) → Walk → Walk → Type 0
+Advances R old new = (a : State) → Stands old a → (b : State) × R a b × Stands new b
+
+-- the step can't be done
+abbrev pub Refuses : (State → State → Type 0) → Walk → Type 0
+Refuses R old = (a : State) → Stands old a → (b : State) → R a b → ⊥
+
+-- what a document's scope stands for
+abbrev pub scope_view : Kept → Scope
+scope_view kept = record { base = kept.base.now; taken = contains_text kept.labels }

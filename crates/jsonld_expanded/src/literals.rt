@@ -1,0 +1,126 @@
+//! The literals of value objects.
+
+ghost use Rattle.std.specs.Prelude.{◌≡◌, ◌++◌, codes, map, Some, IfOk, IsErrOf, string_bytes};
+ghost use Rattle.std.specs.Char.{to_ascii_lowercase};
+ghost use Rattle.std.specs.Option.{option_copied};
+ghost use Rattle.iri_ref.specs.Components.{IsAbsolute};
+ghost use Rattle.rdf_graph.specs.declared.term.Term.{Term};
+ghost use Rattle.rdf_graph.specs.declared.term.Term.TheVariants as Terms;
+ghost use Rattle.serde_json.specs.Data.{object};
+ghost use Rattle.serde_json.specs.View.{view, members_view};
+ghost use Rattle.turtle_lex.specs.Laws.{IsTextOf};
+ghost use Rattle.turtle_lex.specs.Terminals.{lang_tag};
+ghost use Rattle.jsonld_expanded.specs.Literals.{IsLiteralOf, IsPlain, text_at};
+ghost use Rattle.jsonld_expanded.specs.Vocabulary.{xsd_string, xsd_integer, xsd_boolean};
+ghost use Rattle.jsonld_expanded.specs.declared.fault.Refusal.TheVariants as Refusal;
+
+use crate::fault::{Refusal, refusal_of};
+use crate::scope::Scope;
+use crate::walk::copy_iri;
+use iri_ref::Iri;
+use itoa::Buffer;
+use pod_base::{Mem, Text};
+use rdf_graph::Term;
+use serde_json::{Map, Number, Value};
+use std::alloc::Global;
+use turtle_lex::is_lang_tag;
+
+/// The string at the key.
+fn text_at<'v>(object: &'v Value, key: &str) -> Option<&'v str> {
+    object.get(key).and_then(Value::as_str)
+}
+
+/// The literal of this lexical form and datatype.
+fn literal(alloc: Global, lexical: &str, datatype: &Iri) -> Mem<Term>
+    ensures { IfOk result (λ t. t ≡ Terms.Literal lexical.now datatype.now) }
+{
+    let lexical = Text::of(alloc, lexical)?;
+    let datatype = copy_iri(alloc, datatype)?;
+    Ok(Term::Literal { lexical, datatype })
+}
+
+/// The literal of a language tag, which is put in lower case.
+fn tagged(alloc: Global, lexical: &str, lang: &str) -> Mem<Term>
+    ensures { IfOk result (λ t. t ≡ Terms.Tagged lexical.now (map to_ascii_lowercase lang.now)) }
+{
+    let lexical = Text::of(alloc, lexical)?;
+    let lang = lang.to_ascii_lowercase(alloc)?;
+    let lang = Text::from_string(alloc, lang)?;
+    Ok(Term::Tagged { lexical, lang })
+}
+
+impl<'a> Scope<'a> {
+    /// The literal of a whole number.
+    fn number(&self, number: &Number) -> Result<Term, Refusal> {
+        let mut buffer = Buffer::new();
+        let text = match number.as_u64() {
+            Some(n) => buffer.format(n),
+            None => match number.as_i64() {
+                Some(n) => buffer.format(n),
+                None => return Err(Refusal::OutOfProfile),
+            },
+        };
+        Ok(literal(self.alloc, text, &self.words.integer)?)
+    }
+
+    /// The literal of a string, a truth value or a whole number.
+    fn plain(&self, value: &Value) -> Result<Term, Refusal>
+        ensures literal { IfOk result (IsPlain (view value.now)) }
+        ensures out { IsErrOf result Refusal.OutOfProfile
+            → (t : Term) → IsPlain (view value.now) t → ⊥ }
+    {
+        match value {
+            Value::String(text) => Ok(literal(self.alloc, text.as_str(), &self.words.string)?),
+            Value::Bool(true) => Ok(literal(self.alloc, "true", &self.words.boolean)?),
+            Value::Bool(false) => Ok(literal(self.alloc, "false", &self.words.boolean)?),
+            Value::Number(number) => self.number(number),
+            _ => Err(Refusal::OutOfProfile),
+        }
+    }
+
+    /// The literal of a string with a datatype, which is an absolute IRI.
+    fn typed(&self, lexical: &str, datatype: &str) -> Result<Term, Refusal> {
+        match Iri::read(self.alloc, datatype) {
+            Ok(datatype) => {
+                let lexical = Text::of(self.alloc, lexical)?;
+                Ok(Term::Literal { lexical, datatype })
+            }
+            Err(fault) => Err(refusal_of(fault)),
+        }
+    }
+
+    /// The literal of a string with a datatype or a language tag.
+    fn qualified(&self, object: &Value) -> Result<Term, Refusal> {
+        let Some(lexical) = text_at(object, "@value") else {
+            return Err(Refusal::OutOfProfile);
+        };
+        if let Some(datatype) = text_at(object, "@type") {
+            return self.typed(lexical, datatype);
+        }
+        match text_at(object, "@language") {
+            Some(lang) if is_lang_tag(lang) => Ok(tagged(self.alloc, lexical, lang)?),
+            _ => Err(Refusal::OutOfProfile),
+        }
+    }
+
+    /// The literal of a value object with these members.
+    pub(crate) fn literal(
+        &self,
+        object: &Value,
+        members: &Map<String, Value>,
+    ) -> Result<Term, Refusal>
+        requires { view object.now ≡ object (members_view members.now.entries) }
+        ensures literal { IfOk result (IsLiteralOf (members_view members.now.entries)) }
+        ensures out { IsErrOf result Refusal.OutOfProfile
+            → (t : Term) → IsLiteralOf (members_view members.now.entries) t → ⊥ }
+    {
+        match members.len() {
+            1 => match object.get("@value") {
+                Some(value) => self.plain(value),
+                None => Err(Refusal::OutOfProfile),
+            },
+            2 => self.qualified(object),
+            _ => Err(Refusal::OutOfProfile),
+        }
+    }
+}

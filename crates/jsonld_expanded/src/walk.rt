@@ -1,0 +1,67 @@
+//! The state of a walk over a document: its triples, their size, and the number of the next node.
+
+ghost use Rattle.std.specs.Prelude.{◌≡◌, ◌+◌, ℕ, OnOk};
+ghost use Rattle.rdf_graph.specs.Size.{saturated};
+ghost use Rattle.rdf_graph.specs.Term.{IsLiteral};
+ghost use Rattle.jsonld_expanded.specs.Expands.{Says};
+ghost use Rattle.jsonld_expanded.specs.Walks.{Advances};
+
+use crate::reader::TRIPLES_LIMIT;
+use iri_ref::Iri;
+use pod_base::{Mem, NoMemory};
+use rdf_graph::{Term, Triple};
+use std::alloc::Global;
+
+#[derive(Drop)]
+pub(crate) struct Walk {
+    /// The triples, as long as their size is within the limit.
+    pub(crate) triples: Vec<Triple>,
+    /// The encoded size of all triples, repeats included; at most 2^64 - 1.
+    pub(crate) size: u64,
+    /// The least number that the next unnamed node may get.
+    pub(crate) next: u64,
+}
+
+/// The sum of two sizes, at most 2^64 - 1.
+fn saturating_sum(first: u64, second: u64) -> u64
+    ensures { (m : ℕ) (n : ℕ) → first ≡ saturated m → second ≡ saturated n
+        → result ≡ saturated (m + n) }
+{
+    first.saturating_add(second)
+}
+
+/// A copy, which shares its memory.
+pub(crate) fn copy_iri(alloc: Global, iri: &Iri) -> Mem<Iri>
+    ensures { OnOk result (result ≡ Ok iri.now) }
+{
+    match iri.copy(alloc) {
+        Ok(copy) => Ok(copy),
+        Err(_) => Err(NoMemory),
+    }
+}
+
+/// The triple of these terms.
+fn triple_of(alloc: Global, s: &Term, p: &Iri, o: Term) -> Mem<Triple> {
+    let s = s.copy(alloc)?;
+    let p = copy_iri(alloc, p)?;
+    Ok(Triple {
+        s,
+        p: Term::Iri(p),
+        o,
+    })
+}
+
+impl Walk {
+    /// Adds a triple.
+    pub(crate) fn say(&mut self, alloc: Global, s: &Term, p: &Iri, o: Term) -> Mem<()>
+        requires { ¬ IsLiteral s.now }
+        ensures { OnOk result (Advances (Says s.now p.now o) self.old self.new) }
+    {
+        let triple = triple_of(alloc, s, p, o)?;
+        self.size = saturating_sum(self.size, triple.encoded_size());
+        if self.size <= TRIPLES_LIMIT {
+            self.triples.push(triple)?;
+        }
+        Ok(())
+    }
+}

@@ -1,0 +1,133 @@
+//! The IRIs of RDF and of XML Schema that documents have words for.
+
+ghost use Rattle.std.specs.Prelude.{◌≡◌, IfOk};
+ghost use Rattle.jsonld_expanded.specs.Vocabulary.{rdf_first, rdf_nil, rdf_rest, rdf_type};
+ghost use Rattle.jsonld_expanded.specs.Vocabulary.{xsd_boolean, xsd_integer, xsd_string};
+
+use iri_ref::Iri;
+use pod_base::{Mem, NoMemory};
+use std::alloc::Global;
+
+const RDF_TYPE: &str = "http://www.w3.org/1999/02/22-rdf-syntax-ns#type";
+
+const RDF_FIRST: &str = "http://www.w3.org/1999/02/22-rdf-syntax-ns#first";
+
+const RDF_REST: &str = "http://www.w3.org/1999/02/22-rdf-syntax-ns#rest";
+
+const RDF_NIL: &str = "http://www.w3.org/1999/02/22-rdf-syntax-ns#nil";
+
+const XSD_STRING: &str = "http://www.w3.org/2001/XMLSchema#string";
+
+const XSD_BOOLEAN: &str = "http://www.w3.org/2001/XMLSchema#boolean";
+
+const XSD_INTEGER: &str = "http://www.w3.org/2001/XMLSchema#integer";
+
+/// The IRIs, each made once for a document.
+#[derive(Drop)]
+pub(crate) struct Words {
+    pub(crate) kind: Iri,
+    pub(crate) first: Iri,
+    pub(crate) rest: Iri,
+    pub(crate) nil: Iri,
+    pub(crate) string: Iri,
+    pub(crate) boolean: Iri,
+    pub(crate) integer: Iri,
+
+    ghost is_kind: { kind ≡ rdf_type },
+    ghost is_first: { first ≡ rdf_first },
+    ghost is_rest: { rest ≡ rdf_rest },
+    ghost is_nil: { nil ≡ rdf_nil },
+    ghost is_string: { string ≡ xsd_string },
+    ghost is_boolean: { boolean ≡ xsd_boolean },
+    ghost is_integer: { integer ≡ xsd_integer },
+}
+
+/// The IRI of a text that is one.
+fn word(alloc: Global, text: &str) -> Mem<Iri>
+    ensures { IfOk result (λ iri. iri ≡ text.now) }
+{
+    match Iri::read(alloc, text) {
+        Ok(iri) => Ok(iri),
+        Err(_) => Err(NoMemory),
+    }
+}
+
+#[tactic(auto, unfolding(crate::specs::Vocabulary::rdf_type))]
+fn rdf_type(alloc: Global) -> Mem<Iri>
+    ensures { IfOk result (λ iri. iri ≡ rdf_type) }
+{
+    word(alloc, RDF_TYPE)
+}
+
+#[tactic(auto, unfolding(crate::specs::Vocabulary::rdf_first))]
+fn rdf_first(alloc: Global) -> Mem<Iri>
+    ensures { IfOk result (λ iri. iri ≡ rdf_first) }
+{
+    word(alloc, RDF_FIRST)
+}
+
+#[tactic(auto, unfolding(crate::specs::Vocabulary::rdf_rest))]
+fn rdf_rest(alloc: Global) -> Mem<Iri>
+    ensures { IfOk result (λ iri. iri ≡ rdf_rest) }
+{
+    word(alloc, RDF_REST)
+}
+
+#[tactic(auto, unfolding(crate::specs::Vocabulary::rdf_nil))]
+fn rdf_nil(alloc: Global) -> Mem<Iri>
+    ensures { IfOk result (λ iri. iri ≡ rdf_nil) }
+{
+    word(alloc, RDF_NIL)
+}
+
+#[tactic(auto, unfolding(crate::specs::Vocabulary::xsd_string))]
+fn xsd_string(alloc: Global) -> Mem<Iri>
+    ensures { IfOk result (λ iri. iri ≡ xsd_string) }
+{
+    word(alloc, XSD_STRING)
+}
+
+#[tactic(auto, unfolding(crate::specs::Vocabulary::xsd_boolean))]
+fn xsd_boolean(alloc: Global) -> Mem<Iri>
+    ensures { IfOk result (λ iri. iri ≡ xsd_boolean) }
+{
+    word(alloc, XSD_BOOLEAN)
+}
+
+#[tactic(auto, unfolding(crate::specs::Vocabulary::xsd_integer))]
+fn xsd_integer(alloc: Global) -> Mem<Iri>
+    ensures { IfOk result (λ iri. iri ≡ xsd_integer) }
+{
+    word(alloc, XSD_INTEGER)
+}
+
+/// The IRIs of XML Schema: string, boolean, integer.
+fn datatypes(alloc: Global) -> Mem<(Iri, Iri, Iri)>
+    ensures string { IfOk result (λ w. w.0 ≡ xsd_string) }
+    ensures boolean { IfOk result (λ w. w.1 ≡ xsd_boolean) }
+    ensures integer { IfOk result (λ w. w.2 ≡ xsd_integer) }
+{
+    let string = xsd_string(alloc)?;
+    let boolean = xsd_boolean(alloc)?;
+    let integer = xsd_integer(alloc)?;
+    Ok((string, boolean, integer))
+}
+
+impl Words {
+    pub(crate) fn new(alloc: Global) -> Mem<Words> {
+        let (string, boolean, integer) = datatypes(alloc)?;
+        let kind = rdf_type(alloc)?;
+        let first = rdf_first(alloc)?;
+        let rest = rdf_rest(alloc)?;
+        let nil = rdf_nil(alloc)?;
+        Ok(Words {
+            kind,
+            first,
+            rest,
+            nil,
+            string,
+            boolean,
+            integer,
+        })
+    }
+}
