@@ -68,118 +68,118 @@ abbrev pub IsNodeOf : Scope → Members → Term → State → State → Type 0
 IsNodeOf scope ms node a b = IsNodeBy scope (get_member (codes "@id") ms) node a b
 
 -- a type of the node
-abbrev pub OneType : Scope → Term → Data → State → State → Type 0
-OneType scope node null a b = ⊥
-OneType scope node (boolean t) a b = ⊥
-OneType scope node (number n) a b = ⊥
-OneType scope node (string text) a b = (o : Term) × IsNamed scope.base text o × Says node rdf_type o a b
-OneType scope node (array ds) a b = ⊥
-OneType scope node (object ms) a b = ⊥
+abbrev pub WalksType : Scope → Term → Data → State → State → Type 0
+WalksType scope node null a b = ⊥
+WalksType scope node (boolean t) a b = ⊥
+WalksType scope node (number n) a b = ⊥
+WalksType scope node (string text) a b = (o : Term) × IsNamed scope.base text o × Says node rdf_type o a b
+WalksType scope node (array ds) a b = ⊥
+WalksType scope node (object ms) a b = ⊥
 
-abbrev pub EachType : Scope → Term → Items → State → State → Type 0
-EachType scope node no_items a b = b ≡ a
-EachType scope node (item d ds) a b = Then (OneType scope node d) (EachType scope node ds) a b
+abbrev pub WalksEachType : Scope → Term → Items → State → State → Type 0
+WalksEachType scope node no_items a b = b ≡ a
+WalksEachType scope node (item d ds) a b = Then (WalksType scope node d) (WalksEachType scope node ds) a b
 
 -- the value of a `@type`: a type, or an array of them
-abbrev pub Types : Scope → Term → Data → State → State → Type 0
-Types scope node null a b = ⊥
-Types scope node (boolean t) a b = ⊥
-Types scope node (number n) a b = ⊥
-Types scope node (string text) a b = OneType scope node (string text) a b
-Types scope node (array ds) a b = EachType scope node ds a b
-Types scope node (object ms) a b = ⊥
+abbrev pub WalksTypes : Scope → Term → Data → State → State → Type 0
+WalksTypes scope node null a b = ⊥
+WalksTypes scope node (boolean t) a b = ⊥
+WalksTypes scope node (number n) a b = ⊥
+WalksTypes scope node (string text) a b = WalksType scope node (string text) a b
+WalksTypes scope node (array ds) a b = WalksEachType scope node ds a b
+WalksTypes scope node (object ms) a b = ⊥
 
 abbrev pub has : List ℕ → Members → Bool
 has key ms = is_some (get_member key ms)
 
 -- a literal as the object
-abbrev pub LiteralValue : Term → List ℕ → Members → State → State → Type 0
-LiteralValue s p ms a b = (o : Term) × IsLiteralOf ms o × Says s p o a b
+abbrev pub WalksLiteral : Term → List ℕ → Members → State → State → Type 0
+WalksLiteral s p ms a b = (o : Term) × IsLiteralOf ms o × Says s p o a b
 
 abbrev mutual
   -- a value of the predicate p of the node s
-  pub Value : Scope → Term → List ℕ → Data → State → State → Type 0
-  Value scope s p null a b = ⊥
-  Value scope s p (boolean t) a b = ⊥
-  Value scope s p (number n) a b = ⊥
-  Value scope s p (string text) a b = ⊥
-  Value scope s p (array ds) a b = ⊥
-  Value scope s p (object ms) a b = ObjectValue scope s p ms a b
+  pub WalksValue : Scope → Term → List ℕ → Data → State → State → Type 0
+  WalksValue scope s p null a b = ⊥
+  WalksValue scope s p (boolean t) a b = ⊥
+  WalksValue scope s p (number n) a b = ⊥
+  WalksValue scope s p (string text) a b = ⊥
+  WalksValue scope s p (array ds) a b = ⊥
+  WalksValue scope s p (object ms) a b = WalksObject scope s p ms a b
 
   -- by its keys: a value object, a list object or a node object
-  pub ObjectValue : Scope → Term → List ℕ → Members → State → State → Type 0
-  ObjectValue scope s p ms a b = Choose (has (codes "@value") ms) (LiteralValue s p ms a b)
-      (Choose (has (codes "@list") ms) (ListValue scope s p ms a b) (NodeValue scope s p ms a b))
+  pub WalksObject : Scope → Term → List ℕ → Members → State → State → Type 0
+  WalksObject scope s p ms a b = Choose (has (codes "@value") ms) (WalksLiteral s p ms a b)
+      (Choose (has (codes "@list") ms) (WalksList scope s p ms a b) (WalksNode scope s p ms a b))
 
   -- `@list` alone, with an array
-  pub ListValue : Scope → Term → List ℕ → Members → State → State → Type 0
-  ListValue scope s p no_members a b = ⊥
-  ListValue scope s p (member key null no_members) a b = ⊥
-  ListValue scope s p (member key (boolean t) no_members) a b = ⊥
-  ListValue scope s p (member key (number n) no_members) a b = ⊥
-  ListValue scope s p (member key (string text) no_members) a b = ⊥
-  ListValue scope s p (member key (array ds) no_members) a b = Cells scope s p ds a b
-  ListValue scope s p (member key (object ns) no_members) a b = ⊥
-  ListValue scope s p (member key d (member l e ms)) a b = ⊥
+  pub WalksList : Scope → Term → List ℕ → Members → State → State → Type 0
+  WalksList scope s p no_members a b = ⊥
+  WalksList scope s p (member key null no_members) a b = ⊥
+  WalksList scope s p (member key (boolean t) no_members) a b = ⊥
+  WalksList scope s p (member key (number n) no_members) a b = ⊥
+  WalksList scope s p (member key (string text) no_members) a b = ⊥
+  WalksList scope s p (member key (array ds) no_members) a b = WalksCells scope s p ds a b
+  WalksList scope s p (member key (object ns) no_members) a b = ⊥
+  WalksList scope s p (member key d (member l e ms)) a b = ⊥
 
   -- a cell for each element, as the object of p, and its rest; `rdf:nil` at the end
-  pub Cells : Scope → Term → List ℕ → Items → State → State → Type 0
-  Cells scope s p no_items a b = Says s p (Iri rdf_nil) a b
-  Cells scope s p (item d ds) a b = (cell : Term) × Then (IsUnnamed scope cell)
-      (Then (Says s p cell) (Then (Value scope cell rdf_first d) (Cells scope cell rdf_rest ds))) a b
+  pub WalksCells : Scope → Term → List ℕ → Items → State → State → Type 0
+  WalksCells scope s p no_items a b = Says s p (Iri rdf_nil) a b
+  WalksCells scope s p (item d ds) a b = (cell : Term) × Then (IsUnnamed scope cell)
+      (Then (Says s p cell) (Then (WalksValue scope cell rdf_first d) (WalksCells scope cell rdf_rest ds))) a b
 
-  pub NodeValue : Scope → Term → List ℕ → Members → State → State → Type 0
-  NodeValue scope s p ms a b = (node : Term) × Then (IsNodeOf scope ms node)
-      (Then (Says s p node) (Properties scope node ms)) a b
+  pub WalksNode : Scope → Term → List ℕ → Members → State → State → Type 0
+  WalksNode scope s p ms a b = (node : Term) × Then (IsNodeOf scope ms node)
+      (Then (Says s p node) (WalksMembers scope node ms)) a b
 
   -- the members of a node object, in byte order of their keys
-  pub Properties : Scope → Term → Members → State → State → Type 0
-  Properties scope node no_members a b = b ≡ a
-  Properties scope node (member key d ms) a b =
-      Then (Property scope node key d) (Properties scope node ms) a b
+  pub WalksMembers : Scope → Term → Members → State → State → Type 0
+  WalksMembers scope node no_members a b = b ≡ a
+  WalksMembers scope node (member key d ms) a b =
+      Then (WalksMember scope node key d) (WalksMembers scope node ms) a b
 
-  pub Property : Scope → Term → List ℕ → Data → State → State → Type 0
-  Property scope node key d a b = Choose (bytes_eq key (codes "@id")) (b ≡ a)
-      (Choose (bytes_eq key (codes "@type")) (Types scope node d a b)
-      (IsAbsolute key × Values scope node key d a b))
+  pub WalksMember : Scope → Term → List ℕ → Data → State → State → Type 0
+  WalksMember scope node key d a b = Choose (bytes_eq key (codes "@id")) (b ≡ a)
+      (Choose (bytes_eq key (codes "@type")) (WalksTypes scope node d a b)
+      (IsAbsolute key × WalksValues scope node key d a b))
 
   -- a value, or an array of them
-  pub Values : Scope → Term → List ℕ → Data → State → State → Type 0
-  Values scope s p null a b = ⊥
-  Values scope s p (boolean t) a b = ⊥
-  Values scope s p (number n) a b = ⊥
-  Values scope s p (string text) a b = ⊥
-  Values scope s p (array ds) a b = EachValue scope s p ds a b
-  Values scope s p (object ms) a b = ObjectValue scope s p ms a b
+  pub WalksValues : Scope → Term → List ℕ → Data → State → State → Type 0
+  WalksValues scope s p null a b = ⊥
+  WalksValues scope s p (boolean t) a b = ⊥
+  WalksValues scope s p (number n) a b = ⊥
+  WalksValues scope s p (string text) a b = ⊥
+  WalksValues scope s p (array ds) a b = WalksEachValue scope s p ds a b
+  WalksValues scope s p (object ms) a b = WalksObject scope s p ms a b
 
-  pub EachValue : Scope → Term → List ℕ → Items → State → State → Type 0
-  EachValue scope s p no_items a b = b ≡ a
-  EachValue scope s p (item d ds) a b =
-      Then (Value scope s p d) (EachValue scope s p ds) a b
+  pub WalksEachValue : Scope → Term → List ℕ → Items → State → State → Type 0
+  WalksEachValue scope s p no_items a b = b ≡ a
+  WalksEachValue scope s p (item d ds) a b =
+      Then (WalksValue scope s p d) (WalksEachValue scope s p ds) a b
 
 -- a node object by itself
-abbrev pub NodeObject : Scope → Data → State → State → Type 0
-NodeObject scope null a b = ⊥
-NodeObject scope (boolean t) a b = ⊥
-NodeObject scope (number n) a b = ⊥
-NodeObject scope (string text) a b = ⊥
-NodeObject scope (array ds) a b = ⊥
-NodeObject scope (object ms) a b = (node : Term) × Then (IsNodeOf scope ms node)
-    (Properties scope node ms) a b
+abbrev pub WalksNodeObject : Scope → Data → State → State → Type 0
+WalksNodeObject scope null a b = ⊥
+WalksNodeObject scope (boolean t) a b = ⊥
+WalksNodeObject scope (number n) a b = ⊥
+WalksNodeObject scope (string text) a b = ⊥
+WalksNodeObject scope (array ds) a b = ⊥
+WalksNodeObject scope (object ms) a b = (node : Term) × Then (IsNodeOf scope ms node)
+    (WalksMembers scope node ms) a b
 
-abbrev pub EachNodeObject : Scope → Items → State → State → Type 0
-EachNodeObject scope no_items a b = b ≡ a
-EachNodeObject scope (item d ds) a b =
-    Then (NodeObject scope d) (EachNodeObject scope ds) a b
+abbrev pub WalksEachNodeObject : Scope → Items → State → State → Type 0
+WalksEachNodeObject scope no_items a b = b ≡ a
+WalksEachNodeObject scope (item d ds) a b =
+    Then (WalksNodeObject scope d) (WalksEachNodeObject scope ds) a b
 
 -- a document: an array of node objects, or one node object
-abbrev pub Document : Scope → Data → State → State → Type 0
-Document scope null a b = ⊥
-Document scope (boolean t) a b = ⊥
-Document scope (number n) a b = ⊥
-Document scope (string text) a b = ⊥
-Document scope (array ds) a b = EachNodeObject scope ds a b
-Document scope (object ms) a b = NodeObject scope (object ms) a b
+abbrev pub WalksDocument : Scope → Data → State → State → Type 0
+WalksDocument scope null a b = ⊥
+WalksDocument scope (boolean t) a b = ⊥
+WalksDocument scope (number n) a b = ⊥
+WalksDocument scope (string text) a b = ⊥
+WalksDocument scope (array ds) a b = WalksEachNodeObject scope ds a b
+WalksDocument scope (object ms) a b = WalksNodeObject scope (object ms) a b
 
 abbrev pub scope_of : List ℕ → Data → Scope
 scope_of base value = record { base = base; taken = has_label (labels_in false value) }
@@ -190,7 +190,7 @@ start = record { triples = []; next = 0 }
 -- the value stands for these triples, in the order of the walk and with repeats
 pub record ExpandsTo (base : List ℕ) (value : Data) (triples : List Triple) : Type 0 where
   pub end : State
-  pub walk : Document (scope_of base value) value start end
+  pub walk : WalksDocument (scope_of base value) value start end
   pub triples : triples ≡ end.triples
 
 -- the value stands for the graph

@@ -3,10 +3,12 @@ use Rattle.std.specs.Prelude.{◌≡◌, ◌≤◌, ℕ, List, All}
 use Rattle.std.specs.BTreeSet.{contains_text}
 use Rattle.rdf_graph.specs.Size.{saturated, triples_size}
 use Rattle.rdf_graph.specs.Triple.{IsRdf}
+use Rattle.rdf_graph.specs.declared.triple.Triple.{Triple}
+use Rattle.serde_json.specs.Data.{Data}
 use Rattle.jsonld_expanded.specs.declared.TheConstants.{TRIPLES_LIMIT}
 use Rattle.jsonld_expanded.specs.declared.scope.Scope.{Scope as Kept}
 use Rattle.jsonld_expanded.specs.declared.walk.Walk.{Walk}
-use Rattle.jsonld_expanded.specs.Expands.{State, Scope}
+use Rattle.jsonld_expanded.specs.Expands.{ExpandsTo, State, Scope}
 
 -- The walk has come to this state: the triples are kept as long as they are within the limit.
 pub record Stands (walk : Walk) (a : State) : Type 0 where
@@ -26,3 +28,11 @@ Refuses R old = (a : State) → Stands old a → (b : State) → R a b → ⊥
 -- what a document's scope stands for
 abbrev pub scope_view : Kept → Scope
 scope_view kept = record { base = kept.base.now; taken = contains_text kept.labels }
+
+-- the whole walk over the value
+pub record IsWalkOf (base : List ℕ) (value : Data) (walk : Walk) : Type 0 where
+  pub triples : List Triple
+  pub expands : ExpandsTo base value triples
+  pub size : walk.size ≡ saturated (triples_size triples)
+  pub kept : triples_size triples ≤ TRIPLES_LIMIT → walk.triples.items ≡ triples
+  pub rdf : All IsRdf walk.triples.items

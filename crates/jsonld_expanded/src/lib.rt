@@ -15,6 +15,7 @@
 //! `iri_ref`.
 #![tactic(auto)]
 
+mod documents;
 mod fault;
 mod labels;
 pub mod laws;

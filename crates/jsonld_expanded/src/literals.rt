@@ -1,17 +1,14 @@
 //! The literals of value objects.
 
-ghost use Rattle.std.specs.Prelude.{◌≡◌, ◌++◌, codes, map, Some, IfOk, IsErrOf, string_bytes};
+ghost use Rattle.std.specs.Prelude.{◌≡◌, map, length, option_map, option_and_then, IfOk, IsErrOf};
 ghost use Rattle.std.specs.Char.{to_ascii_lowercase};
-ghost use Rattle.std.specs.Option.{option_copied};
 ghost use Rattle.iri_ref.specs.Components.{IsAbsolute};
 ghost use Rattle.rdf_graph.specs.declared.term.Term.{Term};
 ghost use Rattle.rdf_graph.specs.declared.term.Term.TheVariants as Terms;
-ghost use Rattle.serde_json.specs.Data.{object};
-ghost use Rattle.serde_json.specs.View.{view, members_view};
-ghost use Rattle.turtle_lex.specs.Laws.{IsTextOf};
-ghost use Rattle.turtle_lex.specs.Terminals.{lang_tag};
-ghost use Rattle.jsonld_expanded.specs.Literals.{IsLiteralOf, IsPlain, text_at};
-ghost use Rattle.jsonld_expanded.specs.Vocabulary.{xsd_string, xsd_integer, xsd_boolean};
+ghost use Rattle.serde_json.specs.Data.{object as object_of, number as number_data};
+ghost use Rattle.serde_json.specs.Find.{as_str, get};
+ghost use Rattle.serde_json.specs.View.{view, members_view, number_view};
+ghost use Rattle.jsonld_expanded.specs.Literals.{IsLiteralOf, IsPlain};
 ghost use Rattle.jsonld_expanded.specs.declared.fault.Refusal.TheVariants as Refusal;
 
 use crate::fault::{Refusal, refusal_of};
@@ -51,7 +48,11 @@ fn tagged(alloc: Global, lexical: &str, lang: &str) -> Mem<Term>
 
 impl<'a> Scope<'a> {
     /// The literal of a whole number.
-    fn number(&self, number: &Number) -> Result<Term, Refusal> {
+    fn number(&self, number: &Number) -> Result<Term, Refusal>
+        ensures literal { IfOk result (IsPlain (number_data (number_view number.now))) }
+        ensures out { IsErrOf result Refusal.OutOfProfile
+            → (t : Term) → IsPlain (number_data (number_view number.now)) t → ⊥ }
+    {
         let mut buffer = Buffer::new();
         let text = match number.as_u64() {
             Some(n) => buffer.format(n),
@@ -90,7 +91,13 @@ impl<'a> Scope<'a> {
     }
 
     /// The literal of a string with a datatype or a language tag.
-    fn qualified(&self, object: &Value) -> Result<Term, Refusal> {
+    fn qualified(&self, object: &Value, members: &Map<String, Value>) -> Result<Term, Refusal>
+        requires members { view object.now ≡ object_of (members_view members.now.entries) }
+        requires two { length members.now.entries ≡ 2 }
+        ensures literal { IfOk result (IsLiteralOf (members_view members.now.entries)) }
+        ensures out { IsErrOf result Refusal.OutOfProfile
+            → (t : Term) → IsLiteralOf (members_view members.now.entries) t → ⊥ }
+    {
         let Some(lexical) = text_at(object, "@value") else {
             return Err(Refusal::OutOfProfile);
         };
@@ -109,7 +116,7 @@ impl<'a> Scope<'a> {
         object: &Value,
         members: &Map<String, Value>,
     ) -> Result<Term, Refusal>
-        requires { view object.now ≡ object (members_view members.now.entries) }
+        requires { view object.now ≡ object_of (members_view members.now.entries) }
         ensures literal { IfOk result (IsLiteralOf (members_view members.now.entries)) }
         ensures out { IsErrOf result Refusal.OutOfProfile
             → (t : Term) → IsLiteralOf (members_view members.now.entries) t → ⊥ }
@@ -119,7 +126,7 @@ impl<'a> Scope<'a> {
                 Some(value) => self.plain(value),
                 None => Err(Refusal::OutOfProfile),
             },
-            2 => self.qualified(object),
+            2 => self.qualified(object, members),
             _ => Err(Refusal::OutOfProfile),
         }
     }

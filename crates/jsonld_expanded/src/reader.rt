@@ -1,8 +1,17 @@
 //! Reading a document.
 
-ghost use Rattle.std.specs.Prelude.{IfOk, IsErrOf};
+ghost use Rattle.std.specs.Prelude.{◌≡◌, ◌<◌, ◌≤◌, ℕ, List, false, All, IfOk, OnOk, IsErrOf};
+ghost use Rattle.std.specs.BTreeSet.{contains_text};
+ghost use Rattle.rdf_graph.specs.Graph.{SameSet};
+ghost use Rattle.rdf_graph.specs.Triple.{IsRdf};
+ghost use Rattle.rdf_graph.specs.declared.triple.Triple.{Triple};
+ghost use Rattle.serde_json.specs.View.{view};
+ghost use Rattle.jsonld_expanded.specs.Expands.{ExpandsTo};
+ghost use Rattle.jsonld_expanded.specs.Nodes.{has_label, labels_in};
+ghost use Rattle.jsonld_expanded.specs.Walks.{IsWalkOf};
+ghost use Rattle.jsonld_expanded.specs.declared.fault.Refusal.TheVariants as Refusal;
 ghost use Rattle.jsonld_expanded.specs.declared.fault.JsonLdFault.TheVariants as JsonLdFault;
-ghost use Rattle.jsonld_expanded.specs.Outcomes.{IsDocumentOf, IsNotJson, IsOutOfProfile};
+ghost use Rattle.jsonld_expanded.specs.Outcomes.{IsDocumentOf, IsJson, IsNotJson, IsOutOfProfile};
 ghost use Rattle.jsonld_expanded.specs.Outcomes.{IsTooLarge};
 
 use crate::fault::{JsonLdFault, Refusal};
@@ -11,10 +20,9 @@ use crate::scope::Scope;
 use crate::walk::Walk;
 use crate::words::Words;
 use iri_ref::Iri;
-use pod_base::{List, Mem, NoMemory};
+use pod_base::{List, Mem};
 use rdf_graph::Graph;
 use serde_json::Value;
-use serde_json::error::Category;
 use std::alloc::Global;
 use std::collections::BTreeSet;
 
@@ -33,11 +41,20 @@ pub fn read(alloc: Global, base: &Iri, bytes: &[u8]) -> Result<Graph, JsonLdFaul
     ensures too_large { IsErrOf result JsonLdFault.TooLarge → IsTooLarge base.now bytes.now }
 {
     let value = json_of(alloc, bytes)?;
-    graph_of(alloc, base, &value)
+    match walk_of(alloc, base, &value) {
+        Ok(walk) => graph_of(walk),
+        Err(Refusal::OutOfProfile) => Err(JsonLdFault::OutOfProfile),
+        Err(Refusal::NoMemory) => Err(JsonLdFault::NoMemory),
+    }
 }
 
 /// The JSON value of the bytes.
-fn json_of(alloc: Global, bytes: &[u8]) -> Result<Value, JsonLdFault> {
+fn json_of(alloc: Global, bytes: &[u8]) -> Result<Value, JsonLdFault>
+    ensures value { IfOk result (λ v. IsJson bytes.now (view v)) }
+    ensures not_json { IsErrOf result JsonLdFault.NotJson → IsNotJson bytes.now }
+    ensures in_profile { IsErrOf result JsonLdFault.OutOfProfile → ⊥ }
+    ensures small { IsErrOf result JsonLdFault.TooLarge → ⊥ }
+{
     match Value::from_slice(alloc, bytes) {
         Ok(value) => Ok(value),
         Err(fault) => if fault.is_memory() {
@@ -49,7 +66,11 @@ fn json_of(alloc: Global, bytes: &[u8]) -> Result<Value, JsonLdFault> {
 }
 
 /// What a walk over the value depends on.
-fn scope_of<'a>(alloc: Global, base: &'a Iri, value: &Value) -> Mem<Scope<'a>> {
+fn scope_of<'a>(alloc: Global, base: &'a Iri, value: &Value) -> Mem<Scope<'a>>
+    ensures base { IfOk result (λ s. s.base.now ≡ base.now) }
+    ensures labels { IfOk result (λ s. (l : List ℕ) → contains_text s.labels l
+        ≡ has_label (labels_in false (view value.now)) l) }
+{
     let mut labels: Labels = BTreeSet::new(alloc);
     insert_labels(alloc, &mut labels, false, value)?;
     let words = Words::new(alloc)?;
@@ -61,22 +82,27 @@ fn scope_of<'a>(alloc: Global, base: &'a Iri, value: &Value) -> Mem<Scope<'a>> {
     })
 }
 
-/// The graph of a JSON value.
-fn graph_of(alloc: Global, base: &Iri, value: &Value) -> Result<Graph, JsonLdFault> {
-    let scope = match scope_of(alloc, base, value) {
-        Ok(scope) => scope,
-        Err(NoMemory) => return Err(JsonLdFault::NoMemory),
-    };
-    let mut walk = Walk {
-        triples: Vec::new(alloc),
-        size: 0,
-        next: 0,
-    };
-    match scope.document(&mut walk, value) {
-        Ok(()) => {}
-        Err(Refusal::OutOfProfile) => return Err(JsonLdFault::OutOfProfile),
-        Err(Refusal::NoMemory) => return Err(JsonLdFault::NoMemory),
-    }
+/// The whole walk over a JSON value.
+fn walk_of(alloc: Global, base: &Iri, value: &Value) -> Result<Walk, Refusal>
+    ensures walked { IfOk result (IsWalkOf base.now (view value.now)) }
+    ensures out { IsErrOf result Refusal.OutOfProfile → (ts : List Triple)
+        → ExpandsTo base.now (view value.now) ts → ⊥ }
+{
+    let scope = scope_of(alloc, base, value)?;
+    let mut walk = Walk::new(alloc);
+    scope.document(&mut walk, value)?;
+    Ok(walk)
+}
+
+/// The graph of the triples of a walk.
+fn graph_of(walk: Walk) -> Result<Graph, JsonLdFault>
+    requires { All IsRdf walk.triples.items }
+    ensures graph { IfOk result (λ g. SameSet g walk.triples.items) }
+    ensures within { OnOk result (walk.size ≤ TRIPLES_LIMIT) }
+    ensures too_large { IsErrOf result JsonLdFault.TooLarge → TRIPLES_LIMIT < walk.size }
+    ensures json { IsErrOf result JsonLdFault.NotJson → ⊥ }
+    ensures in_profile { IsErrOf result JsonLdFault.OutOfProfile → ⊥ }
+{
     if walk.size > TRIPLES_LIMIT {
         return Err(JsonLdFault::TooLarge);
     }

@@ -1,9 +1,15 @@
 //! The walk over the values of a document.
 
-ghost use Rattle.std.specs.Prelude.{◌≡◌, OnOk, IsErrOf};
+ghost use Rattle.std.specs.Prelude.{◌≡◌, OnOk, IfOk, IsErrOf};
 ghost use Rattle.rdf_graph.specs.Term.{IsLiteral};
+ghost use Rattle.rdf_graph.specs.declared.term.Term.TheVariants.{Iri as IriTerm};
+ghost use Rattle.serde_json.specs.Data.{object as object_of};
 ghost use Rattle.serde_json.specs.View.{view, items_view, members_view};
-ghost use Rattle.jsonld_expanded.specs.Expands.{Value as IsValue};
+ghost use Rattle.jsonld_expanded.specs.Expands.{WalksType, WalksEachType, WalksTypes, WalksLiteral};
+ghost use Rattle.jsonld_expanded.specs.Expands.{WalksValue, WalksList, WalksCells, WalksNode};
+ghost use Rattle.jsonld_expanded.specs.Expands.{WalksMembers, WalksMember, WalksValues};
+ghost use Rattle.jsonld_expanded.specs.Expands.{IsUnnamed, Says, Then, WalksEachValue};
+ghost use Rattle.jsonld_expanded.specs.Vocabulary.{rdf_nil};
 ghost use Rattle.jsonld_expanded.specs.Walks.{Advances, Refuses, scope_view};
 ghost use Rattle.jsonld_expanded.specs.declared.fault.Refusal.TheVariants as Refusal;
 
@@ -11,12 +17,19 @@ use crate::fault::{Refusal, refusal_of};
 use crate::scope::Scope;
 use crate::walk::{Walk, copy_iri};
 use iri_ref::Iri;
+use pod_base::Mem;
 use rdf_graph::Term;
 use serde_json::{Map, Value};
 
 impl<'a> Scope<'a> {
     /// A type of the node.
-    fn one_type(&self, walk: &mut Walk, node: &Term, value: &Value) -> Result<(), Refusal> {
+    fn one_type(&self, walk: &mut Walk, node: &Term, value: &Value) -> Result<(), Refusal>
+        requires { ¬ IsLiteral node.now }
+        ensures ok { OnOk result (Advances
+            (WalksType (scope_view self.now) node.now (view value.now)) walk.old walk.new) }
+        ensures out { IsErrOf result Refusal.OutOfProfile → Refuses
+            (WalksType (scope_view self.now) node.now (view value.now)) walk.old }
+    {
         match value {
             Value::String(text) => {
                 let kind = self.named(text.as_str())?;
@@ -28,7 +41,14 @@ impl<'a> Scope<'a> {
     }
 
     /// The types in an array.
-    fn each_type(&self, walk: &mut Walk, node: &Term, items: &[Value]) -> Result<(), Refusal> {
+    fn each_type(&self, walk: &mut Walk, node: &Term, items: &[Value]) -> Result<(), Refusal>
+        requires { ¬ IsLiteral node.now }
+        ensures ok { OnOk result (Advances
+            (WalksEachType (scope_view self.now) node.now (items_view items.now))
+            walk.old walk.new) }
+        ensures out { IsErrOf result Refusal.OutOfProfile → Refuses
+            (WalksEachType (scope_view self.now) node.now (items_view items.now)) walk.old }
+    {
         for item in items {
             self.one_type(walk, node, item)?;
         }
@@ -36,7 +56,13 @@ impl<'a> Scope<'a> {
     }
 
     /// The value of a `@type`.
-    fn types(&self, walk: &mut Walk, node: &Term, value: &Value) -> Result<(), Refusal> {
+    fn types(&self, walk: &mut Walk, node: &Term, value: &Value) -> Result<(), Refusal>
+        requires { ¬ IsLiteral node.now }
+        ensures ok { OnOk result (Advances
+            (WalksTypes (scope_view self.now) node.now (view value.now)) walk.old walk.new) }
+        ensures out { IsErrOf result Refusal.OutOfProfile → Refuses
+            (WalksTypes (scope_view self.now) node.now (view value.now)) walk.old }
+    {
         match value {
             Value::Array(items) => self.each_type(walk, node, items),
             _ => self.one_type(walk, node, value),
@@ -51,7 +77,14 @@ impl<'a> Scope<'a> {
         p: &Iri,
         object: &Value,
         members: &Map<String, Value>,
-    ) -> Result<(), Refusal> {
+    ) -> Result<(), Refusal>
+        requires literal { ¬ IsLiteral s.now }
+        requires members { view object.now ≡ object_of (members_view members.now.entries) }
+        ensures ok { OnOk result (Advances
+            (WalksLiteral s.now p.now (members_view members.now.entries)) walk.old walk.new) }
+        ensures out { IsErrOf result Refusal.OutOfProfile → Refuses
+            (WalksLiteral s.now p.now (members_view members.now.entries)) walk.old }
+    {
         let literal = self.literal(object, members)?;
         walk.say(self.alloc, s, p, literal)?;
         Ok(())
@@ -59,15 +92,23 @@ impl<'a> Scope<'a> {
 
     /// A value of the predicate p of the node s.
     #[cycle(walk)]
-    fn value(&self, walk: &mut Walk, s: &Term, p: &Iri, value: &Value) -> Result<(), Refusal> {
+    fn value(&self, walk: &mut Walk, s: &Term, p: &Iri, value: &Value) -> Result<(), Refusal>
+        requires { ¬ IsLiteral s.now }
+        ensures ok { OnOk result (Advances
+            (WalksValue (scope_view self.now) s.now p.now (view value.now)) walk.old walk.new) }
+        ensures out { IsErrOf result Refusal.OutOfProfile → Refuses
+            (WalksValue (scope_view self.now) s.now p.now (view value.now)) walk.old }
+    {
         match value {
-            Value::Object(members) => if value.get("@value").is_some() {
-                self.literal_value(walk, s, p, value, members)
-            } else if value.get("@list").is_some() {
-                self.list_value(walk, s, p, members)
-            } else {
+            Value::Object(members) => {
+                if value.get("@value").is_some() {
+                    return self.literal_value(walk, s, p, value, members);
+                }
+                if value.get("@list").is_some() {
+                    return self.list_value(walk, s, p, members);
+                }
                 self.node_value(walk, s, p, value, members)
-            },
+            }
             _ => Err(Refusal::OutOfProfile),
         }
     }
@@ -80,7 +121,15 @@ impl<'a> Scope<'a> {
         s: &Term,
         p: &Iri,
         members: &Map<String, Value>,
-    ) -> Result<(), Refusal> {
+    ) -> Result<(), Refusal>
+        requires { ¬ IsLiteral s.now }
+        ensures ok { OnOk result (Advances
+            (WalksList (scope_view self.now) s.now p.now (members_view members.now.entries))
+            walk.old walk.new) }
+        ensures out { IsErrOf result Refusal.OutOfProfile → Refuses
+            (WalksList (scope_view self.now) s.now p.now (members_view members.now.entries))
+            walk.old }
+    {
         if members.len() != 1 {
             return Err(Refusal::OutOfProfile);
         }
@@ -92,18 +141,47 @@ impl<'a> Scope<'a> {
 
     /// The cells of a list, of which the first is the object of p.
     #[cycle(walk)]
-    fn cells(&self, walk: &mut Walk, s: &Term, p: &Iri, items: &Vec<Value>) -> Result<(), Refusal> {
-        let mut s = s.copy(self.alloc)?;
-        let mut p = copy_iri(self.alloc, p)?;
+    fn cells(&self, walk: &mut Walk, s: &Term, p: &Iri, items: &[Value]) -> Result<(), Refusal>
+        requires { ¬ IsLiteral s.now }
+        ensures ok { OnOk result (Advances
+            (WalksCells (scope_view self.now) s.now p.now (items_view items.now))
+            walk.old walk.new) }
+        ensures out { IsErrOf result Refusal.OutOfProfile → Refuses
+            (WalksCells (scope_view self.now) s.now p.now (items_view items.now)) walk.old }
+    {
+        let mut last = s.copy(self.alloc)?;
+        let mut link = copy_iri(self.alloc, p)?;
         for item in items {
-            let cell = self.unnamed(walk)?;
-            walk.say(self.alloc, &s, &p, cell.copy(self.alloc)?)?;
+            let cell = self.cell(walk, &last, &link)?;
             self.value(walk, &cell, &self.words.first, item)?;
-            s = cell;
-            p = copy_iri(self.alloc, &self.words.rest)?;
+            last = cell;
+            link = copy_iri(self.alloc, &self.words.rest)?;
         }
+        self.nil(walk, &last, &link)
+    }
+
+    /// A cell, as the object of p.
+    fn cell(&self, walk: &mut Walk, s: &Term, p: &Iri) -> Mem<Term>
+        requires { ¬ IsLiteral s.now }
+        ensures cell { IfOk result (λ cell. Advances
+            (Then (IsUnnamed (scope_view self.now) cell) (Says s.now p.now cell))
+            walk.old walk.new) }
+        ensures literal { IfOk result (λ cell. ¬ IsLiteral cell) }
+    {
+        let cell = self.unnamed(walk)?;
+        let object = cell.copy(self.alloc)?;
+        walk.say(self.alloc, s, p, object)?;
+        Ok(cell)
+    }
+
+    /// The end of a list, as the object of p.
+    fn nil(&self, walk: &mut Walk, s: &Term, p: &Iri) -> Result<(), Refusal>
+        requires { ¬ IsLiteral s.now }
+        ensures ok { OnOk result (Advances (Says s.now p.now (IriTerm rdf_nil)) walk.old walk.new) }
+        ensures out { IsErrOf result Refusal.OutOfProfile → ⊥ }
+    {
         let nil = copy_iri(self.alloc, &self.words.nil)?;
-        walk.say(self.alloc, &s, &p, Term::Iri(nil))?;
+        walk.say(self.alloc, s, p, Term::Iri(nil))?;
         Ok(())
     }
 
@@ -116,20 +194,38 @@ impl<'a> Scope<'a> {
         p: &Iri,
         object: &Value,
         members: &Map<String, Value>,
-    ) -> Result<(), Refusal> {
+    ) -> Result<(), Refusal>
+        requires literal { ¬ IsLiteral s.now }
+        requires members { view object.now ≡ object_of (members_view members.now.entries) }
+        ensures ok { OnOk result (Advances
+            (WalksNode (scope_view self.now) s.now p.now (members_view members.now.entries))
+            walk.old walk.new) }
+        ensures out { IsErrOf result Refusal.OutOfProfile → Refuses
+            (WalksNode (scope_view self.now) s.now p.now (members_view members.now.entries))
+            walk.old }
+    {
         let node = self.node(walk, object)?;
-        walk.say(self.alloc, s, p, node.copy(self.alloc)?)?;
+        let value = node.copy(self.alloc)?;
+        walk.say(self.alloc, s, p, value)?;
         self.properties(walk, &node, members)
     }
 
     /// The members of a node object.
     #[cycle(walk)]
-    fn properties(
+    pub(crate) fn properties(
         &self,
         walk: &mut Walk,
         node: &Term,
         members: &Map<String, Value>,
-    ) -> Result<(), Refusal> {
+    ) -> Result<(), Refusal>
+        requires { ¬ IsLiteral node.now }
+        ensures ok { OnOk result (Advances
+            (WalksMembers (scope_view self.now) node.now (members_view members.now.entries))
+            walk.old walk.new) }
+        ensures out { IsErrOf result Refusal.OutOfProfile → Refuses
+            (WalksMembers (scope_view self.now) node.now (members_view members.now.entries))
+            walk.old }
+    {
         for (key, value) in members {
             self.property(walk, node, key.as_str(), value)?;
         }
@@ -144,7 +240,14 @@ impl<'a> Scope<'a> {
         node: &Term,
         key: &str,
         value: &Value,
-    ) -> Result<(), Refusal> {
+    ) -> Result<(), Refusal>
+        requires { ¬ IsLiteral node.now }
+        ensures ok { OnOk result (Advances
+            (WalksMember (scope_view self.now) node.now key.now (view value.now))
+            walk.old walk.new) }
+        ensures out { IsErrOf result Refusal.OutOfProfile → Refuses
+            (WalksMember (scope_view self.now) node.now key.now (view value.now)) walk.old }
+    {
         if key == "@id" {
             return Ok(());
         }
@@ -159,7 +262,13 @@ impl<'a> Scope<'a> {
 
     /// A value, or an array of them.
     #[cycle(walk)]
-    fn values(&self, walk: &mut Walk, s: &Term, p: &Iri, value: &Value) -> Result<(), Refusal> {
+    fn values(&self, walk: &mut Walk, s: &Term, p: &Iri, value: &Value) -> Result<(), Refusal>
+        requires { ¬ IsLiteral s.now }
+        ensures ok { OnOk result (Advances
+            (WalksValues (scope_view self.now) s.now p.now (view value.now)) walk.old walk.new) }
+        ensures out { IsErrOf result Refusal.OutOfProfile → Refuses
+            (WalksValues (scope_view self.now) s.now p.now (view value.now)) walk.old }
+    {
         match value {
             Value::Array(items) => self.each_value(walk, s, p, items),
             _ => self.value(walk, s, p, value),
@@ -168,43 +277,17 @@ impl<'a> Scope<'a> {
 
     /// The values in an array.
     #[cycle(walk)]
-    fn each_value(
-        &self,
-        walk: &mut Walk,
-        s: &Term,
-        p: &Iri,
-        items: &Vec<Value>,
-    ) -> Result<(), Refusal> {
+    fn each_value(&self, walk: &mut Walk, s: &Term, p: &Iri, items: &[Value]) -> Result<(), Refusal>
+        requires { ¬ IsLiteral s.now }
+        ensures ok { OnOk result (Advances
+            (WalksEachValue (scope_view self.now) s.now p.now (items_view items.now))
+            walk.old walk.new) }
+        ensures out { IsErrOf result Refusal.OutOfProfile → Refuses
+            (WalksEachValue (scope_view self.now) s.now p.now (items_view items.now)) walk.old }
+    {
         for item in items {
             self.value(walk, s, p, item)?;
         }
         Ok(())
-    }
-
-    /// A node object by itself.
-    fn node_object(&self, walk: &mut Walk, value: &Value) -> Result<(), Refusal> {
-        match value {
-            Value::Object(members) => {
-                let node = self.node(walk, value)?;
-                self.properties(walk, &node, members)
-            }
-            _ => Err(Refusal::OutOfProfile),
-        }
-    }
-
-    /// The node objects of an array.
-    fn each_node_object(&self, walk: &mut Walk, items: &[Value]) -> Result<(), Refusal> {
-        for item in items {
-            self.node_object(walk, item)?;
-        }
-        Ok(())
-    }
-
-    /// A document: an array of node objects, or one node object.
-    pub(crate) fn document(&self, walk: &mut Walk, value: &Value) -> Result<(), Refusal> {
-        match value {
-            Value::Array(items) => self.each_node_object(walk, items),
-            _ => self.node_object(walk, value),
-        }
     }
 }

@@ -1,10 +1,11 @@
 //! The state of a walk over a document: its triples, their size, and the number of the next node.
 
-ghost use Rattle.std.specs.Prelude.{◌≡◌, ◌+◌, ℕ, OnOk};
+ghost use Rattle.std.specs.Prelude.{◌≡◌, ◌+◌, ℕ, IfOk, OnOk};
 ghost use Rattle.rdf_graph.specs.Size.{saturated};
 ghost use Rattle.rdf_graph.specs.Term.{IsLiteral};
-ghost use Rattle.jsonld_expanded.specs.Expands.{Says};
-ghost use Rattle.jsonld_expanded.specs.Walks.{Advances};
+ghost use Rattle.rdf_graph.specs.declared.term.Term.TheVariants.{Iri as IriTerm};
+ghost use Rattle.jsonld_expanded.specs.Expands.{Says, start};
+ghost use Rattle.jsonld_expanded.specs.Walks.{Advances, Stands};
 
 use crate::reader::TRIPLES_LIMIT;
 use iri_ref::Iri;
@@ -32,7 +33,7 @@ fn saturating_sum(first: u64, second: u64) -> u64
 
 /// A copy, which shares its memory.
 pub(crate) fn copy_iri(alloc: Global, iri: &Iri) -> Mem<Iri>
-    ensures { OnOk result (result ≡ Ok iri.now) }
+    ensures { IfOk result (λ copy. copy ≡ iri.now) }
 {
     match iri.copy(alloc) {
         Ok(copy) => Ok(copy),
@@ -52,6 +53,17 @@ fn triple_of(alloc: Global, s: &Term, p: &Iri, o: Term) -> Mem<Triple> {
 }
 
 impl Walk {
+    /// A walk that has not begun.
+    pub(crate) fn new(alloc: Global) -> Walk
+        ensures { Stands result start }
+    {
+        Walk {
+            triples: Vec::new(alloc),
+            size: 0,
+            next: 0,
+        }
+    }
+
     /// Adds a triple.
     pub(crate) fn say(&mut self, alloc: Global, s: &Term, p: &Iri, o: Term) -> Mem<()>
         requires { ¬ IsLiteral s.now }

@@ -1,0 +1,58 @@
+//! The walk over a document.
+
+ghost use Rattle.std.specs.Prelude.{OnOk, IsErrOf};
+ghost use Rattle.serde_json.specs.View.{view, items_view};
+ghost use Rattle.jsonld_expanded.specs.Expands.{WalksDocument, WalksEachNodeObject};
+ghost use Rattle.jsonld_expanded.specs.Expands.{WalksNodeObject};
+ghost use Rattle.jsonld_expanded.specs.Walks.{Advances, Refuses, scope_view};
+ghost use Rattle.jsonld_expanded.specs.declared.fault.Refusal.TheVariants as Refusal;
+
+use crate::fault::Refusal;
+use crate::scope::Scope;
+use crate::walk::Walk;
+use serde_json::Value;
+
+impl<'a> Scope<'a> {
+    /// A node object by itself.
+    fn node_object(&self, walk: &mut Walk, value: &Value) -> Result<(), Refusal>
+        ensures ok { OnOk result (Advances
+            (WalksNodeObject (scope_view self.now) (view value.now)) walk.old walk.new) }
+        ensures out { IsErrOf result Refusal.OutOfProfile → Refuses
+            (WalksNodeObject (scope_view self.now) (view value.now)) walk.old }
+    {
+        match value {
+            Value::Object(members) => {
+                let node = self.node(walk, value)?;
+                self.properties(walk, &node, members)
+            }
+            _ => Err(Refusal::OutOfProfile),
+        }
+    }
+
+    /// The node objects of an array.
+    fn each_node_object(&self, walk: &mut Walk, items: &[Value]) -> Result<(), Refusal>
+        ensures ok { OnOk result (Advances
+            (WalksEachNodeObject (scope_view self.now) (items_view items.now))
+            walk.old walk.new) }
+        ensures out { IsErrOf result Refusal.OutOfProfile → Refuses
+            (WalksEachNodeObject (scope_view self.now) (items_view items.now)) walk.old }
+    {
+        for item in items {
+            self.node_object(walk, item)?;
+        }
+        Ok(())
+    }
+
+    /// A document: an array of node objects, or one node object.
+    pub(crate) fn document(&self, walk: &mut Walk, value: &Value) -> Result<(), Refusal>
+        ensures ok { OnOk result (Advances
+            (WalksDocument (scope_view self.now) (view value.now)) walk.old walk.new) }
+        ensures out { IsErrOf result Refusal.OutOfProfile → Refuses
+            (WalksDocument (scope_view self.now) (view value.now)) walk.old }
+    {
+        match value {
+            Value::Array(items) => self.each_node_object(walk, items),
+            _ => self.node_object(walk, value),
+        }
+    }
+}
