@@ -10,7 +10,7 @@ use Rattle.jsonld_expanded.proofs.Once.{once-document}
 
 pub walks_once : (base : List ℕ) (value : Data) (ts us : List Triple) → ExpandsTo base value ts → ExpandsTo base value us → ts ≡ us
 walks_once base value ts us x y =
-    x.triples ∙ ap (λ (a : State). a.triples) (once-document (scope_of base value) value start x.end y.end x.walk y.walk) ∙ sym y.triples
+    x.said ∙ ap (λ (a : State). a.triples) (once-document (scope_of base value) value start x.end y.end x.walk y.walk) ∙ sym y.said
 
 same_set : (g h ts : List Triple) → SameSet g ts → SameSet h ts → SameSet g h
 same_set g h ts x y = λ t. (λ c. (y t).1 ((x t).0 c), λ c. (x t).1 ((y t).0 c))

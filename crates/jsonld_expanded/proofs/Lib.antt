@@ -1,3 +1,6 @@
 pub mod Once
 pub mod Graphs
 pub mod Steps
+pub mod LabelSets
+pub mod Kept
+pub mod LiteralCases

@@ -9,9 +9,9 @@ use Rattle.serde_json.specs.Find.{get_member}
 use Rattle.iri_ref.proofs.Resolving.{references_resolve_uniquely}
 use Rattle.jsonld_expanded.specs.Literals.{IsPlain, IsPlainObject, IsTypedObject, IsTaggedObject, IsLiteralOf, text_at}
 use Rattle.jsonld_expanded.specs.Nodes.{IsNamed, IsLabelled, IsNextFree, unnamed_label}
-use Rattle.jsonld_expanded.specs.Expands.{State, Scope, Then, Choose, Says, IsUnnamed, IsNodeBy, IsNodeOf, WalksType, WalksEachType, WalksTypes, WalksLiteral, WalksValue, WalksObject, WalksList, WalksCells, WalksNode, WalksMembers, WalksMember, WalksValues, WalksEachValue, WalksNodeObject, WalksEachNodeObject, WalksDocument, has, saying}
+use Rattle.jsonld_expanded.specs.Expands.{State, Scope, Then, Choose, Says, IsUnnamed, IsNodeBy, IsNodeOf, NodeWith, ObjectWith, MemberWith, WalksType, WalksEachType, WalksTypes, WalksLiteral, WalksValue, WalksList, WalksCells, WalksMembers, WalksMember, WalksValues, WalksEachValue, WalksNodeObject, WalksEachNodeObject, WalksDocument, has, saying}
 use Rattle.iri_ref.specs.Components.{IsAbsolute}
-use Rattle.std.specs.Prelude.{cond}
+use Rattle.jsonld_expanded.specs.Vocabulary.{rdf_type, rdf_first, rdf_rest, rdf_nil}
 
 -- from each state the step leads to one state at most
 abbrev pub Once : (State → State → Type 0) → Type 0
@@ -64,8 +64,8 @@ not_both b x y = true≢false (sym x ∙ y)
 
 pub one_number : (taken : List ℕ → Bool) (from m n : ℕ) → IsNextFree taken from m → IsNextFree taken from n → m ≡ n
 one_number taken from m n x y =
-    ⊎_elim (λ (less : m < n). absurd (not_both (taken (unnamed_label m)) (y.before m x.from less) x.free))
-    (λ (h : (m ≡ n) ⊎ (n < m)). ⊎_elim (λ (e : m ≡ n). e) (λ (more : n < m). absurd (not_both (taken (unnamed_label n)) (x.before n y.from more) y.free)) h)
+    ⊎_elim (λ (less : m < n). absurd (not_both (taken (unnamed_label m)) (y.before m x.least less) x.free))
+    (λ (h : (m ≡ n) ⊎ (n < m)). ⊎_elim (λ (e : m ≡ n). e) (λ (more : n < m). absurd (not_both (taken (unnamed_label n)) (x.before n y.least more) y.free)) h)
     (three m n)
   where
     three : (m n : ℕ) → (m < n) ⊎ ((m ≡ n) ⊎ (n < m))
@@ -89,20 +89,20 @@ pub once-type : (scope : Scope) (node : Term) (d : Data) → Once (WalksType sco
 once-type scope node null a b c x y = absurd x
 once-type scope node (boolean w) a b c x y = absurd x
 once-type scope node (number n) a b c x y = absurd x
-once-type scope node (string text) a b c (o, named, said) (o', named', said') = said ∙ ap (λ t. saying node _ t a) (one_name scope.base text o o' named named') ∙ sym said'
+once-type scope node (string text) a b c (o, named, said) (o', named', said') = said ∙ ap (λ t. saying node rdf_type t a) (one_name scope.base text o o' named named') ∙ sym said'
 once-type scope node (array ds) a b c x y = absurd x
 once-type scope node (object ms) a b c x y = absurd x
 
 pub once-each_type : (scope : Scope) (node : Term) (ds : Items) → Once (WalksEachType scope node ds)
-once-each_type scope node no_items = once-same
-once-each_type scope node (item d ds) = once-then (WalksType scope node d) (WalksEachType scope node ds) (once-type scope node d) (once-each_type scope node ds)
+once-each_type scope node no_items a b c x y = once-same a b c x y
+once-each_type scope node (item d ds) a b c x y = (once-then (WalksType scope node d) (WalksEachType scope node ds) (once-type scope node d) (once-each_type scope node ds)) a b c x y
 
 pub once-types : (scope : Scope) (node : Term) (d : Data) → Once (WalksTypes scope node d)
 once-types scope node null a b c x y = absurd x
 once-types scope node (boolean w) a b c x y = absurd x
 once-types scope node (number n) a b c x y = absurd x
-once-types scope node (string text) = once-type scope node (string text)
-once-types scope node (array ds) = once-each_type scope node ds
+once-types scope node (string text) a b c x y = (once-type scope node (string text)) a b c x y
+once-types scope node (array ds) a b c x y = (once-each_type scope node ds) a b c x y
 once-types scope node (object ms) a b c x y = absurd x
 
 -- ---- literals
@@ -145,6 +145,17 @@ once-literal s p ms a b c (o, lit, said) (o', lit', said') = said ∙ ap (λ t. 
 
 -- ---- values
 
+once-object_with : (scope : Scope) (s : Term) (p : List ℕ) (ms : Members) (L : State → State → Type 0) (M : Term → State → State → Type 0) → Once L → ((node : Term) → Once (M node)) → Once (ObjectWith scope s p ms L M)
+once-object_with scope s p ms L M l m =
+    let Node : State → State → Type 0 = NodeWith scope s p ms M in
+    let node : Once Node = once-picks (λ node. IsNodeOf scope ms node) (λ node. Then (Says s p node) (M node)) (picks-node scope (get_member (codes "@id") ms)) (λ node. once-then (Says s p node) (M node) (once-says s p node) (m node)) in
+    once-choose (has (codes "@value") ms) (WalksLiteral s p ms) (λ a b. Choose (has (codes "@list") ms) (L a b) (Node a b)) (once-literal s p ms)
+    (once-choose (has (codes "@list") ms) L Node l node)
+
+once-member_with : (scope : Scope) (node : Term) (key : List ℕ) (d : Data) (V : State → State → Type 0) → Once V → Once (MemberWith scope node key d V)
+once-member_with scope node key d V v = once-choose (bytes_eq key (codes "@id")) (λ a b. b ≡ a) (λ a b. Choose (bytes_eq key (codes "@type")) (WalksTypes scope node d a b) (IsAbsolute key × V a b)) once-same
+    (once-choose (bytes_eq key (codes "@type")) (WalksTypes scope node d) (λ a b. IsAbsolute key × V a b) (once-types scope node d) (λ a b c x y. v a b c x.1 y.1))
+
 mutual
   pub once-value : (scope : Scope) (s : Term) (p : List ℕ) (d : Data) → Once (WalksValue scope s p d)
   once-value scope s p null a b c x y = absurd x
@@ -152,11 +163,7 @@ mutual
   once-value scope s p (number n) a b c x y = absurd x
   once-value scope s p (string text) a b c x y = absurd x
   once-value scope s p (array ds) a b c x y = absurd x
-  once-value scope s p (object ms) = once-object scope s p ms
-
-  pub once-object : (scope : Scope) (s : Term) (p : List ℕ) (ms : Members) → Once (WalksObject scope s p ms)
-  once-object scope s p ms = once-choose (has (codes "@value") ms) (WalksLiteral s p ms) _ (once-literal s p ms)
-      (once-choose (has (codes "@list") ms) (WalksList scope s p ms) (WalksNode scope s p ms) (once-list scope s p ms) (once-node scope s p ms))
+  once-value scope s p (object ms) a b c x y = (once-object_with scope s p ms (WalksList scope s p ms) (λ node. WalksMembers scope node ms) (once-list scope s p ms) (λ node. once-members scope node ms)) a b c x y
 
   pub once-list : (scope : Scope) (s : Term) (p : List ℕ) (ms : Members) → Once (WalksList scope s p ms)
   once-list scope s p no_members a b c x y = absurd x
@@ -164,39 +171,37 @@ mutual
   once-list scope s p (member key (boolean t) no_members) a b c x y = absurd x
   once-list scope s p (member key (number n) no_members) a b c x y = absurd x
   once-list scope s p (member key (string text) no_members) a b c x y = absurd x
-  once-list scope s p (member key (array ds) no_members) = once-cells scope s p ds
+  once-list scope s p (member key (array ds) no_members) a b c x y = (once-cells scope s p ds) a b c x y
   once-list scope s p (member key (object ns) no_members) a b c x y = absurd x
   once-list scope s p (member key d (member l e ms)) a b c x y = absurd x
 
   pub once-cells : (scope : Scope) (s : Term) (p : List ℕ) (ds : Items) → Once (WalksCells scope s p ds)
-  once-cells scope s p no_items = once-says s p _
-  once-cells scope s p (item d ds) = once-picks (λ cell. IsUnnamed scope cell) _ (picks-unnamed scope)
-      (λ cell. once-then (Says s p cell) _ (once-says s p cell) (once-then (WalksValue scope cell _ d) (WalksCells scope cell _ ds) (once-value scope cell _ d) (once-cells scope cell _ ds)))
+  once-cells scope s p no_items a b c x y = once-says s p (Iri rdf_nil) a b c x y
+  once-cells scope s p (item d ds) a b c x y =
+      let S : Term → State → State → Type 0 = λ cell. Then (Says s p cell) (Then (WalksValue scope cell rdf_first d) (WalksCells scope cell rdf_rest ds)) in
+      let once : (cell : Term) → Once (S cell) = λ cell. once-then (Says s p cell) (Then (WalksValue scope cell rdf_first d) (WalksCells scope cell rdf_rest ds)) (once-says s p cell)
+      (once-then (WalksValue scope cell rdf_first d) (WalksCells scope cell rdf_rest ds) (once-value scope cell rdf_first d) (once-cells scope cell rdf_rest ds)) in
+      once-picks (λ cell. IsUnnamed scope cell) S (picks-unnamed scope) once a b c x y
 
-  pub once-node : (scope : Scope) (s : Term) (p : List ℕ) (ms : Members) → Once (WalksNode scope s p ms)
-  once-node scope s p ms = once-picks (λ node. IsNodeOf scope ms node) _ (picks-node scope (get_member (codes "@id") ms))
-      (λ node. once-then (Says s p node) (WalksMembers scope node ms) (once-says s p node) (once-properties scope node ms))
-
-  pub once-properties : (scope : Scope) (node : Term) (ms : Members) → Once (WalksMembers scope node ms)
-  once-properties scope node no_members = once-same
-  once-properties scope node (member key d ms) = once-then (WalksMember scope node key d) (WalksMembers scope node ms) (once-property scope node key d) (once-properties scope node ms)
-
-  pub once-property : (scope : Scope) (node : Term) (key : List ℕ) (d : Data) → Once (WalksMember scope node key d)
-  once-property scope node key d = once-choose (bytes_eq key (codes "@id")) (λ a b. b ≡ a) _ once-same
-      (once-choose (bytes_eq key (codes "@type")) (WalksTypes scope node d) (λ a b. IsAbsolute key × WalksValues scope node key d a b) (once-types scope node d)
-      (λ a b c x y. once-values scope node key d a b c x.1 y.1))
+  pub once-members : (scope : Scope) (node : Term) (ms : Members) → Once (WalksMembers scope node ms)
+  once-members scope node no_members a b c x y = (once-same) a b c x y
+  once-members scope node (member key d ms) a b c x y = once-then (MemberWith scope node key d (WalksValues scope node key d)) (WalksMembers scope node ms)
+      (once-member_with scope node key d (WalksValues scope node key d) (once-values scope node key d)) (once-members scope node ms) a b c x y
 
   pub once-values : (scope : Scope) (s : Term) (p : List ℕ) (d : Data) → Once (WalksValues scope s p d)
   once-values scope s p null a b c x y = absurd x
   once-values scope s p (boolean w) a b c x y = absurd x
   once-values scope s p (number n) a b c x y = absurd x
   once-values scope s p (string text) a b c x y = absurd x
-  once-values scope s p (array ds) = once-each_value scope s p ds
-  once-values scope s p (object ms) = once-object scope s p ms
+  once-values scope s p (array ds) a b c x y = (once-each_value scope s p ds) a b c x y
+  once-values scope s p (object ms) a b c x y = (once-object_with scope s p ms (WalksList scope s p ms) (λ node. WalksMembers scope node ms) (once-list scope s p ms) (λ node. once-members scope node ms)) a b c x y
 
   pub once-each_value : (scope : Scope) (s : Term) (p : List ℕ) (ds : Items) → Once (WalksEachValue scope s p ds)
-  once-each_value scope s p no_items = once-same
-  once-each_value scope s p (item d ds) = once-then (WalksValue scope s p d) (WalksEachValue scope s p ds) (once-value scope s p d) (once-each_value scope s p ds)
+  once-each_value scope s p no_items a b c x y = (once-same) a b c x y
+  once-each_value scope s p (item d ds) a b c x y = (once-then (WalksValue scope s p d) (WalksEachValue scope s p ds) (once-value scope s p d) (once-each_value scope s p ds)) a b c x y
+
+pub once-member : (scope : Scope) (node : Term) (key : List ℕ) (d : Data) → Once (WalksMember scope node key d)
+once-member scope node key d = once-member_with scope node key d (WalksValues scope node key d) (once-values scope node key d)
 
 -- ---- documents
 
@@ -206,16 +211,16 @@ once-node_object scope (boolean w) a b c x y = absurd x
 once-node_object scope (number n) a b c x y = absurd x
 once-node_object scope (string text) a b c x y = absurd x
 once-node_object scope (array ds) a b c x y = absurd x
-once-node_object scope (object ms) = once-picks (λ node. IsNodeOf scope ms node) (λ node. WalksMembers scope node ms) (picks-node scope (get_member (codes "@id") ms)) (λ node. once-properties scope node ms)
+once-node_object scope (object ms) a b c x y = (once-picks (λ node. IsNodeOf scope ms node) (λ node. WalksMembers scope node ms) (picks-node scope (get_member (codes "@id") ms)) (λ node. once-members scope node ms)) a b c x y
 
 pub once-each_node_object : (scope : Scope) (ds : Items) → Once (WalksEachNodeObject scope ds)
-once-each_node_object scope no_items = once-same
-once-each_node_object scope (item d ds) = once-then (WalksNodeObject scope d) (WalksEachNodeObject scope ds) (once-node_object scope d) (once-each_node_object scope ds)
+once-each_node_object scope no_items a b c x y = (once-same) a b c x y
+once-each_node_object scope (item d ds) a b c x y = (once-then (WalksNodeObject scope d) (WalksEachNodeObject scope ds) (once-node_object scope d) (once-each_node_object scope ds)) a b c x y
 
 pub once-document : (scope : Scope) (d : Data) → Once (WalksDocument scope d)
 once-document scope null a b c x y = absurd x
 once-document scope (boolean w) a b c x y = absurd x
 once-document scope (number n) a b c x y = absurd x
 once-document scope (string text) a b c x y = absurd x
-once-document scope (array ds) = once-each_node_object scope ds
-once-document scope (object ms) = once-node_object scope (object ms)
+once-document scope (array ds) a b c x y = (once-each_node_object scope ds) a b c x y
+once-document scope (object ms) a b c x y = (once-node_object scope (object ms)) a b c x y

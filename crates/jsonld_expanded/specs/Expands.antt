@@ -96,6 +96,26 @@ has key ms = is_some (get_member key ms)
 abbrev pub WalksLiteral : Term → List ℕ → Members → State → State → Type 0
 WalksLiteral s p ms a b = (o : Term) × IsLiteralOf ms o × Says s p o a b
 
+-- a node object as the object, with what its members say
+abbrev pub NodeWith : Scope → Term → List ℕ → Members → (Term → State → State → Type 0)
+    → State → State → Type 0
+NodeWith scope s p ms Says_members a b = (node : Term) × Then (IsNodeOf scope ms node)
+    (Then (Says s p node) (Says_members node)) a b
+
+-- by its keys: a value object, a list object or a node object
+abbrev pub ObjectWith : Scope → Term → List ℕ → Members → (State → State → Type 0)
+    → (Term → State → State → Type 0) → State → State → Type 0
+ObjectWith scope s p ms Lists Says_members a b = Choose (has (codes "@value") ms)
+    (WalksLiteral s p ms a b)
+    (Choose (has (codes "@list") ms) (Lists a b) (NodeWith scope s p ms Says_members a b))
+
+-- a member of a node object, with what the values of a predicate say
+abbrev pub MemberWith : Scope → Term → List ℕ → Data → (State → State → Type 0)
+    → State → State → Type 0
+MemberWith scope node key d Says_values a b = Choose (bytes_eq key (codes "@id")) (b ≡ a)
+    (Choose (bytes_eq key (codes "@type")) (WalksTypes scope node d a b)
+    (IsAbsolute key × Says_values a b))
+
 abbrev mutual
   -- a value of the predicate p of the node s
   pub WalksValue : Scope → Term → List ℕ → Data → State → State → Type 0
@@ -104,12 +124,8 @@ abbrev mutual
   WalksValue scope s p (number n) a b = ⊥
   WalksValue scope s p (string text) a b = ⊥
   WalksValue scope s p (array ds) a b = ⊥
-  WalksValue scope s p (object ms) a b = WalksObject scope s p ms a b
-
-  -- by its keys: a value object, a list object or a node object
-  pub WalksObject : Scope → Term → List ℕ → Members → State → State → Type 0
-  WalksObject scope s p ms a b = Choose (has (codes "@value") ms) (WalksLiteral s p ms a b)
-      (Choose (has (codes "@list") ms) (WalksList scope s p ms a b) (WalksNode scope s p ms a b))
+  WalksValue scope s p (object ms) a b = ObjectWith scope s p ms
+      (λ c d. WalksList scope s p ms c d) (λ node c d. WalksMembers scope node ms c d) a b
 
   -- `@list` alone, with an array
   pub WalksList : Scope → Term → List ℕ → Members → State → State → Type 0
@@ -126,22 +142,15 @@ abbrev mutual
   pub WalksCells : Scope → Term → List ℕ → Items → State → State → Type 0
   WalksCells scope s p no_items a b = Says s p (Iri rdf_nil) a b
   WalksCells scope s p (item d ds) a b = (cell : Term) × Then (IsUnnamed scope cell)
-      (Then (Says s p cell) (Then (WalksValue scope cell rdf_first d) (WalksCells scope cell rdf_rest ds))) a b
-
-  pub WalksNode : Scope → Term → List ℕ → Members → State → State → Type 0
-  WalksNode scope s p ms a b = (node : Term) × Then (IsNodeOf scope ms node)
-      (Then (Says s p node) (WalksMembers scope node ms)) a b
+      (Then (Says s p cell) (Then (λ c e. WalksValue scope cell rdf_first d c e)
+      (λ c e. WalksCells scope cell rdf_rest ds c e))) a b
 
   -- the members of a node object, in byte order of their keys
   pub WalksMembers : Scope → Term → Members → State → State → Type 0
   WalksMembers scope node no_members a b = b ≡ a
   WalksMembers scope node (member key d ms) a b =
-      Then (WalksMember scope node key d) (WalksMembers scope node ms) a b
-
-  pub WalksMember : Scope → Term → List ℕ → Data → State → State → Type 0
-  WalksMember scope node key d a b = Choose (bytes_eq key (codes "@id")) (b ≡ a)
-      (Choose (bytes_eq key (codes "@type")) (WalksTypes scope node d a b)
-      (IsAbsolute key × WalksValues scope node key d a b))
+      Then (MemberWith scope node key d (λ c e. WalksValues scope node key d c e))
+      (λ c e. WalksMembers scope node ms c e) a b
 
   -- a value, or an array of them
   pub WalksValues : Scope → Term → List ℕ → Data → State → State → Type 0
@@ -150,12 +159,21 @@ abbrev mutual
   WalksValues scope s p (number n) a b = ⊥
   WalksValues scope s p (string text) a b = ⊥
   WalksValues scope s p (array ds) a b = WalksEachValue scope s p ds a b
-  WalksValues scope s p (object ms) a b = WalksObject scope s p ms a b
+  WalksValues scope s p (object ms) a b = ObjectWith scope s p ms
+      (λ c d. WalksList scope s p ms c d) (λ node c d. WalksMembers scope node ms c d) a b
 
   pub WalksEachValue : Scope → Term → List ℕ → Items → State → State → Type 0
   WalksEachValue scope s p no_items a b = b ≡ a
-  WalksEachValue scope s p (item d ds) a b =
-      Then (WalksValue scope s p d) (WalksEachValue scope s p ds) a b
+  WalksEachValue scope s p (item d ds) a b = Then (λ c e. WalksValue scope s p d c e)
+      (λ c e. WalksEachValue scope s p ds c e) a b
+
+-- a node object as the object
+abbrev pub WalksNode : Scope → Term → List ℕ → Members → State → State → Type 0
+WalksNode scope s p ms a b = NodeWith scope s p ms (λ node. WalksMembers scope node ms) a b
+
+-- a member of a node object
+abbrev pub WalksMember : Scope → Term → List ℕ → Data → State → State → Type 0
+WalksMember scope node key d a b = MemberWith scope node key d (WalksValues scope node key d) a b
 
 -- a node object by itself
 abbrev pub WalksNodeObject : Scope → Data → State → State → Type 0
@@ -191,7 +209,7 @@ start = record { triples = []; next = 0 }
 pub record ExpandsTo (base : List ℕ) (value : Data) (triples : List Triple) : Type 0 where
   pub end : State
   pub walk : WalksDocument (scope_of base value) value start end
-  pub triples : triples ≡ end.triples
+  pub said : triples ≡ end.triples
 
 -- the value stands for the graph
 pub record Expands (base : List ℕ) (value : Data) (graph : List Triple) : Type 0 where

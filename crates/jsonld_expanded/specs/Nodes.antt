@@ -58,7 +58,7 @@ abbrev mutual
   labels_in_members (member key d ms) = labels_in (names_nodes key) d ++ labels_in_members ms
 
 abbrev pub has_label : List (List ℕ) → List ℕ → Bool
-has_label labels l = list_any (bytes_eq l) labels
+has_label labels l = list_any (λ m. bytes_eq m l) labels
 
 -- `g0`, `g1` and so on
 abbrev pub unnamed_label : ℕ → List ℕ
@@ -66,6 +66,6 @@ unnamed_label n = codes "g" ++ decimal n
 
 -- n is the first number from `from` on whose label isn't taken
 pub record IsNextFree (taken : List ℕ → Bool) (from n : ℕ) : Type 0 where
-  pub from : from ≤ n
+  pub least : from ≤ n
   pub free : taken (unnamed_label n) ≡ false
   pub before : (m : ℕ) → from ≤ m → m < n → taken (unnamed_label m) ≡ true

@@ -5,13 +5,13 @@ use Rattle.rdf_graph.specs.Size.{triples_size}
 use Rattle.rdf_graph.specs.declared.triple.Triple.{Triple}
 use Rattle.serde_json.specs.Data.{Data}
 use Rattle.serde_json.specs.Read.{read}
-use Rattle.jsonld_expanded.specs.declared.TheConstants.{TRIPLES_LIMIT}
+use Rattle.jsonld_expanded.specs.declared.reader.TheConstants.{TRIPLES_LIMIT}
 use Rattle.jsonld_expanded.specs.Expands.{Expands, ExpandsTo}
 
 -- `serde_json` has this value for the bytes
 pub record IsJson (bytes : List ℕ) (value : Data) : Type 0 where
   pub utf8 : IsUtf8 bytes
-  pub value : read bytes ≡ Some value
+  pub reads : read bytes ≡ Some value
 
 -- the bytes are a document of the graph, and its triples are within the limit
 pub record IsDocumentOf (base bytes : List ℕ) (graph : List Triple) : Type 0 where

@@ -1,14 +1,15 @@
 -- What the code keeps of a walk.
-use Rattle.std.specs.Prelude.{◌≡◌, ◌≤◌, ℕ, List, All}
+use Rattle.std.specs.Prelude.{◌≡◌, ◌≤◌, ℕ, List, All, false}
 use Rattle.std.specs.BTreeSet.{contains_text}
 use Rattle.rdf_graph.specs.Size.{saturated, triples_size}
 use Rattle.rdf_graph.specs.Triple.{IsRdf}
 use Rattle.rdf_graph.specs.declared.triple.Triple.{Triple}
 use Rattle.serde_json.specs.Data.{Data}
-use Rattle.jsonld_expanded.specs.declared.TheConstants.{TRIPLES_LIMIT}
+use Rattle.jsonld_expanded.specs.declared.reader.TheConstants.{TRIPLES_LIMIT}
 use Rattle.jsonld_expanded.specs.declared.scope.Scope.{Scope as Kept}
 use Rattle.jsonld_expanded.specs.declared.walk.Walk.{Walk}
 use Rattle.jsonld_expanded.specs.Expands.{ExpandsTo, State, Scope}
+use Rattle.jsonld_expanded.specs.Nodes.{has_label, labels_in}
 
 -- The walk has come to this state: the triples are kept as long as they are within the limit.
 pub record Stands (walk : Walk) (a : State) : Type 0 where
@@ -28,6 +29,15 @@ Refuses R old = (a : State) → Stands old a → (b : State) → R a b → ⊥
 -- what a document's scope stands for
 abbrev pub scope_view : Kept → Scope
 scope_view kept = record { base = kept.base.now; taken = contains_text kept.labels }
+
+-- the set has the labels of the document
+abbrev pub HasLabelsOf : Kept → Data → Type 0
+HasLabelsOf kept value = (l : List ℕ) → contains_text kept.labels l
+    ≡ has_label (labels_in false value) l
+
+-- no walk over the value comes to an end
+abbrev pub HasNoWalk : List ℕ → Data → Type 0
+HasNoWalk base value = (triples : List Triple) → ExpandsTo base value triples → ⊥
 
 -- the whole walk over the value
 pub record IsWalkOf (base : List ℕ) (value : Data) (walk : Walk) : Type 0 where

@@ -1,8 +1,8 @@
 //! Why a document has no graph.
 
 ghost use Rattle.std.specs.Prelude.{◌≡◌};
-ghost use Rattle.jsonld_expanded.specs.declared.fault.JsonLdFault.TheVariants as Fault;
 ghost use Rattle.jsonld_expanded.specs.declared.fault.Refusal.TheVariants as Refusal;
+ghost use Rattle.iri_ref.specs.declared.iri.IriFault.TheVariants as IriFault;
 
 use iri_ref::IriFault;
 use pod_base::NoMemory;
@@ -50,7 +50,9 @@ impl From<AllocError> for Refusal {
 }
 
 /// The refusal where an IRI was wanted and there is none.
-pub(crate) fn refusal_of(fault: IriFault) -> Refusal {
+pub(crate) fn refusal_of(fault: IriFault) -> Refusal
+    ensures { result ≡ Refusal.OutOfProfile → fault ≡ IriFault.BadReference }
+{
     match fault {
         IriFault::BadReference => Refusal::OutOfProfile,
         IriFault::NoMemory => Refusal::NoMemory,

@@ -1,6 +1,6 @@
 //! The labels of a document, which its unnamed nodes don't get.
 
-ghost use Rattle.std.specs.Prelude.{◌≡◌, ◌||◌, ℕ, List, OnOk};
+ghost use Rattle.std.specs.Prelude.{◌≡◌, ◌||◌, ◌++◌, ℕ, List, codes, IfSome, IfNone, OnOk};
 ghost use Rattle.std.specs.BTreeSet.{contains_text};
 ghost use Rattle.serde_json.specs.View.{view, items_view, members_view};
 ghost use Rattle.jsonld_expanded.specs.Nodes.{has_label, labels_in, labels_in_items};
@@ -14,12 +14,20 @@ use std::collections::BTreeSet;
 /// Labels of a document.
 pub(crate) type Labels = BTreeSet<String>;
 
+/// What a text has after `_:`, if it begins so.
+pub(crate) fn after_mark(text: &str) -> Option<&str>
+    ensures some { IfSome result (λ l. text.now ≡ codes "_:" ++ l.now) }
+    ensures none { IfNone result ((l : List ℕ) → text.now ≡ codes "_:" ++ l → ⊥) }
+{
+    text.strip_prefix("_:")
+}
+
 /// Puts in what a text has after `_:`, if it begins so.
 fn insert_text(alloc: Global, labels: &mut Labels, text: &str) -> Mem<()>
     ensures { OnOk result ((l : List ℕ) → contains_text labels.new l
         ≡ (contains_text labels.old l || has_label (labels_of_text text.now) l)) }
 {
-    match text.strip_prefix("_:") {
+    match after_mark(text) {
         None => Ok(()),
         Some(label) => {
             let label = String::from_str(alloc, label)?;

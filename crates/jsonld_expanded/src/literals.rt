@@ -1,6 +1,6 @@
 //! The literals of value objects.
 
-ghost use Rattle.std.specs.Prelude.{◌≡◌, map, length, option_map, option_and_then, IfOk, IsErrOf};
+ghost use Rattle.std.specs.Prelude.{◌≡◌, codes, map, length, Some, None, option_map, option_and_then, IfOk, IsErrOf};
 ghost use Rattle.std.specs.Char.{to_ascii_lowercase};
 ghost use Rattle.iri_ref.specs.Components.{IsAbsolute};
 ghost use Rattle.rdf_graph.specs.declared.term.Term.{Term};
@@ -8,7 +8,7 @@ ghost use Rattle.rdf_graph.specs.declared.term.Term.TheVariants as Terms;
 ghost use Rattle.serde_json.specs.Data.{object as object_of, number as number_data};
 ghost use Rattle.serde_json.specs.Find.{as_str, get};
 ghost use Rattle.serde_json.specs.View.{view, members_view, number_view};
-ghost use Rattle.jsonld_expanded.specs.Literals.{IsLiteralOf, IsPlain};
+ghost use Rattle.jsonld_expanded.specs.Literals.{IsLiteralOf, IsPlain, text_at};
 ghost use Rattle.jsonld_expanded.specs.declared.fault.Refusal.TheVariants as Refusal;
 
 use crate::fault::{Refusal, refusal_of};
@@ -90,6 +90,47 @@ impl<'a> Scope<'a> {
         }
     }
 
+    /// The literal of a string with a language tag, and without a datatype.
+    fn tagged(
+        &self,
+        object: &Value,
+        members: &Map<String, Value>,
+        lexical: &str,
+    ) -> Result<Term, Refusal>
+        requires members { view object.now ≡ object_of (members_view members.now.entries) }
+        requires two { length members.now.entries ≡ 2 }
+        requires value { text_at (codes "@value") (members_view members.now.entries)
+            ≡ Some lexical.now }
+        requires no_type { text_at (codes "@type") (members_view members.now.entries) ≡ None }
+        ensures literal { IfOk result (IsLiteralOf (members_view members.now.entries)) }
+        ensures out { IsErrOf result Refusal.OutOfProfile
+            → (t : Term) → IsLiteralOf (members_view members.now.entries) t → ⊥ }
+    {
+        match text_at(object, "@language") {
+            None => Err(Refusal::OutOfProfile),
+            Some(lang) => {
+                if !is_lang_tag(lang) {
+                    return Err(Refusal::OutOfProfile);
+                }
+                Ok(tagged(self.alloc, lexical, lang)?)
+            }
+        }
+    }
+
+    /// The literal of `@value` alone.
+    fn alone(&self, object: &Value, members: &Map<String, Value>) -> Result<Term, Refusal>
+        requires members { view object.now ≡ object_of (members_view members.now.entries) }
+        requires one { length members.now.entries ≡ 1 }
+        ensures literal { IfOk result (IsLiteralOf (members_view members.now.entries)) }
+        ensures out { IsErrOf result Refusal.OutOfProfile
+            → (t : Term) → IsLiteralOf (members_view members.now.entries) t → ⊥ }
+    {
+        match object.get("@value") {
+            Some(value) => self.plain(value),
+            None => Err(Refusal::OutOfProfile),
+        }
+    }
+
     /// The literal of a string with a datatype or a language tag.
     fn qualified(&self, object: &Value, members: &Map<String, Value>) -> Result<Term, Refusal>
         requires members { view object.now ≡ object_of (members_view members.now.entries) }
@@ -98,15 +139,12 @@ impl<'a> Scope<'a> {
         ensures out { IsErrOf result Refusal.OutOfProfile
             → (t : Term) → IsLiteralOf (members_view members.now.entries) t → ⊥ }
     {
-        let Some(lexical) = text_at(object, "@value") else {
-            return Err(Refusal::OutOfProfile);
-        };
-        if let Some(datatype) = text_at(object, "@type") {
-            return self.typed(lexical, datatype);
-        }
-        match text_at(object, "@language") {
-            Some(lang) if is_lang_tag(lang) => Ok(tagged(self.alloc, lexical, lang)?),
-            _ => Err(Refusal::OutOfProfile),
+        match text_at(object, "@value") {
+            None => Err(Refusal::OutOfProfile),
+            Some(lexical) => match text_at(object, "@type") {
+                Some(datatype) => self.typed(lexical, datatype),
+                None => self.tagged(object, members, lexical),
+            },
         }
     }
 
@@ -121,13 +159,13 @@ impl<'a> Scope<'a> {
         ensures out { IsErrOf result Refusal.OutOfProfile
             → (t : Term) → IsLiteralOf (members_view members.now.entries) t → ⊥ }
     {
-        match members.len() {
-            1 => match object.get("@value") {
-                Some(value) => self.plain(value),
-                None => Err(Refusal::OutOfProfile),
-            },
-            2 => self.qualified(object, members),
-            _ => Err(Refusal::OutOfProfile),
+        let count = members.len();
+        if count == 1 {
+            return self.alone(object, members);
         }
+        if count == 2 {
+            return self.qualified(object, members);
+        }
+        Err(Refusal::OutOfProfile)
     }
 }

@@ -1,7 +1,6 @@
 //! Nodes: those that a document names, and those that it leaves unnamed.
 
-ghost use Rattle.std.specs.Prelude.{◌≡◌, ◌++◌, ℕ, List, codes, decimal, IfOk, IfSome, IfNone, IsErrOf, OnOk};
-ghost use Rattle.std.specs.Option.{option_copied};
+ghost use Rattle.std.specs.Prelude.{◌≡◌, ℕ, List, codes, string_bytes, IfOk, IfSome, IfNone, IsErrOf, OnOk};
 ghost use Rattle.std.specs.BTreeSet.{contains_text};
 ghost use Rattle.rdf_graph.specs.Term.{IsLiteral};
 ghost use Rattle.rdf_graph.specs.declared.term.Term.{Term};
@@ -13,6 +12,7 @@ ghost use Rattle.jsonld_expanded.specs.Walks.{Advances, Refuses, scope_view};
 ghost use Rattle.jsonld_expanded.specs.declared.fault.Refusal.TheVariants as Refusal;
 
 use crate::fault::{Refusal, refusal_of};
+use crate::labels::after_mark;
 use crate::scope::Scope;
 use crate::walk::Walk;
 use iri_ref::resolve;
@@ -27,7 +27,7 @@ fn label_of(text: &str) -> Option<&str>
     ensures some { IfSome result (λ l. IsLabelled text.now l.now) }
     ensures none { IfNone result ((l : List ℕ) → IsLabelled text.now l → ⊥) }
 {
-    match text.strip_prefix("_:") {
+    match after_mark(text) {
         None => None,
         Some(label) => if is_label(label) { Some(label) } else { None },
     }
@@ -47,13 +47,15 @@ impl<'a> Scope<'a> {
         ensures out { IsErrOf result Refusal.OutOfProfile
             → (t : Term) → IsNamed self.now.base.now text.now t → ⊥ }
     {
-        if let Some(label) = label_of(text) {
-            let label = Text::of(self.alloc, label)?;
-            return Ok(Term::Blank(label));
-        }
-        match resolve(self.alloc, self.base, text) {
-            Ok(iri) => Ok(Term::Iri(iri)),
-            Err(fault) => Err(refusal_of(fault)),
+        match label_of(text) {
+            Some(label) => {
+                let label = Text::of(self.alloc, label)?;
+                Ok(Term::Blank(label))
+            }
+            None => match resolve(self.alloc, self.base, text) {
+                Ok(iri) => Ok(Term::Iri(iri)),
+                Err(fault) => Err(refusal_of(fault)),
+            },
         }
     }
 

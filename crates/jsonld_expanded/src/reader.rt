@@ -1,14 +1,10 @@
 //! Reading a document.
 
-ghost use Rattle.std.specs.Prelude.{◌≡◌, ◌<◌, ◌≤◌, ℕ, List, false, All, IfOk, OnOk, IsErrOf};
-ghost use Rattle.std.specs.BTreeSet.{contains_text};
+ghost use Rattle.std.specs.Prelude.{◌≡◌, ◌<◌, ◌≤◌, All, IfOk, OnOk, IsErrOf};
 ghost use Rattle.rdf_graph.specs.Graph.{SameSet};
 ghost use Rattle.rdf_graph.specs.Triple.{IsRdf};
-ghost use Rattle.rdf_graph.specs.declared.triple.Triple.{Triple};
 ghost use Rattle.serde_json.specs.View.{view};
-ghost use Rattle.jsonld_expanded.specs.Expands.{ExpandsTo};
-ghost use Rattle.jsonld_expanded.specs.Nodes.{has_label, labels_in};
-ghost use Rattle.jsonld_expanded.specs.Walks.{IsWalkOf};
+ghost use Rattle.jsonld_expanded.specs.Walks.{HasLabelsOf, HasNoWalk, IsWalkOf};
 ghost use Rattle.jsonld_expanded.specs.declared.fault.Refusal.TheVariants as Refusal;
 ghost use Rattle.jsonld_expanded.specs.declared.fault.JsonLdFault.TheVariants as JsonLdFault;
 ghost use Rattle.jsonld_expanded.specs.Outcomes.{IsDocumentOf, IsJson, IsNotJson, IsOutOfProfile};
@@ -68,8 +64,7 @@ fn json_of(alloc: Global, bytes: &[u8]) -> Result<Value, JsonLdFault>
 /// What a walk over the value depends on.
 fn scope_of<'a>(alloc: Global, base: &'a Iri, value: &Value) -> Mem<Scope<'a>>
     ensures base { IfOk result (λ s. s.base.now ≡ base.now) }
-    ensures labels { IfOk result (λ s. (l : List ℕ) → contains_text s.labels l
-        ≡ has_label (labels_in false (view value.now)) l) }
+    ensures labels { IfOk result (λ s. HasLabelsOf s (view value.now)) }
 {
     let mut labels: Labels = BTreeSet::new(alloc);
     insert_labels(alloc, &mut labels, false, value)?;
@@ -85,8 +80,7 @@ fn scope_of<'a>(alloc: Global, base: &'a Iri, value: &Value) -> Mem<Scope<'a>>
 /// The whole walk over a JSON value.
 fn walk_of(alloc: Global, base: &Iri, value: &Value) -> Result<Walk, Refusal>
     ensures walked { IfOk result (IsWalkOf base.now (view value.now)) }
-    ensures out { IsErrOf result Refusal.OutOfProfile → (ts : List Triple)
-        → ExpandsTo base.now (view value.now) ts → ⊥ }
+    ensures out { IsErrOf result Refusal.OutOfProfile → HasNoWalk base.now (view value.now) }
 {
     let scope = scope_of(alloc, base, value)?;
     let mut walk = Walk::new(alloc);

@@ -71,9 +71,10 @@ impl Walk {
     {
         let triple = triple_of(alloc, s, p, o)?;
         self.size = saturating_sum(self.size, triple.encoded_size());
-        if self.size <= TRIPLES_LIMIT {
-            self.triples.push(triple)?;
+        if self.size > TRIPLES_LIMIT {
+            return Ok(());
         }
+        self.triples.push(triple)?;
         Ok(())
     }
 }
