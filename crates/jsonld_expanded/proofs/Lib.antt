@@ -4,3 +4,5 @@ pub mod Steps
 pub mod LabelSets
 pub mod Kept
 pub mod LiteralCases
+pub mod Objects
+pub mod Readings

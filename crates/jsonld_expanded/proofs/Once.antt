@@ -9,7 +9,7 @@ use Rattle.serde_json.specs.Find.{get_member}
 use Rattle.iri_ref.proofs.Resolving.{references_resolve_uniquely}
 use Rattle.jsonld_expanded.specs.Literals.{IsPlain, IsPlainObject, IsTypedObject, IsTaggedObject, IsLiteralOf, text_at}
 use Rattle.jsonld_expanded.specs.Nodes.{IsNamed, IsLabelled, IsNextFree, unnamed_label}
-use Rattle.jsonld_expanded.specs.Expands.{State, Scope, Then, Choose, Says, IsUnnamed, IsNodeBy, IsNodeOf, NodeWith, ObjectWith, MemberWith, WalksType, WalksEachType, WalksTypes, WalksLiteral, WalksValue, WalksList, WalksCells, WalksMembers, WalksMember, WalksValues, WalksEachValue, WalksNodeObject, WalksEachNodeObject, WalksDocument, has, saying}
+use Rattle.jsonld_expanded.specs.Expands.{State, Scope, Then, Choose, Says, IsUnnamed, IsNodeBy, IsNodeOf, NodeWith, ObjectWith, MemberWith, WalksType, WalksEachType, WalksTypes, WalksLiteral, WalksValue, WalksList, WalksArray, WalksCells, WalksMembers, WalksMember, WalksValues, WalksEachValue, WalksNodeObject, WalksEachNodeObject, WalksDocument, has, saying}
 use Rattle.iri_ref.specs.Components.{IsAbsolute}
 use Rattle.jsonld_expanded.specs.Vocabulary.{rdf_type, rdf_first, rdf_rest, rdf_nil}
 
@@ -167,13 +167,15 @@ mutual
 
   pub once-list : (scope : Scope) (s : Term) (p : List ℕ) (ms : Members) → Once (WalksList scope s p ms)
   once-list scope s p no_members a b c x y = absurd x
-  once-list scope s p (member key null no_members) a b c x y = absurd x
-  once-list scope s p (member key (boolean t) no_members) a b c x y = absurd x
-  once-list scope s p (member key (number n) no_members) a b c x y = absurd x
-  once-list scope s p (member key (string text) no_members) a b c x y = absurd x
-  once-list scope s p (member key (array ds) no_members) a b c x y = (once-cells scope s p ds) a b c x y
-  once-list scope s p (member key (object ns) no_members) a b c x y = absurd x
-  once-list scope s p (member key d (member l e ms)) a b c x y = absurd x
+  once-list scope s p (member key d ms) a b c x y = once-array scope s p d a b c x.1 y.1
+
+  pub once-array : (scope : Scope) (s : Term) (p : List ℕ) (d : Data) → Once (WalksArray scope s p d)
+  once-array scope s p null a b c x y = absurd x
+  once-array scope s p (boolean t) a b c x y = absurd x
+  once-array scope s p (number n) a b c x y = absurd x
+  once-array scope s p (string text) a b c x y = absurd x
+  once-array scope s p (array ds) a b c x y = once-cells scope s p ds a b c x y
+  once-array scope s p (object ms) a b c x y = absurd x
 
   pub once-cells : (scope : Scope) (s : Term) (p : List ℕ) (ds : Items) → Once (WalksCells scope s p ds)
   once-cells scope s p no_items a b c x y = once-says s p (Iri rdf_nil) a b c x y

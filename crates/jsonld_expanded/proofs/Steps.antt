@@ -1,8 +1,9 @@
 -- Steps of a walk in the code, one after another.
-use Rattle.std.proofs.Common.{◌≡◌, refl, sym, subst}
+use Rattle.std.proofs.Common.{◌≡◌, Bool, true, false, Result, Ok, Err, refl, sym, ap, ◌∙◌, subst}
+use Rattle.std.specs.Result.{IsErrAnd, IsErrOf}
 use Rattle.rdf_graph.specs.declared.term.Term.{Term}
 use Rattle.jsonld_expanded.specs.declared.walk.Walk.{Walk}
-use Rattle.jsonld_expanded.specs.Expands.{State, Then}
+use Rattle.jsonld_expanded.specs.Expands.{Choose, State, Then}
 use Rattle.jsonld_expanded.specs.Walks.{Advances, Refuses, Stands}
 use Rattle.jsonld_expanded.proofs.Once.{Once, PicksOnce}
 
@@ -61,3 +62,35 @@ leads-pick R P S t u v w leads once p = record {
   ok = λ x s. leads.ok x (advance-pick P S t v w x p s);
   out = λ s. leads.out (refuse-picked P S t v w once p s);
 }
+
+-- a step that a test chooses
+pub advance-true : (test : Bool) (A B : State → State → Type 0) (u v : Walk) → test ≡ true → Advances A u v → Advances (λ a b. Choose test (A a b) (B a b)) u v
+advance-true true A B u v e h = h
+advance-true false A B u v e h = absurd cc
+
+pub advance-false : (test : Bool) (A B : State → State → Type 0) (u v : Walk) → test ≡ false → Advances B u v → Advances (λ a b. Choose test (A a b) (B a b)) u v
+advance-false true A B u v e h = absurd cc
+advance-false false A B u v e h = h
+
+pub refuse-true : (test : Bool) (A B : State → State → Type 0) (u : Walk) → test ≡ true → Refuses A u → Refuses (λ a b. Choose test (A a b) (B a b)) u
+refuse-true true A B u e h = h
+refuse-true false A B u e h = absurd cc
+
+pub refuse-false : (test : Bool) (A B : State → State → Type 0) (u : Walk) → test ≡ false → Refuses B u → Refuses (λ a b. Choose test (A a b) (B a b)) u
+refuse-false true A B u e h = absurd cc
+refuse-false false A B u e h = h
+
+-- a step under a condition
+pub advance-if : (P : Type 0) (R : State → State → Type 0) (u v : Walk) → P → Advances R u v → Advances (λ a b. P × R a b) u v
+advance-if P R u v p r a h = let x = r a h in (x.0, (p, x.1), x.2)
+
+pub refuse-if : (P : Type 0) (R : State → State → Type 0) (u : Walk) → Refuses R u → Refuses (λ a b. P × R a b) u
+refuse-if P R u r a h b x = r a h b x.1
+
+pub refuse-not : (P : Type 0) (R : State → State → Type 0) (u : Walk) → (P → ⊥) → Refuses (λ a b. P × R a b) u
+refuse-not P R u none a h b x = none x.0
+
+-- a fault that `?` hands on is the callee's
+pub handed : {S T E : Type 0} (r : Result T E) (e f : E) → IsErrAnd r (λ x. x ≡ e) → IsErrOf r f → IsErrOf {T = S} (Err e) f
+handed (Ok x) e f h k = absurd h
+handed (Err x) e f h k = let same : e ≡ f = cc in ap (λ y. Err y) same

@@ -10,6 +10,7 @@ use Rattle.rdf_graph.specs.declared.term.Term.TheVariants.{Iri, Blank}
 use Rattle.rdf_graph.specs.declared.triple.Triple.{Triple}
 use Rattle.serde_json.specs.Data.{Data, null, boolean, number, string, array, object}
 use Rattle.serde_json.specs.Data.{Items, no_items, item, Members, no_members, member}
+use Rattle.serde_json.specs.Events.{members_len}
 use Rattle.serde_json.specs.Find.{get_member}
 use Rattle.jsonld_expanded.specs.Literals.{IsLiteralOf}
 use Rattle.jsonld_expanded.specs.Nodes.{IsNamed, IsNextFree, has_label, labels_in, unnamed_label}
@@ -72,13 +73,15 @@ abbrev pub WalksType : Scope → Term → Data → State → State → Type 0
 WalksType scope node null a b = ⊥
 WalksType scope node (boolean t) a b = ⊥
 WalksType scope node (number n) a b = ⊥
-WalksType scope node (string text) a b = (o : Term) × IsNamed scope.base text o × Says node rdf_type o a b
+WalksType scope node (string text) a b =
+    (o : Term) × IsNamed scope.base text o × Says node rdf_type o a b
 WalksType scope node (array ds) a b = ⊥
 WalksType scope node (object ms) a b = ⊥
 
 abbrev pub WalksEachType : Scope → Term → Items → State → State → Type 0
 WalksEachType scope node no_items a b = b ≡ a
-WalksEachType scope node (item d ds) a b = Then (WalksType scope node d) (WalksEachType scope node ds) a b
+WalksEachType scope node (item d ds) a b =
+    Then (WalksType scope node d) (WalksEachType scope node ds) a b
 
 -- the value of a `@type`: a type, or an array of them
 abbrev pub WalksTypes : Scope → Term → Data → State → State → Type 0
@@ -130,13 +133,15 @@ abbrev mutual
   -- `@list` alone, with an array
   pub WalksList : Scope → Term → List ℕ → Members → State → State → Type 0
   WalksList scope s p no_members a b = ⊥
-  WalksList scope s p (member key null no_members) a b = ⊥
-  WalksList scope s p (member key (boolean t) no_members) a b = ⊥
-  WalksList scope s p (member key (number n) no_members) a b = ⊥
-  WalksList scope s p (member key (string text) no_members) a b = ⊥
-  WalksList scope s p (member key (array ds) no_members) a b = WalksCells scope s p ds a b
-  WalksList scope s p (member key (object ns) no_members) a b = ⊥
-  WalksList scope s p (member key d (member l e ms)) a b = ⊥
+  WalksList scope s p (member key d ms) a b = (members_len ms ≡ 0) × WalksArray scope s p d a b
+
+  pub WalksArray : Scope → Term → List ℕ → Data → State → State → Type 0
+  WalksArray scope s p null a b = ⊥
+  WalksArray scope s p (boolean t) a b = ⊥
+  WalksArray scope s p (number n) a b = ⊥
+  WalksArray scope s p (string text) a b = ⊥
+  WalksArray scope s p (array ds) a b = WalksCells scope s p ds a b
+  WalksArray scope s p (object ms) a b = ⊥
 
   -- a cell for each element, as the object of p, and its rest; `rdf:nil` at the end
   pub WalksCells : Scope → Term → List ℕ → Items → State → State → Type 0

@@ -1,6 +1,6 @@
 -- The literals that value objects stand for.
-use Rattle.std.specs.Prelude.{◌≡◌, ◌⊎◌, ◌++◌, ℕ, codes, List, Bool, true, false, map, Option, Some, None}
-use Rattle.std.specs.Prelude.{option_and_then}
+use Rattle.std.specs.Prelude.{◌≡◌, ◌⊎◌, ◌++◌, ℕ, codes, List, Bool, true, false, map, Option, Some}
+use Rattle.std.specs.Prelude.{None, option_and_then}
 use Rattle.std.specs.Char.{to_ascii_lowercase}
 use Rattle.iri_ref.specs.Components.{IsAbsolute}
 use Rattle.turtle_lex.specs.Laws.{IsTextOf}

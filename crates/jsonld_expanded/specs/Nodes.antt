@@ -1,5 +1,5 @@
 -- The nodes of a document: those that it names, and those that it leaves unnamed.
-use Rattle.std.specs.Prelude.{◌≡◌, ◌≤◌, ◌<◌, ◌++◌, ◌||◌, ℕ, suc, codes, decimal, Bool, List, [], ◌∷◌}
+use Rattle.std.specs.Prelude.{◌≡◌, ◌≤◌, ◌<◌, ◌++◌, ◌||◌, ℕ, codes, decimal, Bool, List, [], ◌∷◌}
 use Rattle.std.specs.Prelude.{true, false, if◌then◌else◌, take, drop}
 use Rattle.std.specs.List.{list_any}
 use Rattle.std.specs.Str.{bytes_eq}

@@ -1,7 +1,8 @@
 //! The walk over a document.
 
-ghost use Rattle.std.specs.Prelude.{OnOk, IsErrOf};
-ghost use Rattle.serde_json.specs.View.{view, items_view};
+ghost use Rattle.std.specs.Prelude.{◌≡◌, OnOk, IsErrOf};
+ghost use Rattle.serde_json.specs.Data.{object as object_of};
+ghost use Rattle.serde_json.specs.View.{view, items_view, members_view};
 ghost use Rattle.jsonld_expanded.specs.Expands.{WalksDocument, WalksEachNodeObject};
 ghost use Rattle.jsonld_expanded.specs.Expands.{WalksNodeObject};
 ghost use Rattle.jsonld_expanded.specs.Walks.{Advances, Refuses, scope_view};
@@ -10,9 +11,26 @@ ghost use Rattle.jsonld_expanded.specs.declared.fault.Refusal.TheVariants as Ref
 use crate::fault::Refusal;
 use crate::scope::Scope;
 use crate::walk::Walk;
-use serde_json::Value;
+use serde_json::{Map, Value};
 
 impl<'a> Scope<'a> {
+    /// An object by itself, with these members.
+    fn lone_object(
+        &self,
+        walk: &mut Walk,
+        object: &Value,
+        members: &Map<String, Value>,
+    ) -> Result<(), Refusal>
+        requires { view object.now ≡ object_of (members_view members.now.entries) }
+        ensures ok { OnOk result (Advances (WalksNodeObject (scope_view self.now)
+            (object_of (members_view members.now.entries))) walk.old walk.new) }
+        ensures out { IsErrOf result Refusal.OutOfProfile → Refuses (WalksNodeObject
+            (scope_view self.now) (object_of (members_view members.now.entries))) walk.old }
+    {
+        let node = self.node(walk, object)?;
+        self.properties(walk, &node, members)
+    }
+
     /// A node object by itself.
     fn node_object(&self, walk: &mut Walk, value: &Value) -> Result<(), Refusal>
         ensures ok { OnOk result (Advances
@@ -21,10 +39,7 @@ impl<'a> Scope<'a> {
             (WalksNodeObject (scope_view self.now) (view value.now)) walk.old }
     {
         match value {
-            Value::Object(members) => {
-                let node = self.node(walk, value)?;
-                self.properties(walk, &node, members)
-            }
+            Value::Object(members) => self.lone_object(walk, value, members),
             _ => Err(Refusal::OutOfProfile),
         }
     }
@@ -52,7 +67,8 @@ impl<'a> Scope<'a> {
     {
         match value {
             Value::Array(items) => self.each_node_object(walk, items),
-            _ => self.node_object(walk, value),
+            Value::Object(_members) => self.node_object(walk, value),
+            _ => Err(Refusal::OutOfProfile),
         }
     }
 }

@@ -1,6 +1,7 @@
 //! Why a document has no graph.
 
 ghost use Rattle.std.specs.Prelude.{◌≡◌};
+ghost use Rattle.jsonld_expanded.specs.declared.fault.JsonLdFault.TheVariants as JsonLdFault;
 ghost use Rattle.jsonld_expanded.specs.declared.fault.Refusal.TheVariants as Refusal;
 ghost use Rattle.iri_ref.specs.declared.iri.IriFault.TheVariants as IriFault;
 
@@ -56,5 +57,17 @@ pub(crate) fn refusal_of(fault: IriFault) -> Refusal
     match fault {
         IriFault::BadReference => Refusal::OutOfProfile,
         IriFault::NoMemory => Refusal::NoMemory,
+    }
+}
+
+/// The fault of a document whose walk ends early.
+pub(crate) fn fault_of(refusal: Refusal) -> JsonLdFault
+    ensures out { result ≡ JsonLdFault.OutOfProfile → refusal ≡ Refusal.OutOfProfile }
+    ensures json { result ≡ JsonLdFault.NotJson → ⊥ }
+    ensures small { result ≡ JsonLdFault.TooLarge → ⊥ }
+{
+    match refusal {
+        Refusal::OutOfProfile => JsonLdFault::OutOfProfile,
+        Refusal::NoMemory => JsonLdFault::NoMemory,
     }
 }

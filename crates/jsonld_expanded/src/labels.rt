@@ -71,7 +71,8 @@ fn insert_item_labels(
     items: &Vec<Value>,
 ) -> Mem<()>
     ensures { OnOk result ((l : List ℕ) → contains_text labels.new l
-        ≡ (contains_text labels.old l || has_label (labels_in_items named (items_view items.now.items)) l)) }
+        ≡ (contains_text labels.old l
+        || has_label (labels_in_items named (items_view items.now.items)) l)) }
 {
     for item in items {
         insert_labels(alloc, labels, named, item)?;
@@ -82,7 +83,8 @@ fn insert_item_labels(
 #[cycle(labels)]
 fn insert_member_labels(alloc: Global, labels: &mut Labels, members: &Map<String, Value>) -> Mem<()>
     ensures { OnOk result ((l : List ℕ) → contains_text labels.new l
-        ≡ (contains_text labels.old l || has_label (labels_in_members (members_view members.now.entries)) l)) }
+        ≡ (contains_text labels.old l
+        || has_label (labels_in_members (members_view members.now.entries)) l)) }
 {
     for (key, member) in members {
         insert_labels(alloc, labels, names_nodes(key.as_str()), member)?;

@@ -1,8 +1,8 @@
-//! Expanded JSON-LD (JSON-LD 1.1, section 9), read into graphs and written from them.
+//! Expanded JSON-LD (JSON-LD 1.1, section 9), read into graphs.
 //!
 //! ```text
-//! let graph = read(&base, br#"[{"@id":"/a","http://e.example/p":[{"@value":"x"}]}]"#)?;
-//! let bytes = write(&graph)?;
+//! let bytes = br#"[{"@id":"/a","http://e.example/p":[{"@value":"x"}]}]"#;
+//! let graph = read(alloc, &base, bytes)?;
 //! ```
 //!
 //! The profile is that of `docs/rules/json-ld.md`: no contexts, no named graphs, whole numbers.

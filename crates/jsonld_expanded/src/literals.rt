@@ -1,6 +1,7 @@
 //! The literals of value objects.
 
-ghost use Rattle.std.specs.Prelude.{◌≡◌, codes, map, length, Some, None, option_map, option_and_then, IfOk, IsErrOf};
+ghost use Rattle.std.specs.Prelude.{◌≡◌, codes, map, length, Some, None, is_some, option_map};
+ghost use Rattle.std.specs.Prelude.{option_and_then, IfOk, IsErrOf};
 ghost use Rattle.std.specs.Char.{to_ascii_lowercase};
 ghost use Rattle.iri_ref.specs.Components.{IsAbsolute};
 ghost use Rattle.rdf_graph.specs.declared.term.Term.{Term};
@@ -23,8 +24,21 @@ use std::alloc::Global;
 use turtle_lex::is_lang_tag;
 
 /// The string at the key.
-fn text_at<'v>(object: &'v Value, key: &str) -> Option<&'v str> {
-    object.get(key).and_then(Value::as_str)
+fn text_at<'v>(object: &'v Value, key: &str) -> Option<&'v str>
+    ensures { option_map (λ s. s.now) result
+        ≡ option_and_then as_str (get key.now (view object.now)) }
+{
+    match object.get(key) {
+        Some(value) => value.as_str(),
+        None => None,
+    }
+}
+
+/// Whether the object has the key.
+pub(crate) fn has_key(object: &Value, key: &str) -> bool
+    ensures { result ≡ is_some (get key.now (view object.now)) }
+{
+    object.get(key).is_some()
 }
 
 /// The literal of this lexical form and datatype.
@@ -80,7 +94,11 @@ impl<'a> Scope<'a> {
     }
 
     /// The literal of a string with a datatype, which is an absolute IRI.
-    fn typed(&self, lexical: &str, datatype: &str) -> Result<Term, Refusal> {
+    fn typed(&self, lexical: &str, datatype: &str) -> Result<Term, Refusal>
+        ensures literal { IfOk result (λ t. IsAbsolute datatype.now
+            × (t ≡ Terms.Literal lexical.now datatype.now)) }
+        ensures out { IsErrOf result Refusal.OutOfProfile → IsAbsolute datatype.now → ⊥ }
+    {
         match Iri::read(self.alloc, datatype) {
             Ok(datatype) => {
                 let lexical = Text::of(self.alloc, lexical)?;

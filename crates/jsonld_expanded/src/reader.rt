@@ -10,7 +10,7 @@ ghost use Rattle.jsonld_expanded.specs.declared.fault.JsonLdFault.TheVariants as
 ghost use Rattle.jsonld_expanded.specs.Outcomes.{IsDocumentOf, IsJson, IsNotJson, IsOutOfProfile};
 ghost use Rattle.jsonld_expanded.specs.Outcomes.{IsTooLarge};
 
-use crate::fault::{JsonLdFault, Refusal};
+use crate::fault::{JsonLdFault, Refusal, fault_of};
 use crate::labels::{Labels, insert_labels};
 use crate::scope::Scope;
 use crate::walk::Walk;
@@ -39,8 +39,7 @@ pub fn read(alloc: Global, base: &Iri, bytes: &[u8]) -> Result<Graph, JsonLdFaul
     let value = json_of(alloc, bytes)?;
     match walk_of(alloc, base, &value) {
         Ok(walk) => graph_of(walk),
-        Err(Refusal::OutOfProfile) => Err(JsonLdFault::OutOfProfile),
-        Err(Refusal::NoMemory) => Err(JsonLdFault::NoMemory),
+        Err(refusal) => Err(fault_of(refusal)),
     }
 }
 

@@ -6,7 +6,8 @@ ghost use Rattle.rdf_graph.specs.declared.term.Term.TheVariants.{Iri as IriTerm}
 ghost use Rattle.serde_json.specs.Data.{object as object_of};
 ghost use Rattle.serde_json.specs.View.{view, items_view, members_view};
 ghost use Rattle.jsonld_expanded.specs.Expands.{WalksType, WalksEachType, WalksTypes, WalksLiteral};
-ghost use Rattle.jsonld_expanded.specs.Expands.{WalksValue, WalksList, WalksCells, WalksNode};
+ghost use Rattle.jsonld_expanded.specs.Expands.{WalksValue, WalksList, WalksArray, WalksCells};
+ghost use Rattle.jsonld_expanded.specs.Expands.{WalksNode};
 ghost use Rattle.jsonld_expanded.specs.Expands.{WalksMembers, WalksMember, WalksValues};
 ghost use Rattle.jsonld_expanded.specs.Expands.{IsUnnamed, Says, Then, WalksEachValue};
 ghost use Rattle.jsonld_expanded.specs.Vocabulary.{rdf_nil};
@@ -14,6 +15,7 @@ ghost use Rattle.jsonld_expanded.specs.Walks.{Advances, Refuses, scope_view};
 ghost use Rattle.jsonld_expanded.specs.declared.fault.Refusal.TheVariants as Refusal;
 
 use crate::fault::{Refusal, refusal_of};
+use crate::literals::has_key;
 use crate::scope::Scope;
 use crate::walk::{Walk, copy_iri};
 use iri_ref::Iri;
@@ -65,7 +67,8 @@ impl<'a> Scope<'a> {
     {
         match value {
             Value::Array(items) => self.each_type(walk, node, items),
-            _ => self.one_type(walk, node, value),
+            Value::String(_text) => self.one_type(walk, node, value),
+            _ => Err(Refusal::OutOfProfile),
         }
     }
 
@@ -101,13 +104,15 @@ impl<'a> Scope<'a> {
     {
         match value {
             Value::Object(members) => {
-                if value.get("@value").is_some() {
+                let is_literal = has_key(value, "@value");
+                if is_literal {
                     return self.literal_value(walk, s, p, value, members);
                 }
-                if value.get("@list").is_some() {
+                let is_list = has_key(value, "@list");
+                if is_list {
                     return self.list_value(walk, s, p, members);
                 }
-                self.node_value(walk, s, p, value, members)
+                self.node_value(walk, s, p, members, value)
             }
             _ => Err(Refusal::OutOfProfile),
         }
@@ -134,7 +139,22 @@ impl<'a> Scope<'a> {
             return Err(Refusal::OutOfProfile);
         }
         match members.iter().next() {
-            Some((_, Value::Array(items))) => self.cells(walk, s, p, items),
+            Some((_key, value)) => self.array_value(walk, s, p, value),
+            None => Err(Refusal::OutOfProfile),
+        }
+    }
+
+    /// The value of `@list`: an array.
+    #[cycle(walk)]
+    fn array_value(&self, walk: &mut Walk, s: &Term, p: &Iri, value: &Value) -> Result<(), Refusal>
+        requires { ¬ IsLiteral s.now }
+        ensures ok { OnOk result (Advances
+            (WalksArray (scope_view self.now) s.now p.now (view value.now)) walk.old walk.new) }
+        ensures out { IsErrOf result Refusal.OutOfProfile → Refuses
+            (WalksArray (scope_view self.now) s.now p.now (view value.now)) walk.old }
+    {
+        match value {
+            Value::Array(items) => self.cells(walk, s, p, items),
             _ => Err(Refusal::OutOfProfile),
         }
     }
@@ -154,8 +174,9 @@ impl<'a> Scope<'a> {
         for item in items {
             let cell = self.cell(walk, &last, &link)?;
             self.value(walk, &cell, &self.words.first, item)?;
+            let next = copy_iri(self.alloc, &self.words.rest)?;
             last = cell;
-            link = copy_iri(self.alloc, &self.words.rest)?;
+            link = next;
         }
         self.nil(walk, &last, &link)
     }
@@ -192,8 +213,8 @@ impl<'a> Scope<'a> {
         walk: &mut Walk,
         s: &Term,
         p: &Iri,
-        object: &Value,
         members: &Map<String, Value>,
+        object: &Value,
     ) -> Result<(), Refusal>
         requires literal { ¬ IsLiteral s.now }
         requires members { view object.now ≡ object_of (members_view members.now.entries) }
@@ -248,10 +269,12 @@ impl<'a> Scope<'a> {
         ensures out { IsErrOf result Refusal.OutOfProfile → Refuses
             (WalksMember (scope_view self.now) node.now key.now (view value.now)) walk.old }
     {
-        if key == "@id" {
+        let is_id = key == "@id";
+        if is_id {
             return Ok(());
         }
-        if key == "@type" {
+        let is_type = key == "@type";
+        if is_type {
             return self.types(walk, node, value);
         }
         match Iri::read(self.alloc, key) {
@@ -271,7 +294,8 @@ impl<'a> Scope<'a> {
     {
         match value {
             Value::Array(items) => self.each_value(walk, s, p, items),
-            _ => self.value(walk, s, p, value),
+            Value::Object(_members) => self.value(walk, s, p, value),
+            _ => Err(Refusal::OutOfProfile),
         }
     }
 

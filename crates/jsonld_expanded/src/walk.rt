@@ -42,7 +42,11 @@ pub(crate) fn copy_iri(alloc: Global, iri: &Iri) -> Mem<Iri>
 }
 
 /// The triple of these terms.
-fn triple_of(alloc: Global, s: &Term, p: &Iri, o: Term) -> Mem<Triple> {
+fn triple_of(alloc: Global, s: &Term, p: &Iri, o: Term) -> Mem<Triple>
+    ensures subject { IfOk result (λ t. t.s ≡ s.now) }
+    ensures predicate { IfOk result (λ t. t.p ≡ IriTerm p.now) }
+    ensures object { IfOk result (λ t. t.o ≡ o) }
+{
     let s = s.copy(alloc)?;
     let p = copy_iri(alloc, p)?;
     Ok(Triple {

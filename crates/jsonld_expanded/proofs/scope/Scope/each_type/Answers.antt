@@ -5,7 +5,7 @@ use Rattle.serde_json.specs.declared.value.Value.{Value}
 use Rattle.jsonld_expanded.specs.Expands.{State, WalksEachType, WalksType}
 use Rattle.jsonld_expanded.specs.Walks.{Advances, Refuses, scope_view}
 use Rattle.jsonld_expanded.proofs.Once.{once-type}
-use Rattle.jsonld_expanded.proofs.Steps.{Leads, advance-same, leads-same, leads-then, refuse-first}
+use Rattle.jsonld_expanded.proofs.Steps.{Leads, advance-same, leads-same, handed, leads-then, refuse-first}
 use Rattle.jsonld_expanded.proofs.scope.Scope.each_type.Goals as goal
 
 pub loop-item-init : goal.loop-item-init
@@ -33,7 +33,7 @@ returns-in_err-one_type-clause-out c = λ refused.
     let x = c.item-item.result in
     let here : drop l.item-index xs ≡ x ∷ drop (l.item-index + 1) xs = drop_more xs l.item-index x (omega arith) ∙ ap (λ y. y ∷ drop (l.item-index + 1) xs) (sym c.item-item.is) in
     l.invariant.out (subst (λ (ys : List Value). Refuses (WalksEachType scope node (items_view ys)) l.walk) (sym here)
-    (refuse-first (WalksType scope node (view x)) (WalksEachType scope node (items_view (drop (l.item-index + 1) xs))) l.walk (c.in_err-one_type.ensures.out refused)))
+    (refuse-first (WalksType scope node (view x)) (WalksEachType scope node (items_view (drop (l.item-index + 1) xs))) l.walk (c.in_err-one_type.ensures.out (handed c.from_residual.result c.in_err-one_type.field-0.0 _ c.from_residual.ensures.1 refused))))
 
 pub returns-clause-ok : goal.returns-clause-ok
 returns-clause-ok c =

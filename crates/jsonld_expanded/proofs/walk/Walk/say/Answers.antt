@@ -12,8 +12,12 @@ use Rattle.jsonld_expanded.proofs.Kept.{one_more, stands-kept, stands-over}
 use Rattle.jsonld_expanded.proofs.walk.Walk.say.Goals as goal
 
 -- the triple of these terms
+of_parts : (s p o : Term) → Triple
+of_parts s p o = record { s = s; p = p; o = o }
+
 parts : (t : Triple) (s : Term) (p : List ℕ) (o : Term) → t.s ≡ s → t.p ≡ Iri p → t.o ≡ o → t ≡ record { s = s; p = Iri p; o = o }
-parts t s p o a b c = cc
+unfolding of_parts
+parts t s p o a b c = ap (λ x. of_parts x t.p t.o) a ∙ ap (λ x. of_parts s x t.o) b ∙ ap (λ x. of_parts s (Iri p) x) c
 
 is_rdf : (t : Triple) (s : Term) (p : List ℕ) → (¬ IsLiteral s) → t.s ≡ s → t.p ≡ Iri p → IsRdf t
 is_rdf t s p h a b = (subst (λ (x : Term). ¬ IsLiteral x) (sym a) h, subst IsIri (sym b) tt)
