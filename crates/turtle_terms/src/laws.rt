@@ -1,0 +1,17 @@
+//! Laws of the values and meanings of tokens, for the proofs of readers and writers.
+//!
+//! Each is the contract of a function that does nothing.
+
+ghost use Rattle.turtle_terms.specs.Laws.{HasOneIri, HasOneTerm, PlainIsItself, NumbersAreDecoded};
+
+/// A token has at most one meaning.
+pub fn one_meaning()
+    ensures iri { HasOneIri }
+    ensures term { HasOneTerm }
+{}
+
+/// A text without escapes is its own value, and a UCHAR is the character of its number.
+pub fn decoded_texts()
+    ensures plain { PlainIsItself }
+    ensures numbers { NumbersAreDecoded }
+{}
