@@ -1,8 +1,8 @@
 -- What holds of the values and meanings of all tokens. Each law is the contract of a function of
 -- `laws`.
-use Rattle.std.specs.Prelude.{◌≡◌, ◌≢◌, ℕ, List, [], ◌∷◌, ◌++◌, Option, Result, All, length}
-use Rattle.std.specs.List.{list_all}
-use Rattle.std.specs.Char.{IsScalar, encode_utf8, is_ascii_hexdigit}
+use Rattle.std.specs.Prelude.{◌≡◌, ℕ, List, ◌∷◌, ◌++◌, Option, Result, length}
+use Rattle.iri_ref.specs.Characters.{Lacks}
+use Rattle.std.specs.Char.{IsScalar, encode_utf8}
 use Rattle.rdf_graph.specs.declared.term.Term.{Term}
 use Rattle.turtle_lex.specs.declared.token.Token.{Token}
 use Rattle.turtle_lex.specs.Pattern.{hex_value}
@@ -10,6 +10,7 @@ use Rattle.turtle_terms.specs.declared.fault.TurtleFault.{TurtleFault}
 use Rattle.turtle_terms.specs.Escapes.{decoded}
 use Rattle.turtle_terms.specs.Prefixes.{Prefixes}
 use Rattle.turtle_terms.specs.Meaning.{IsIriOf, IsTermOf}
+use Rattle.turtle_terms.specs.Values.{is_backslash}
 
 -- A token means at most one IRI or fault.
 abbrev pub HasOneIri : Type 0
@@ -25,7 +26,7 @@ HasOneTerm = (base : List ℕ) (prefixes : Prefixes) (bytes : List ℕ) (token :
 
 -- A text without a backslash is its own value.
 abbrev pub PlainIsItself : Type 0
-PlainIsItself = (text rest : List ℕ) → All (λ b. b ≢ 92) text
+PlainIsItself = (text rest : List ℕ) → Lacks is_backslash text
     → decoded (text ++ rest) ≡ text ++ decoded rest
 
 -- `\u` and four hexadecimal digits, and `\U` and eight, are the character of their number.

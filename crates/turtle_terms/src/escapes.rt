@@ -1,10 +1,15 @@
 //! Escapes of Strings and IRIREFs, decoded in one pass.
 
-ghost use Rattle.std.specs.Prelude.{◌≡◌, ◌+◌, ◌*◌, ◌^◌, ◌<◌, ◌≤◌, ◌++◌, ◌∷◌, [], IfSome, OnOk, IfOk};
+ghost use Rattle.std.specs.Prelude.{◌≡◌, ◌≤◌, ◌++◌, false, IfOk, OnOk};
 ghost use Rattle.std.specs.Char.{digit_value};
 ghost use Rattle.turtle_terms.specs.Escapes.{echar_value, char_bytes, next_escape, completed};
 ghost use Rattle.turtle_terms.specs.Escapes.{decoded};
+ghost use Rattle.iri_ref.specs.Characters.{Lacks};
 ghost use Rattle.turtle_terms.specs.EscapeBound.{IsBounded};
+ghost use Rattle.turtle_terms.specs.Values.{is_backslash};
+ghost use Rattle.turtle_terms.specs.declared.escapes.Escape.TheVariants.{Outside, Opened, Number};
+ghost use Rattle.std.specs.Str.{IsUtf8};
+ghost use Rattle.std.specs.String.{string_bytes};
 
 use pod_base::Mem;
 use std::alloc::Global;
@@ -137,7 +142,7 @@ fn push_decoded(value: &mut Vec<u8>, text: &[u8]) -> Mem<()>
 
 /// Whether the text has a backslash, with which each escape begins.
 pub(crate) fn has_backslash(text: &str) -> bool
-    ensures none { result ≡ false → All (λ b. b ≢ 92) text.now }
+    ensures none { result ≡ false → Lacks is_backslash text.now }
 {
     text.as_bytes().contains(&b'\\')
 }

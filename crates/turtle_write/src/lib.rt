@@ -1,13 +1,17 @@
-// A library with one function.
+//! The text of a graph: a line of Turtle for each triple, in byte order.
+//!
+//! ```text
+//! let text = write(alloc, &graph)?;        // <http://e.example/a> <http://e.example/b> "c" .
+//! let size = len(&graph);                  // text.len(), without writing it
+//! ```
+//!
+//! Proved: [`write()`] returns `graph_text` of `rdf_graph`, subject, predicate, object and ` .` LF for
+//! each triple in the order of the lines (clause `text`), and [`len()`] its length (clause `length`).
+//! The text is written once, into memory of its length.
 #![tactic(auto)]
 
-ghost use Rattle.std.specs.Prelude.{◌≡◌};
-ghost use Rattle.turtle_write.specs.Echo.{echo_of};
+mod text;
+mod text_len;
 
-// The `ensures` clause is the contract: what `echo` returns is `echo_of` of its argument, a definition
-// in `specs/Echo.antt`, which a caller's clause can cite too.
-pub fn echo(x: usize) -> usize
-    ensures { result ≡ echo_of x }
-{
-    x
-}
+pub use text::write;
+pub use text_len::len;
