@@ -1,8 +1,9 @@
 -- Texts with escapes, and what is decoded of them.
-use Rattle.std.proofs.Common.{◌≡◌, ℕ, zero, suc, ◌+◌, ◌*◌, ◌-◌, ◌<◌, ◌≤◌, Bool, true, false, cond, not, ◌&&◌, ◌||◌, ◌==◌, inl, inr, ⊎_elim, List, [], ◌∷◌, ◌++◌, length, refl, sym, ap, ◌∙◌, subst, arith, append_assoc, get_or, IsTrue}
-use Rattle.std.specs.List.{list_all, list_any}
+use Rattle.std.proofs.Common.{◌≡◌, ℕ, zero, suc, ◌+◌, ◌*◌, ◌-◌, ◌<◌, ◌≤◌, Bool, true, false, cond, not, ◌&&◌, ◌||◌, ◌==◌, inl, inr, ⊎_elim, List, [], ◌∷◌, ◌++◌, length, refl, sym, ap, ◌∙◌, subst, arith, append_assoc, get_or, lit<, IsTrue}
+use Rattle.std.specs.List.{list_all, list_any, filter}
+use Rattle.std.proofs.lemmas.List.{append-nil}
 use Rattle.std.specs.Char.{IsScalar, encode_utf8, digit_value}
-use Rattle.std.specs.Str.{IsUtf8}
+use Rattle.std.specs.Str.{IsUtf8, all_scalars, encode_utf8_all}
 use lib.Utf8.{scalar}
 use lib.Chars.{codes}
 use Rattle.std.proofs.lemmas.Bool.{false≢true}
@@ -47,6 +48,28 @@ plain_is_itself (b ∷ text) rest h =
 pub decoded_nothing : decoded [] ≡ []
 unfolding decoded_from
 decoded_nothing = refl
+
+pub plain_value : (text : List ℕ) → Lacks is_backslash text → decoded text ≡ text
+plain_value text h =
+    ap decoded (sym (append-nil text)) ∙ plain_is_itself text [] h ∙ ap (λ (t : List ℕ). text ++ t) decoded_nothing ∙ append-nil text
+
+pub kept_value : (text : List ℕ) → Lacks is_backslash text → filter (λ b. not (is_backslash b)) text ≡ text
+kept_value [] h = refl
+kept_value (b ∷ text) h = by (not (is_backslash b)) (and_first (not (is_backslash b)) (list_all (λ c. not (is_backslash c)) text) h)
+    (kept_value text (and_second (not (is_backslash b)) (list_all (λ c. not (is_backslash c)) text) h))
+  where
+    by : (t : Bool) → IsTrue t → filter (λ c. not (is_backslash c)) text ≡ text → cond t (b ∷ filter (λ c. not (is_backslash c)) text) (filter (λ c. not (is_backslash c)) text) ≡ b ∷ text
+    by true h e = ap (λ (x : List ℕ). b ∷ x) e
+    by false h e = absurd (false≢true h)
+
+-- a text in which none is found
+pub lacks_found : (text : List ℕ) → list_any (λ b. b == 92) text ≡ false → Lacks is_backslash text
+lacks_found [] h = refl
+lacks_found (b ∷ text) h = by (b == 92) (list_any (λ c. c == 92) text) h (lacks_found text)
+  where
+    by : (x y : Bool) → (x || y) ≡ false → (y ≡ false → Lacks is_backslash text) → IsTrue (not x && list_all (λ c. not (is_backslash c)) text)
+    by false y h more = more h
+    by true y h more = absurd (false≢true (sym h))
 
 -- the digits of a number, from the first on
 more_digits : (k v d : ℕ) (t : List ℕ) (test : Bool) → test ≡ false
@@ -153,11 +176,9 @@ unfolding decoded_from is_escaped
 echar_decoded c r h = by (c == 117) (c == 85) (no_u c h) (no_big_u c h)
   where
     no_u : (c : ℕ) → is_escaped c ≡ true → (c == 117) ≡ false
-    unfolding is_escaped
     no_u c h = grind (arith, nat_tests)
 
     no_big_u : (c : ℕ) → is_escaped c ≡ true → (c == 85) ≡ false
-    unfolding is_escaped
     no_big_u c h = grind (arith, nat_tests)
 
     by : (a b : Bool) → a ≡ false → b ≡ false
@@ -199,3 +220,52 @@ decodes_utf8 s (v, u, e) = subst IsUtf8 (sym (e ∙ nothing v)) u
     nothing : (v : List ℕ) → v ++ decoded [] ≡ v
     nothing [] = decoded_nothing
     nothing (b ∷ v) = ap (λ (x : List ℕ). b ∷ x) (nothing v)
+
+-- UTF-8 without its backslashes is UTF-8
+abbrev pub without : List ℕ → List ℕ
+without text = filter (λ b. not (is_backslash b)) text
+
+without_append : (s t : List ℕ) → without (s ++ t) ≡ without s ++ without t
+without_append [] t = refl
+without_append (b ∷ s) t = by (not (is_backslash b)) (without_append s t)
+  where
+    by : (x : Bool) → without (s ++ t) ≡ without s ++ without t
+        → cond x (b ∷ without (s ++ t)) (without (s ++ t)) ≡ cond x (b ∷ without s) (without s) ++ without t
+    by true e = ap (λ (x : List ℕ). b ∷ x) e
+    by false e = e
+
+char_without : (c : ℕ) → IsScalar c → IsUtf8 (without (encode_utf8 c))
+char_without c scalar = by (c == 92) refl
+  where
+    by : (x : Bool) → (c == 92) ≡ x → IsUtf8 (without (encode_utf8 c))
+    by true e = subst (λ (t : List ℕ). IsUtf8 (without t)) (sym (ap encode_utf8 (same c e) ∙ encode_ascii 92 (lit< tt))) IsUtf8-nil
+      where
+        same : (c : ℕ) → (c == 92) ≡ true → c ≡ 92
+        same c e = grind (arith, nat_tests)
+    by false e = subst IsUtf8 (sym (kept_value (encode_utf8 c) (char_lacks c (other c e)))) (IsUtf8-encode c scalar)
+      where
+        other : (c : ℕ) → (c == 92) ≡ false → c ≡ 92 → ⊥
+        other c e same = grind (arith, nat_tests)
+
+chars_without : (cs : List ℕ) → all_scalars cs ≡ true → IsUtf8 (without (encode_utf8_all cs))
+chars_without [] h = IsUtf8-nil
+chars_without (c ∷ cs) h = subst IsUtf8 (sym (without_append (encode_utf8 c) (encode_utf8_all cs)))
+    (IsUtf8-append (without (encode_utf8 c)) (without (encode_utf8_all cs)) (char_without c (and_first (scalar c) (all_scalars cs) h))
+    (chars_without cs (and_second (scalar c) (all_scalars cs) h)))
+
+pub without_utf8 : (text : List ℕ) → IsUtf8 text → IsUtf8 (without text)
+without_utf8 text (cs, (scalars, e)) = subst (λ (t : List ℕ). IsUtf8 (without t)) e (chars_without cs scalars)
+
+-- one byte more of a pass
+pub step_decoded : (v v' start rest rest' : List ℕ) (e e' : Escape) (b : ℕ) → v ++ decoded_from e rest ≡ start → rest ≡ b ∷ rest'
+    → e' ≡ next_escape e b → v' ≡ v ++ completed e b → v' ++ decoded_from e' rest' ≡ start
+unfolding decoded_from
+step_decoded v v' start rest rest' e e' b h split next longer =
+    ap (λ (x : List ℕ). x ++ decoded_from e' rest') longer ∙ append_assoc v (completed e b) (decoded_from e' rest')
+    ∙ ap (λ (x : Escape). v ++ (completed e b ++ decoded_from x rest')) next ∙ ap (λ (t : List ℕ). v ++ decoded_from e t) (sym split) ∙ h
+
+-- the end of a pass
+pub end_decoded : (v start rest : List ℕ) (e : Escape) → v ++ decoded_from e rest ≡ start → length rest ≡ 0 → v ≡ start
+unfolding decoded_from
+end_decoded v start [] e h none = sym (append-nil v) ∙ h
+end_decoded v start (b ∷ rest) e h none = absurd (omega arith)

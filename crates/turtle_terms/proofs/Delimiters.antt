@@ -6,13 +6,14 @@ use Rattle.std.specs.Str.{IsUtf8, IsCharBoundary}
 use Rattle.std.proofs.lemmas.Bool.{false≢true}
 use Rattle.std.proofs.lemmas.Bool.Decides.{nat_tests}
 use Rattle.std.proofs.lemmas.List.{append-nil, drop_at, take_at}
-use Rattle.std.proofs.lemmas.Str.{IsUtf8-nil, IsUtf8-append, IsUtf8-from_ascii, IsCharBoundary-at_seam}
+use Rattle.std.proofs.lemmas.Str.{IsUtf8-nil, IsUtf8-append, IsUtf8-from_ascii, IsCharBoundary-at_seam, IsCharBoundary-after_ascii}
 use Rattle.turtle_lex.specs.declared.classes.Quote.{Quote}
 use Rattle.turtle_lex.specs.declared.classes.Quote.TheVariants.{Double, Single}
 use Rattle.turtle_lex.specs.Classes.{quote_char, is_iri_char, is_line_char, is_long_char}
 use Rattle.turtle_lex.specs.Pattern.{Pattern, word, one, ◌∘◌, ◌∣◌, many, maybe, Matches}
-use Rattle.turtle_lex.specs.Terminals.{uchar, echar, iri_ref, quotes, short_string, long_string}
-use Rattle.turtle_lex.specs.Tokens.{IsString}
+use Rattle.turtle_lex.specs.Terminals.{uchar, echar, iri_ref, blank_label, lang_tag, quotes, short_string, long_string}
+use Rattle.turtle_lex.specs.declared.token.TokenKind.TheVariants.{Quoted}
+use Rattle.turtle_lex.specs.Tokens.{IsString, MatchesKind}
 use Rattle.turtle_lex.proofs.LawLemmas.{matches_its_texts}
 use Rattle.turtle_lex.proofs.Utf8Lemmas.{has_ascii_words, matches_utf8}
 use Rattle.turtle_terms.specs.Escapes.{decoded}
@@ -143,12 +144,15 @@ same_byte b = grind (arith, nat_tests)
 three_counted : (q : ℕ) (t : List ℕ) → quote_count (q ∷ q ∷ q ∷ t) ≡ 3
 three_counted q t = ap (λ (test : Bool). cond (test && test) 3 1) (same_byte q)
 
+abbrev quote_number : Bool → ℕ
+quote_number test = cond test 3 1
+
 one_counted : (q : ℕ) (t : List ℕ) → ((m : List ℕ) → q ∷ t ≡ q ∷ q ∷ q ∷ m → ⊥) → quote_count (q ∷ t) ≡ 1
 one_counted q [] none = refl
 one_counted q (b ∷ []) none = refl
 one_counted q (b ∷ c ∷ t) none = by (q == b) (b == c) refl refl
   where
-    by : (x y : Bool) → (q == b) ≡ x → (b == c) ≡ y → cond (x && y) 3 1 ≡ 1
+    by : (x y : Bool) → (q == b) ≡ x → (b == c) ≡ y → quote_number (x && y) ≡ 1
     by true true p r =
         let qb : q ≡ b = equal q b p in
         let bc : b ≡ c = equal b c r in
@@ -200,3 +204,24 @@ cut_of n text d =
       last = subst (IsCharBoundary text) last_at (IsCharBoundary-at_seam text (d.start ++ d.content) d.end split d.end_utf8);
       content_decodes = subst (λ (t : List ℕ). IsUtf8 (decoded t)) (sym content) d.decodes;
     }
+
+pub iri_cut : (text : List ℕ) → Matches iri_ref text [] → IsCut 1 text
+iri_cut text x = cut_of 1 text (iri_delimited text x)
+
+pub string_cut : (text : List ℕ) → MatchesKind Quoted text [] → IsCut (quote_count text) text
+string_cut text (quote, x) = cut_of (quote_count text) text (string_delimited quote text x)
+
+-- a label begins with two ASCII bytes, and a tag with one
+pub label_cut : (text : List ℕ) → IsUtf8 text → Matches blank_label text [] → (2 ≤ length text) × IsCharBoundary text 2
+unfolding blank_label
+label_cut text utf8 (m, first, x) =
+    let len : length text ≡ 2 + length m = ap length first ∙ length-append (95 ∷ 58 ∷ []) m in
+    let colon : get_or text 1 0 ≡ 58 = ap (λ (t : List ℕ). get_or t 1 0) first in
+    (omega arith, IsCharBoundary-after_ascii text 1 utf8 (omega arith) (omega (arith, colon)))
+
+pub tag_cut : (text : List ℕ) → IsUtf8 text → Matches lang_tag text [] → (1 ≤ length text) × IsCharBoundary text 1
+unfolding lang_tag
+tag_cut text utf8 (m, first, x) =
+    let len : length text ≡ 1 + length m = ap length first ∙ length-append (64 ∷ []) m in
+    let at : get_or text 0 0 ≡ 64 = ap (λ (t : List ℕ). get_or t 0 0) first in
+    (omega arith, IsCharBoundary-after_ascii text 0 utf8 (omega arith) (omega (arith, at)))

@@ -1,3 +1,5 @@
 pub mod Decoding
 pub mod Delimiters
+pub mod EscapeBounds
+pub mod Meanings
 pub mod PrefixLemmas

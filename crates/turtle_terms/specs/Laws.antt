@@ -33,6 +33,6 @@ PlainIsItself = (text rest : List ℕ) → Lacks is_backslash text
 abbrev pub NumbersAreDecoded : Type 0
 NumbersAreDecoded = (digits rest : List ℕ) → IsScalar (hex_value 0 digits)
     → (length digits ≡ 4 → decoded (92 ∷ 117 ∷ (digits ++ rest))
-        ≡ encode_utf8 (hex_value 0 digits) ++ decoded rest)
+    ≡ encode_utf8 (hex_value 0 digits) ++ decoded rest)
     × (length digits ≡ 8 → decoded (92 ∷ 85 ∷ (digits ++ rest))
-        ≡ encode_utf8 (hex_value 0 digits) ++ decoded rest)
+    ≡ encode_utf8 (hex_value 0 digits) ++ decoded rest)

@@ -142,7 +142,7 @@ fn push_decoded(value: &mut Vec<u8>, text: &[u8]) -> Mem<()>
 
 /// Whether the text has a backslash, with which each escape begins.
 pub(crate) fn has_backslash(text: &str) -> bool
-    ensures none { result ≡ false → Lacks is_backslash text.now }
+    ensures { result ≡ false → Lacks is_backslash text.now }
 {
     text.as_bytes().contains(&b'\\')
 }

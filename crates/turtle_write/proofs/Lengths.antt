@@ -1,9 +1,11 @@
 -- Lengths of texts.
-use Rattle.std.proofs.Common.{◌≡◌, ℕ, ◌+◌, Bool, true, false, cond, List, [], ◌∷◌, ◌++◌, length, refl, sym, ap, ◌∙◌, arith, length-append, count_by}
-use Rattle.std.specs.List.{flat_map}
+use Rattle.std.proofs.Common.{◌≡◌, ℕ, ◌+◌, cond, List, [], ◌∷◌, length, refl, ap, ◌∙◌, arith, length-append, count_by}
 use Rattle.std.proofs.lemmas.List.Recursion.{is_count_by}
 use Rattle.std.proofs.lemmas.Bool.Decides.{nat_tests}
-use Rattle.rdf_graph.specs.Term.{escaped, escaped_byte}
+use Rattle.rdf_graph.specs.Term.{datatype_text, escaped, escaped_byte, text}
+use Rattle.rdf_graph.specs.Triple.{line}
+use Rattle.rdf_graph.specs.declared.term.Term.TheVariants.{Literal, Tagged}
+use Rattle.rdf_graph.specs.declared.triple.Triple.{Triple}
 use Rattle.turtle_write.specs.HasEscape.{has_escape}
 
 -- how many bytes have an escape, counted from the first on
@@ -11,23 +13,32 @@ abbrev escapes : List ℕ → ℕ
 escapes [] = 0
 escapes (b ∷ bs) = cond (has_escape b) (1 + escapes bs) (escapes bs)
 
-byte_length : (b n : ℕ) → length (escaped_byte b) + n ≡ cond (has_escape b) (1 + (1 + n)) (1 + n)
-byte_length b n = grind (arith, nat_tests)
+byte_length : (b : ℕ) → length (escaped_byte b) ≡ cond (has_escape b) 2 1
+byte_length b = grind (arith, nat_tests)
 
-moved : (p : Bool) (m n : ℕ) → cond p (1 + (1 + (m + n))) (1 + (m + n)) ≡ (1 + m) + cond p (1 + n) n
-moved true m n = omega arith
-moved false m n = omega arith
+one_more : (b m n k : ℕ) → k ≡ cond (has_escape b) 2 1 → k + (m + n) ≡ (m + 1) + cond (has_escape b) (1 + n) n
+one_more b m n k e = grind arith
 
 counted : (bs : List ℕ) → length (escaped bs) ≡ length bs + escapes bs
 counted [] = refl
 counted (b ∷ bs) =
-    length-append (escaped_byte b) (escaped bs) ∙ ap (λ (n : ℕ). length (escaped_byte b) + n) (counted bs)
-    ∙ byte_length b (length bs + escapes bs) ∙ moved (has_escape b) (length bs) (escapes bs)
-    ∙ first (length bs) (cond (has_escape b) (1 + escapes bs) (escapes bs))
-  where
-    first : (m n : ℕ) → (1 + m) + n ≡ length (b ∷ []) + m + n
-    first m n = omega arith
+    let parts : length (escaped (b ∷ bs)) ≡ length (escaped_byte b) + length (escaped bs) = length-append (escaped_byte b) (escaped bs) in
+    let here = one_more b (length bs) (escapes bs) (length (escaped_byte b)) (byte_length b) in
+    let longer : length (b ∷ bs) ≡ length bs + 1 = omega arith in
+    omega (arith, parts, counted bs, here, longer)
 
 -- an escaped text has its length and one byte more for each escape
 pub escaped_length : (bs : List ℕ) → length (escaped bs) ≡ length bs + count_by has_escape bs
 escaped_length bs = counted bs ∙ ap (λ (n : ℕ). length bs + n) (is_count_by escapes has_escape refl (λ b more. refl) bs)
+
+pub literal_length : (lexical datatype : List ℕ) → length (text (Literal lexical datatype)) ≡ (2 + length (escaped lexical)) + length (datatype_text datatype)
+unfolding text
+literal_length lexical datatype = simp length-append (omega arith)
+
+pub tagged_length : (lexical lang : List ℕ) → length (text (Tagged lexical lang)) ≡ (2 + length (escaped lexical)) + (1 + length lang)
+unfolding text
+tagged_length lexical lang = simp length-append (omega arith)
+
+pub line_length : (t : Triple) → length (line t) ≡ length (text t.s) + (length (text t.p) + (length (text t.o) + 5))
+unfolding line
+line_length t = simp length-append (omega arith)

@@ -76,16 +76,21 @@ fn term_len(term: &Term) -> u64
         Term::Iri(iri) => delimited_len(2, iri.as_str()),
         Term::Blank(label) => delimited_len(2, label.as_str()),
         Term::Literal { lexical, datatype } => {
-            sum(quoted_len(lexical.as_str()), datatype_len(datatype.as_str()))
+            sum(
+                quoted_len(lexical.as_str()),
+                datatype_len(datatype.as_str()),
+            )
         }
         Term::Tagged { lexical, lang } => {
-            sum(quoted_len(lexical.as_str()), delimited_len(1, lang.as_str()))
+            sum(
+                quoted_len(lexical.as_str()),
+                delimited_len(1, lang.as_str()),
+            )
         }
     }
 }
 
 /// The length of a triple's line.
-#[tactic(auto, unfolding(rdf_graph::specs::Triple::line))]
 fn line_len(triple: &Triple) -> u64
     ensures { result ≡ saturated (length (line triple.now)) }
 {
