@@ -20,7 +20,7 @@ use Rattle.turtle_terms.specs.Laws.{PlainIsItself, NumbersAreDecoded}
 use Rattle.turtle_terms.specs.Values.{is_backslash}
 
 -- a text without a backslash is its own value
-plain_byte : (b : ℕ) (t v : List ℕ) (test : Bool) → test ≡ false → decoded_from Outside t ≡ v
+pub plain_byte : (b : ℕ) (t v : List ℕ) (test : Bool) → test ≡ false → decoded_from Outside t ≡ v
     → cond test [] (b ∷ []) ++ decoded_from (cond test Opened Outside) t ≡ b ∷ v
 plain_byte b t v false h e = ap (λ (x : List ℕ). b ∷ x) e
 plain_byte b t v true h e = absurd (false≢true (sym h))
@@ -29,11 +29,11 @@ pub is_false : (b : Bool) → IsTrue (not b) → b ≡ false
 is_false false h = refl
 is_false true h = absurd (false≢true h)
 
-and_first : (a b : Bool) → IsTrue (a && b) → IsTrue a
+pub and_first : (a b : Bool) → IsTrue (a && b) → IsTrue a
 and_first true b h = refl
 and_first false b h = h
 
-and_second : (a b : Bool) → IsTrue (a && b) → IsTrue b
+pub and_second : (a b : Bool) → IsTrue (a && b) → IsTrue b
 and_second true b h = h
 and_second false b h = absurd (false≢true h)
 

@@ -147,7 +147,7 @@ three_counted q t = ap (λ (test : Bool). cond (test && test) 3 1) (same_byte q)
 abbrev quote_number : Bool → ℕ
 quote_number test = cond test 3 1
 
-one_counted : (q : ℕ) (t : List ℕ) → ((m : List ℕ) → q ∷ t ≡ q ∷ q ∷ q ∷ m → ⊥) → quote_count (q ∷ t) ≡ 1
+pub one_counted : (q : ℕ) (t : List ℕ) → ((m : List ℕ) → q ∷ t ≡ q ∷ q ∷ q ∷ m → ⊥) → quote_count (q ∷ t) ≡ 1
 one_counted q [] none = refl
 one_counted q (b ∷ []) none = refl
 one_counted q (b ∷ c ∷ t) none = by (q == b) (b == c) refl refl

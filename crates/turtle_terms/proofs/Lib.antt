@@ -3,3 +3,4 @@ pub mod Delimiters
 pub mod EscapeBounds
 pub mod Meanings
 pub mod PrefixLemmas
+pub mod Written

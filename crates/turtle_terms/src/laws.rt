@@ -3,6 +3,7 @@
 //! Each is the contract of a function that does nothing.
 
 ghost use Rattle.turtle_terms.specs.Laws.{HasOneIri, HasOneTerm, PlainIsItself, NumbersAreDecoded};
+ghost use Rattle.turtle_terms.specs.Laws.{ReferenceIsRead, StringIsRead};
 
 /// A token has at most one meaning.
 pub fn one_meaning()
@@ -14,4 +15,10 @@ pub fn one_meaning()
 pub fn decoded_texts()
     ensures plain { PlainIsItself }
     ensures numbers { NumbersAreDecoded }
+{}
+
+/// What is written of an IRI and of a lexical form has that value again.
+pub fn written_values()
+    ensures reference { ReferenceIsRead }
+    ensures string { StringIsRead }
 {}
