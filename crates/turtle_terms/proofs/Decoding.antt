@@ -1,17 +1,16 @@
 -- Texts with escapes, and what is decoded of them.
-use Rattle.std.proofs.Common.{◌≡◌, ℕ, zero, suc, ◌+◌, ◌*◌, ◌-◌, ◌<◌, ◌≤◌, Bool, true, false, cond, not, ◌&&◌, ◌||◌, ◌==◌, inl, inr, ⊎_elim, List, [], ◌∷◌, ◌++◌, length, refl, sym, ap, ◌∙◌, subst, arith, append_assoc, get_or, lit<, IsTrue}
+use Rattle.std.proofs.Common.{◌≡◌, ℕ, zero, suc, ◌+◌, ◌*◌, ◌-◌, ◌<◌, Bool, true, false, cond, not, ◌&&◌, ◌||◌, ◌==◌, inl, inr, List, [], ◌∷◌, ◌++◌, length, refl, sym, ap, ◌∙◌, subst, arith, append_assoc, get_or, lit<, IsTrue}
 use Rattle.std.specs.List.{list_all, list_any, filter}
 use Rattle.std.proofs.lemmas.List.{append-nil}
 use Rattle.std.specs.Char.{IsScalar, encode_utf8, digit_value}
 use Rattle.std.specs.Str.{IsUtf8, all_scalars, encode_utf8_all}
 use lib.Utf8.{scalar}
-use lib.Chars.{codes}
 use Rattle.std.proofs.lemmas.Bool.{false≢true}
 use Rattle.std.proofs.lemmas.Bool.Decides.{nat_tests}
 use Rattle.std.proofs.lemmas.Str.{IsUtf8-nil, IsUtf8-append, IsUtf8-encode, IsUtf8-from_ascii, encode_ascii, inside_one}
 use Rattle.iri_ref.specs.Characters.{Lacks}
 use Rattle.turtle_lex.specs.Classes.{is_escaped}
-use Rattle.turtle_lex.specs.Pattern.{Pattern, word, one, number, ◌∘◌, ◌∣◌, many, maybe, Matches, Times, hex_value}
+use Rattle.turtle_lex.specs.Pattern.{Pattern, word, one, many, Matches, Times, hex_value}
 use Rattle.turtle_lex.specs.Terminals.{uchar, echar}
 use Rattle.turtle_terms.specs.declared.escapes.Escape.{Escape}
 use Rattle.turtle_terms.specs.declared.escapes.Escape.TheVariants.{Outside, Opened, Number}

@@ -1,16 +1,13 @@
 -- What stands between the delimiters of a token.
-use mathlib.Core.List.{IsPrefix}
-use Rattle.std.proofs.Common.{◌≡◌, ℕ, ◌+◌, ◌-◌, ◌≤◌, Bool, true, false, cond, ◌&&◌, ◌==◌, inl, inr, List, [], ◌∷◌, ◌++◌, length, zero, suc, ◌<◌, get_or, take, drop, refl, sym, ap, ◌∙◌, subst, arith, append_assoc, length-append, lit<, IsTrue}
-use Rattle.std.specs.Prelude.{replicate}
+use Rattle.std.proofs.Common.{◌≡◌, ℕ, ◌+◌, ◌-◌, ◌≤◌, Bool, true, false, cond, ◌&&◌, ◌==◌, inl, inr, List, [], ◌∷◌, ◌++◌, length, zero, suc, ◌<◌, get_or, take, drop, refl, sym, ap, ◌∙◌, subst, arith, append_assoc, length-append, lit<}
 use Rattle.std.specs.Str.{IsUtf8, IsCharBoundary}
-use Rattle.std.proofs.lemmas.Bool.{false≢true}
 use Rattle.std.proofs.lemmas.Bool.Decides.{nat_tests}
 use Rattle.std.proofs.lemmas.List.{append-nil, drop_at, take_at}
 use Rattle.std.proofs.lemmas.Str.{IsUtf8-nil, IsUtf8-append, IsUtf8-from_ascii, IsCharBoundary-at_seam, IsCharBoundary-after_ascii}
 use Rattle.turtle_lex.specs.declared.classes.Quote.{Quote}
 use Rattle.turtle_lex.specs.declared.classes.Quote.TheVariants.{Double, Single}
 use Rattle.turtle_lex.specs.Classes.{quote_char, is_iri_char, is_line_char, is_long_char}
-use Rattle.turtle_lex.specs.Pattern.{Pattern, word, one, ◌∘◌, ◌∣◌, many, maybe, Matches}
+use Rattle.turtle_lex.specs.Pattern.{Pattern, one, ◌∘◌, ◌∣◌, many, maybe, Matches}
 use Rattle.turtle_lex.specs.Terminals.{uchar, echar, iri_ref, blank_label, lang_tag, quotes, short_string, long_string}
 use Rattle.turtle_lex.specs.declared.token.TokenKind.TheVariants.{Quoted}
 use Rattle.turtle_lex.specs.Tokens.{IsString, MatchesKind}

@@ -1,5 +1,5 @@
 -- A token has at most one meaning.
-use Rattle.std.proofs.Common.{◌≡◌, ℕ, ◌++◌, List, Option, Some, None, Result, Ok, Err, refl, sym, ap, ◌∙◌, subst}
+use Rattle.std.proofs.Common.{◌≡◌, ℕ, List, Option, Some, None, Result, Ok, Err, refl, sym, ap, ◌∙◌}
 use Rattle.std.specs.FinMap as map
 use Rattle.iri_ref.specs.Characters.{AllAllowed}
 use Rattle.iri_ref.proofs.Resolving.{references_resolve_uniquely}
@@ -7,7 +7,6 @@ use Rattle.rdf_graph.specs.declared.term.Term.{Term}
 use Rattle.rdf_graph.specs.declared.term.Term.TheVariants.{Iri, Blank, Literal, Tagged}
 use Rattle.turtle_lex.specs.declared.token.TokenKind.{TokenKind}
 use Rattle.turtle_lex.specs.declared.token.TokenKind.TheVariants as Kind
-use Rattle.turtle_lex.specs.declared.token.Token.{Token}
 use Rattle.turtle_lex.specs.Laws.{text_of}
 use Rattle.turtle_terms.specs.declared.fault.TurtleKind.{TurtleKind}
 use Rattle.turtle_terms.specs.declared.fault.TurtleKind.TheVariants.{Prefix, BadIri}
@@ -15,7 +14,7 @@ use Rattle.turtle_terms.specs.declared.fault.TurtleFault.{TurtleFault}
 use Rattle.turtle_terms.specs.declared.fault.TurtleFault.TheVariants.{Bad, TooLarge, NoMemory}
 use Rattle.turtle_terms.specs.Prefixes.{Prefixes}
 use Rattle.turtle_terms.specs.Values.{reference_value, prefix_value, local_value}
-use Rattle.turtle_terms.specs.Meaning.{IsReferenceMeaning, IsNameMeaning, IsIriMeaning, IsIriTerm, IsTermMeaning, IsFault, IsIriOf, IsTermOf}
+use Rattle.turtle_terms.specs.Meaning.{IsReferenceMeaning, IsNameMeaning, IsIriMeaning, IsIriTerm, IsTermMeaning, IsFault}
 use Rattle.turtle_terms.specs.Laws.{HasOneIri, HasOneTerm}
 
 -- A relation holds of one outcome at most.

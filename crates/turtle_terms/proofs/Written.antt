@@ -1,16 +1,15 @@
 -- What is written of a term has the term's value.
-use Rattle.std.proofs.Common.{◌≡◌, ℕ, ◌+◌, ◌-◌, Bool, true, false, cond, not, ◌&&◌, ◌==◌, List, [], ◌∷◌, ◌++◌, length, take, drop, refl, sym, ap, ◌∙◌, subst, arith, append_assoc, length-append, IsTrue}
+use Rattle.std.proofs.Common.{◌≡◌, ℕ, ◌+◌, ◌-◌, Bool, true, false, cond, not, ◌&&◌, ◌==◌, List, [], ◌∷◌, ◌++◌, length, take, refl, sym, ap, ◌∙◌, arith, append_assoc, length-append, IsTrue}
 use Rattle.std.specs.List.{list_all}
 use Rattle.std.proofs.lemmas.Bool.{false≢true}
 use Rattle.std.proofs.lemmas.Bool.Decides.{nat_tests}
-use Rattle.std.proofs.lemmas.List.{append-nil, drop_at, take_at}
+use Rattle.std.proofs.lemmas.List.{drop_at, take_at}
 use Rattle.iri_ref.specs.Characters.{AllAllowed, Lacks, is_allowed}
 use Rattle.rdf_graph.specs.Term.{escaped, escaped_byte}
-use Rattle.turtle_terms.specs.declared.escapes.Escape.TheVariants.{Outside}
 use Rattle.turtle_terms.specs.Escapes.{decoded_from, decoded}
 use Rattle.turtle_terms.specs.Laws.{ReferenceIsRead, StringIsRead}
 use Rattle.turtle_terms.specs.Values.{without_ends, quote_count, is_backslash}
-use Rattle.turtle_terms.proofs.Decoding.{plain_byte, plain_value, decoded_nothing, and_first, and_second, is_false}
+use Rattle.turtle_terms.proofs.Decoding.{plain_byte, plain_value, decoded_nothing, and_first, and_second}
 use Rattle.turtle_terms.proofs.Delimiters.{one_counted}
 
 -- what stands between delimiters

@@ -1,5 +1,5 @@
 -- A bound on the number of a UCHAR whose digits are being read.
-use Rattle.std.specs.Prelude.{ℕ, ◌-◌, ◌^◌, ◌<◌, ◌≤◌}
+use Rattle.std.specs.Prelude.{◌-◌, ◌^◌, ◌<◌, ◌≤◌}
 use Rattle.turtle_terms.specs.declared.escapes.Escape.{Escape}
 use Rattle.turtle_terms.specs.declared.escapes.Escape.TheVariants.{Outside, Opened, Number}
 

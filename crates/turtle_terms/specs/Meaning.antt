@@ -13,7 +13,7 @@ use Rattle.turtle_lex.specs.Laws.{text_of}
 use Rattle.turtle_terms.specs.declared.fault.TurtleKind.{TurtleKind}
 use Rattle.turtle_terms.specs.declared.fault.TurtleKind.TheVariants as Why
 use Rattle.turtle_terms.specs.declared.fault.TurtleFault.{TurtleFault}
-use Rattle.turtle_terms.specs.declared.fault.TurtleFault.TheVariants.{Bad, TooLarge, NoMemory}
+use Rattle.turtle_terms.specs.declared.fault.TurtleFault.TheVariants.{Bad}
 use Rattle.turtle_terms.specs.declared.vocabulary.Word.TheVariants as Word
 use Rattle.turtle_terms.specs.Prefixes.{Prefixes}
 use Rattle.turtle_terms.specs.Values.{string_value, reference_value, prefix_value, local_value}

@@ -1,6 +1,6 @@
 -- The values of tokens: total functions of a token's text.
 use Rattle.std.specs.Prelude.{ℕ, ◌+◌, ◌-◌, Bool, not, ◌&&◌, ◌==◌, if◌then◌else◌}
-use Rattle.std.specs.Prelude.{List, [], ◌∷◌, length, take, drop}
+use Rattle.std.specs.Prelude.{List, ◌∷◌, length, take, drop}
 use Rattle.std.specs.List.{before_first, after_first, filter}
 use Rattle.std.specs.Str.{str_to_ascii_lowercase}
 use Rattle.turtle_terms.specs.Escapes.{decoded}

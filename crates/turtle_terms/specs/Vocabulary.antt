@@ -1,5 +1,5 @@
 -- The IRIs that Turtle's shorthands stand for.
-use Rattle.std.specs.Prelude.{◌≡◌, ℕ, List}
+use Rattle.std.specs.Prelude.{ℕ, List}
 use lib.Chars.{codes}
 use Rattle.turtle_terms.specs.declared.vocabulary.Word.{Word}
 use Rattle.turtle_terms.specs.declared.vocabulary.Word.TheVariants.{RdfType, RdfNil, RdfFirst}

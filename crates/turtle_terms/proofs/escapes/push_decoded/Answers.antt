@@ -1,4 +1,4 @@
-use Rattle.std.proofs.Common.{◌≡◌, ◌+◌, ◌∷◌, ◌∙◌, List, ℕ, ap, arith, drop, length, drop-cons, add-one, get_or, length-drop}
+use Rattle.std.proofs.Common.{◌≡◌, ◌+◌, ◌∷◌, arith, drop, drop-cons, add-one, get_or, length-drop}
 use Rattle.turtle_terms.proofs.Decoding.{step_decoded, end_decoded}
 use Rattle.turtle_terms.proofs.escapes.push_decoded.Goals as goal
 

@@ -1,9 +1,7 @@
-use Rattle.std.proofs.Common.{◌≡◌, ◌≤◌, ◌∙◌, sym, ap, subst, arith, length, take, not}
+use Rattle.std.proofs.Common.{◌≡◌, ◌∙◌, sym, ap, subst, take}
 use Rattle.std.proofs.lemmas.Bool.{false≢true}
 use Rattle.std.proofs.lemmas.List.{take_all}
 use Rattle.std.specs.Str.{IsUtf8}
-use Rattle.std.specs.List.{filter}
-use Rattle.turtle_terms.specs.Values.{is_backslash}
 use Rattle.turtle_terms.proofs.Decoding.{without, without_utf8}
 use Rattle.turtle_terms.proofs.iris.without_backslashes.Goals as goal
 

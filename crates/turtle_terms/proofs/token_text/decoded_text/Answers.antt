@@ -1,4 +1,3 @@
-use Rattle.std.proofs.Common.{◌≡◌, IfOk, sym, subst}
 use Rattle.turtle_terms.proofs.Decoding.{plain_value}
 use Rattle.turtle_terms.proofs.token_text.decoded_text.Goals as goal
 
