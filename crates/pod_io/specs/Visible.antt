@@ -4,8 +4,8 @@ use Rattle.std.specs.Prelude.{IfOk, OnErr}
 use Rattle.std.specs.Option.{option_map}
 
 -- what holds of a content, where it is shown
-abbrev pub IfTold : Option (List ℕ) → (List ℕ → Type 0) → Type 0
-IfTold content P = (bytes : List ℕ) → content ≡ Some bytes → P bytes
+abbrev pub IfVisible : Option (List ℕ) → (List ℕ → Type 0) → Type 0
+IfVisible content P = (bytes : List ℕ) → content ≡ Some bytes → P bytes
 
 -- A read of `count` bytes of the rest into a slice: they are its first bytes, and the others stay.
 -- There are none only where the rest is empty.
@@ -21,6 +21,7 @@ pub record Consumes {E : Type 0} (result : Result ℕ E) (old new : Option (List
 
 -- after a write of a prefix of the piece the sink has it too, and after one that failed it is
 -- unchanged
-pub record Appends {E : Type 0} (result : Result ℕ E) (piece : List ℕ) (old new : Option (List ℕ)) : Type 0 where
+pub record Appends {E : Type 0} (result : Result ℕ E) (piece : List ℕ)
+    (old new : Option (List ℕ)) : Type 0 where
   pub added : IfOk result (λ count. new ≡ option_map (λ bytes. bytes ++ take count piece) old)
   pub kept : OnErr result (new ≡ old)
