@@ -1,0 +1,30 @@
+//! Lists in the values of fields: elements that commas separate, parts of an element, and the value
+//! of a field that is repeated (RFC 9110, sections 5.3 and 5.6).
+//!
+//! ```ignore
+//! // A comma in quotes separates nothing, and empty elements are skipped.
+//! for element in Elements::of(Quoting::Strings, b"a;b=\"x,y\", , c") {
+//!     let mut parts = Parts::of(Quoting::Strings, b';', element);   // `a`, `b="x,y"`; then `c`
+//! }
+//! ```
+//!
+//! Nothing is copied, and the walks take no memory. Proved: [`Elements`] and [`Parts`] yield exactly
+//! the lists that the definitions `elements` and `parts` have of the text, and [`joined_value`] is
+//! the joined value. [`laws`] says what these lists are: they join to the text again, a separator
+//! stands in a part in quotes alone, and there are no other lists of this kind.
+//!
+//! It stands on `httparse`, whose optional white space the contracts cite, and on `pod_base`.
+#![tactic(auto)]
+
+mod blanks;
+mod elements;
+mod joined;
+pub mod laws;
+mod parts;
+mod quoting;
+
+pub use blanks::trim;
+pub use elements::Elements;
+pub use joined::joined_value;
+pub use parts::Parts;
+pub use quoting::Quoting;
