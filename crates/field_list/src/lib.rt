@@ -20,11 +20,15 @@ mod blanks;
 mod elements;
 mod joined;
 pub mod laws;
+mod pairs;
 mod parts;
+mod quoted_string;
 mod quoting;
 
 pub use blanks::trim;
 pub use elements::Elements;
 pub use joined::joined_value;
+pub use pairs::two_parts;
 pub use parts::Parts;
+pub use quoted_string::is_quoted_string;
 pub use quoting::Quoting;
