@@ -4,9 +4,9 @@ use Rattle.pod_base.specs.declared.field.Field.{Field}
 use Rattle.pod_base.specs.declared.moment.TheConstants.{LAST_SECOND}
 use Rattle.pod_base.specs.declared.method.Method.{Method}
 use Rattle.pod_base.specs.declared.method.Method.TheVariants.{Get, Head, Options, Post, Put, Patch, Delete, Other}
-use Rattle.conditional_req.specs.declared.judge.Current.{Current}
-use Rattle.conditional_req.specs.declared.judge.Verdict.{Verdict}
-use Rattle.conditional_req.specs.declared.judge.Verdict.TheVariants.{Go, NotModified, Failed}
+use Rattle.conditional_req.specs.declared.preconditions.Current.{Current}
+use Rattle.conditional_req.specs.declared.preconditions.Verdict.{Verdict}
+use Rattle.conditional_req.specs.declared.preconditions.Verdict.TheVariants.{Go, NotModified, Failed}
 use Rattle.conditional_req.specs.declared.tag.Tag.{Tag}
 use Rattle.conditional_req.specs.TagLists.{is_any, are_tags, has_strong_match, has_weak_match}
 use Rattle.conditional_req.specs.Conditions.{matching, none_matching, unmodified_since, modified_since}

@@ -108,6 +108,6 @@ impl Conditions {
             .list
             .as_slice()
             .iter()
-            .any(|field| field.value.as_slice() != b"*")
+            .any(|field| field.value.as_slice() != b"*".as_slice())
     }
 }

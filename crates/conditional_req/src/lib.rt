@@ -21,10 +21,11 @@
 
 mod conditions;
 mod entity_tag;
-mod judge;
+mod preconditions;
+
 mod tag;
 mod tag_list;
 
 pub use conditions::{Conditions, read_conditions};
-pub use judge::{Current, Verdict, judge};
+pub use preconditions::{Current, Verdict, judge};
 pub use tag::{TAG_DIGEST_LEN, Tag, tag_of};

@@ -15,7 +15,7 @@ use field_list::{Elements, Quoting};
 pub(crate) fn is_any(value: &[u8]) -> bool
     ensures { result ≡ spec.is_any value.now }
 {
-    value == b"*"
+    value == b"*".as_slice()
 }
 
 /// Whether each element of a value is an entity tag.

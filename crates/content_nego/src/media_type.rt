@@ -17,6 +17,7 @@ pub(crate) struct MediaType<'a> {
 
 /// The media type that a text is: two tokens around a slash.
 pub(crate) fn media_type<'a>(text: &'a [u8]) -> Option<MediaType<'a>>
+    ensures value { offer_view result ≡ spec.media_type text.entry.now }
     ensures some { IfSome result (λ m. spec.media_type text.entry.now ≡ Some (media_view m)) }
     ensures none { IfNone result (spec.media_type text.entry.now ≡ None) }
 {
@@ -36,7 +37,7 @@ pub(crate) fn media_type<'a>(text: &'a [u8]) -> Option<MediaType<'a>>
 fn is_wildcard(bytes: &[u8]) -> bool
     ensures { result ≡ bytes_eq bytes.now (codes "*") }
 {
-    bytes == b"*"
+    bytes == b"*".as_slice()
 }
 
 /// How specific a range is for a media type: 3 where it is the type, 2 where it has its type and any

@@ -1,6 +1,8 @@
 //! Quality values, in thousandths (RFC 9110, section 12.4.2).
 
 ghost use Rattle.std.specs.Prelude.{◌≡◌, ◌-◌, ◌≤◌, slice_index, IfSome};
+ghost use Rattle.std.specs.Char.{is_ascii_digit};
+ghost use Rattle.std.specs.List.{list_all};
 ghost use Rattle.content_nego.specs.Qualities as spec;
 
 /// The quality of a range that has no parameter `q`, and the greatest.
@@ -17,11 +19,18 @@ fn digit_at(digits: &[u8], at: usize) -> u16
     }
 }
 
+/// Whether these are digits alone.
+fn are_digits(bytes: &[u8]) -> bool
+    ensures { result ≡ list_all is_ascii_digit bytes.now }
+{
+    bytes.iter().all(|byte| byte.is_ascii_digit())
+}
+
 /// Whether these are at most three digits.
 fn are_decimals(digits: &[u8]) -> bool
     ensures { result ≡ spec.are_decimals digits.now }
 {
-    digits.len() <= 3 && digits.iter().all(|digit| digit.is_ascii_digit())
+    digits.len() <= 3 && are_digits(digits)
 }
 
 /// The thousandths of what follows the first digit: nothing, or a point and up to three digits.

@@ -5,7 +5,8 @@ ghost use Rattle.httparse.specs.Grammar.{skip_ows, trim_ows};
 
 use httparse::is_space_or_tab;
 
-fn trim_start(mut bytes: &[u8]) -> &[u8]
+/// The bytes without the spaces and tabs before them.
+pub fn trim_start(mut bytes: &[u8]) -> &[u8]
     ensures { result.now ≡ skip_ows bytes.now }
 {
     while let [first, rest @ ..] = bytes
@@ -16,7 +17,8 @@ fn trim_start(mut bytes: &[u8]) -> &[u8]
     bytes
 }
 
-fn trim_end(mut bytes: &[u8]) -> &[u8]
+/// The bytes without the spaces and tabs after them.
+pub fn trim_end(mut bytes: &[u8]) -> &[u8]
     ensures { result.now ≡ reverse (skip_ows (reverse bytes.now)) }
 {
     while let [rest @ .., last] = bytes

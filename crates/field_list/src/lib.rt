@@ -10,8 +10,7 @@
 //!
 //! Nothing is copied, and the walks take no memory. Proved: [`Elements`] and [`Parts`] yield exactly
 //! the lists that the definitions `elements` and `parts` have of the text, and [`joined_value`] is
-//! the joined value. [`laws`] says what these lists are: they join to the text again, a separator
-//! stands in a part in quotes alone, and there are no other lists of this kind.
+//! the joined value. [`laws`] says that the parts, with separators between them, are the text again.
 //!
 //! It stands on `httparse`, whose optional white space the contracts cite, and on `pod_base`.
 #![tactic(auto)]
@@ -25,7 +24,7 @@ mod parts;
 mod quoted_string;
 mod quoting;
 
-pub use blanks::trim;
+pub use blanks::{trim, trim_end, trim_start};
 pub use elements::Elements;
 pub use joined::joined_value;
 pub use pairs::two_parts;

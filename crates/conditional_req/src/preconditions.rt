@@ -4,7 +4,7 @@ ghost use Rattle.std.specs.Prelude.{◌≡◌, ◌&&◌, ◌||◌, not, Option, 
 ghost use Rattle.std.specs.Option.{option_copied};
 ghost use Rattle.conditional_req.specs.Conditions as spec;
 ghost use Rattle.conditional_req.specs.Verdicts as verdicts;
-ghost use Rattle.conditional_req.specs.declared.judge.Current.{Current as CurrentState};
+ghost use Rattle.conditional_req.specs.declared.preconditions.Current.{Current as CurrentState};
 
 use crate::conditions::Conditions;
 use crate::tag::Tag;
