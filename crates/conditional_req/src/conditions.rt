@@ -60,8 +60,10 @@ fn conditions_of(alloc: Global, fields: &Fields) -> Mem<Fields>
     ensures { IfOk result (λ kept. kept ≡ spec.conditions fields.now) }
 {
     let mut kept = Fields::new(alloc);
-    for field in fields.list.as_slice() {
+    let mut rest = fields.list.as_slice();
+    while let Some((field, more)) = rest.split_first() {
         add_condition(alloc, &mut kept, field)?;
+        rest = more;
     }
     Ok(kept)
 }

@@ -55,13 +55,20 @@ fn before_quote(text: &[u8]) -> Option<&[u8]>
     }
 }
 
+/// Whether each byte may be part of an opaque tag.
+fn are_tag_bytes(bytes: &[u8]) -> bool
+    ensures { result ≡ list_all spec.is_tag_byte bytes.now }
+{
+    bytes.iter().all(|byte| is_tag_byte(*byte))
+}
+
 /// The opaque tag of a text: bytes of a tag in quotes.
 fn opaque_tag(text: &[u8]) -> Option<&[u8]>
     ensures { option_copied result ≡ spec.opaque_tag text.now }
 {
     match unquoted(text) {
         Some(opaque) => {
-            if opaque.iter().all(|byte| is_tag_byte(*byte)) {
+            if are_tag_bytes(opaque) {
                 Some(opaque)
             } else {
                 None

@@ -12,9 +12,6 @@ use memchr::memmem;
 use pod_base::{Bytes, BytesBuilder, List, Mem, NoMemory, Text};
 use std::alloc::{AllocError, Global};
 
-/// The most bytes of a part beside its content type and its own bytes.
-const PART_ROOM: usize = 160;
-
 /// Whether the bytes stand somewhere in a body.
 fn occurs(body: &[u8], needle: &[u8]) -> bool
     ensures yes { result ≡ true → spec.Occurs body.now needle.now }
@@ -67,8 +64,10 @@ fn free_boundary(alloc: Global, body: &[u8]) -> Mem<String>
 fn append_all(alloc: Global, text: &mut BytesBuilder, pieces: &[&[u8]]) -> Mem<()>
     ensures { IfOk result (λ _. text.new ≡ text.old ++ flat_map (λ p. p.now) pieces.now) }
 {
-    for piece in pieces {
+    let mut rest = pieces;
+    while let Some((piece, more)) = rest.split_first() {
         text.append(alloc, piece)?;
+        rest = more;
     }
     Ok(())
 }

@@ -8,11 +8,18 @@ ghost use Rattle.range_req.specs.Numbers as spec;
 /// The greatest number that a range can have: greater ones count as this one.
 pub const NUMBER_LIMIT: u64 = 1_000_000_000_000_000_000;
 
+/// Whether these are digits alone.
+fn are_digits(bytes: &[u8]) -> bool
+    ensures { result ≡ list_all is_ascii_digit bytes.now }
+{
+    bytes.iter().all(|byte| byte.is_ascii_digit())
+}
+
 /// Whether these are one digit or more and nothing else.
 fn is_number(text: &[u8]) -> bool
     ensures { result ≡ spec.is_number text.now }
 {
-    !text.is_empty() && text.iter().all(|byte| byte.is_ascii_digit())
+    !text.is_empty() && are_digits(text)
 }
 
 /// The number that digits write, up to the limit.

@@ -1,0 +1,9 @@
+-- the lines of a table, and what they make
+pub mod EntryLines
+pub mod Lines
+pub mod Tables
+pub mod Faults
+-- on whose behalf a request is made
+pub mod Answers
+-- internal: cited by private clauses alone
+pub mod Entries
