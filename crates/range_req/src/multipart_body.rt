@@ -64,10 +64,8 @@ fn free_boundary(alloc: Global, body: &[u8]) -> Mem<String>
 fn append_all(alloc: Global, text: &mut BytesBuilder, pieces: &[&[u8]]) -> Mem<()>
     ensures { IfOk result (λ _. text.new ≡ text.old ++ flat_map (λ p. p.now) pieces.now) }
 {
-    let mut rest = pieces;
-    while let Some((piece, more)) = rest.split_first() {
+    for piece in pieces {
         text.append(alloc, piece)?;
-        rest = more;
     }
     Ok(())
 }

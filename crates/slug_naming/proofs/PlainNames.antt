@@ -1,6 +1,6 @@
 -- Stems and candidates are parts of paths as they are.
 use Rattle.std.proofs.Common.{◌≡◌, ◌≢◌, ℕ, zero, suc, ◌+◌, ◌-◌, ◌*◌, ◌/◌, ◌%◌, ◌^◌, ◌<◌, ◌≤◌, Bool, true, false, not, cond, ◌||◌, ◌&&◌, ◌==◌, nat_le, nat_lt, inl, inr, ◌⊎◌, List, [], ◌∷◌, ◌++◌, length, reverse, Option, Some, None, refl, sym, ap, subst, ◌∙◌, arith, append_assoc, length-append}
-use Rattle.std.specs.Prelude.{IsTrue, codes, bytes_eq, nat_eq, decimal}
+use Rattle.std.specs.Prelude.{IsTrue, All, codes, bytes_eq, nat_eq, decimal}
 use Rattle.std.specs.Fmt.{digit_glyph}
 use Rattle.std.specs.List.{list_all, list_any, range_with_len, ends_with}
 use Rattle.std.proofs.lemmas.Bool.{eqb-true, ltb-true}
@@ -8,7 +8,8 @@ use Rattle.std.proofs.lemmas.Bool.Decides.{eqb_tells, nat_tests}
 use Rattle.std.proofs.lemmas.List.{reverse-append, append-nil}
 use Rattle.std.proofs.lemmas.Fmt.{decimal_by_steps}
 use Rattle.std.proofs.lemmas.Slice.Eq.{bytes_eq-Decides}
-use Rattle.percent_encoding.specs.Percent.{percent_encode_byte}
+use Rattle.percent_encoding.specs.Percent.{percent_encode_byte, percent_decode}
+use Rattle.percent_encoding.proofs.PercentLemmas.{All-percent_decode, IsByte}
 use Rattle.iri_ref.specs.Characters.{slash, is_slash, is_question_mark, Lacks}
 use Rattle.iri_ref.specs.Segments.{is_dot_segment}
 use Rattle.iri_ref.proofs.Texts.{and_left, and_right, and_both, all_append, all_weaker}
@@ -18,13 +19,11 @@ use Rattle.pod_path.specs.Norm.{is_auxiliary_name, is_reserved_name}
 use Rattle.pod_path.specs.Hierarchy.{IsName, IsPlainName}
 use Rattle.pod_path.proofs.Escaping.{plain, seam, over}
 use Rattle.pod_path.proofs.Names.{ends_starts, starts, reserved_auxiliary}
-use Rattle.slug_naming.specs.Stems.{escaped, escaped_length, fitting, without_dots, finished}
+use Rattle.slug_naming.specs.Stems.{escaped, escaped_length, fitting, without_slashes, without_dots, finished, stem_of}
 use Rattle.slug_naming.specs.Candidates.{candidate, candidate_end}
+use Rattle.slug_naming.specs.PlainStems.{is_stem_byte, begins_with_dot, IsStem}
 
 -- ---- bytes of stems
-
-abbrev pub is_stem_byte : ℕ → Bool
-is_stem_byte c = is_unreserved c || c == percent
 
 -- a test that holds of each number below a bound, one by one
 tested : (test : ℕ → Bool) (n a : ℕ) → IsTrue (list_all test (range_with_len a n)) → (c : ℕ) → a ≤ c → c < a + n → IsTrue (test c)
@@ -90,18 +89,6 @@ escaped_normal b small text = by_test (is_unreserved b) refl
 
 abbrev pub AreBytes : List ℕ → Type 0
 AreBytes bytes = IsTrue (list_all (λ b. nat_lt b 256) bytes)
-
-abbrev pub begins_with_dot : List ℕ → Bool
-begins_with_dot [] = false
-begins_with_dot (b ∷ text) = b == 46
-
--- what a stem is
-pub record IsStem (text : List ℕ) : Type 0 where
-  pub some : 0 < length text
-  pub bytes : IsTrue (list_all is_stem_byte text)
-  pub first : begins_with_dot text ≡ false
-  pub normal : normalize_escapes text ≡ Some text
-  pub plain : is_auxiliary_name text ≡ false
 
 fitting_normal : (room : ℕ) (bytes : List ℕ) → AreBytes bytes → normalize_escapes (fitting room bytes) ≡ Some (fitting room bytes)
 fitting_normal room [] small = refl
@@ -232,6 +219,23 @@ fitted_stem room bytes small =
 
 pub item : IsStem (codes "item")
 item = item_stem
+
+small_bytes : (bytes : List ℕ) → All IsByte bytes → AreBytes bytes
+small_bytes [] h = refl
+small_bytes (b ∷ bytes) h = and_both (nat_lt b 256) (list_all (λ c. nat_lt c 256) bytes) (grind (arith, nat_tests, h.0)) (small_bytes bytes h.1)
+
+slash_bytes : (bytes : List ℕ) → AreBytes bytes → AreBytes (without_slashes bytes)
+slash_bytes [] small = refl
+slash_bytes (b ∷ bytes) small = by_test (not (is_slash b)) (slash_bytes bytes (and_right (nat_lt b 256) _ small))
+  where
+    by_test : (x : Bool) → AreBytes (without_slashes bytes) → AreBytes (cond x (b ∷ without_slashes bytes) (without_slashes bytes))
+    by_test true ih = and_both (nat_lt b 256) (list_all (λ c. nat_lt c 256) (without_slashes bytes)) (and_left (nat_lt b 256) (list_all (λ c. nat_lt c 256) bytes) small) ih
+    by_test false ih = ih
+
+-- the stem of a slug is one
+pub slug_stem : (slug : List ℕ) → All IsByte slug → IsStem (stem_of (Some slug))
+slug_stem slug bytes =
+    fitted_stem 128 (without_slashes (percent_decode slug)) (slash_bytes (percent_decode slug) (small_bytes (percent_decode slug) (All-percent_decode slug bytes)))
 
 -- ---- candidates
 

@@ -19,3 +19,12 @@ IsNameFault is_row container stem folder NoMemory = Unit {0}
 IsNameFault is_row container stem folder BadEscape = ⊥
 IsNameFault is_row container stem folder NotNormal = ⊥
 IsNameFault is_row container stem folder Reserved = ⊥
+
+-- internal: the text passes this limit; or memory ran out
+abbrev pub IsCandidateFault : List ℕ → PathFault → Type 0
+IsCandidateFault text TooLong = norm text ≡ Err TooLong
+IsCandidateFault text TooDeep = norm text ≡ Err TooDeep
+IsCandidateFault text NoMemory = Unit {0}
+IsCandidateFault text BadEscape = ⊥
+IsCandidateFault text NotNormal = ⊥
+IsCandidateFault text Reserved = ⊥

@@ -11,6 +11,8 @@
 //! It stands on `pod_path`, `percent_encoding` and `itoa`.
 #![tactic(auto)]
 
+mod candidates;
 mod stem;
 
+pub use candidates::choose;
 pub use stem::{STEM_LIMIT, stem};

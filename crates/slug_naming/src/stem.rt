@@ -1,11 +1,12 @@
 //! The stem of a slug.
 
-ghost use Rattle.std.specs.Prelude.{◌≡◌, ◌++◌, IfOk, filter, not, string_bytes};
+ghost use Rattle.std.specs.Prelude.{◌≡◌, ◌++◌, IfOk, Some, string_bytes};
 ghost use Rattle.std.specs.Option.{option_copied};
 ghost use Rattle.percent_encoding.specs.Percent.{percent_decode};
 ghost use Rattle.pod_path.specs.Characters.{is_unreserved};
 ghost use Rattle.pod_path.specs.Norm.{is_auxiliary_name};
 ghost use Rattle.slug_naming.specs.Stems as spec;
+ghost use Rattle.slug_naming.specs.PlainStems.{IsStem};
 
 use percent_encoding::{percent_decode, percent_encode_byte};
 use pod_base::{Mem, Text};
@@ -116,16 +117,33 @@ fn finish(text: &mut String) -> Result<(), AllocError>
 }
 
 /// The stem of a slug as a string.
-pub(crate) fn stem_text(alloc: Global, slug: Option<&[u8]>) -> Result<String, AllocError>
-    ensures { IfOk result (λ text. string_bytes text ≡ spec.stem_of (option_copied slug.entry)) }
+fn slug_stem(alloc: Global, slug: &[u8]) -> Result<String, AllocError>
+    ensures { IfOk result (λ text. string_bytes text ≡ spec.stem_of (Some slug.now)) }
 {
+    let bytes = name_bytes(alloc, slug)?;
     let mut text = String::with_capacity(alloc, STEM_LIMIT + 1)?;
-    if let Some(slug) = slug {
-        let bytes = name_bytes(alloc, slug)?;
-        push_fitting(&mut text, without_dots(bytes.as_slice()))?;
-    }
+    push_fitting(&mut text, without_dots(bytes.as_slice()))?;
     finish(&mut text)?;
     Ok(text)
+}
+
+/// A stem is part of a path as it is.
+fn stem_of_bytes(slug: &[u8])
+    ensures { IsStem (spec.stem_of (Some slug.now)) }
+{}
+
+/// The stem of a slug, or without one, as a string.
+pub(crate) fn stem_text(alloc: Global, slug: Option<&[u8]>) -> Result<String, AllocError>
+    ensures text { IfOk result (λ text. string_bytes text ≡ spec.stem_of (option_copied slug.entry)) }
+    ensures stem { IsStem (spec.stem_of (option_copied slug.entry)) }
+{
+    match slug {
+        Some(slug) => {
+            stem_of_bytes(slug);
+            slug_stem(alloc, slug)
+        }
+        None => String::from_str(alloc, "item"),
+    }
 }
 
 /// The stem of the value of a `Slug` field, or without one.
