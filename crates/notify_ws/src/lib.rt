@@ -13,5 +13,3 @@ mod accept;
 
 pub use accept::accept_of;
 
-#[cfg(test)]
-mod tests;

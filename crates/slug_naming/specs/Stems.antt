@@ -4,7 +4,7 @@ use Rattle.percent_encoding.specs.Percent.{percent_decode, percent_encode_byte}
 use Rattle.iri_ref.specs.Characters.{is_slash}
 use Rattle.pod_path.specs.Characters.{is_unreserved}
 use Rattle.pod_path.specs.Norm.{is_auxiliary_name}
-use Rattle.slug_naming.specs.declared.stem.TheConstants.{STEM_LIMIT}
+use Rattle.slug_naming.specs.declared.stems.TheConstants.{STEM_LIMIT}
 
 abbrev pub without_slashes : List ℕ → List ℕ
 without_slashes bytes = filter (λ b. not (is_slash b)) bytes

@@ -9,7 +9,7 @@ ghost use Rattle.slug_naming.specs.FreeTexts.{is_free_text, IsFirstFreeText};
 ghost use Rattle.slug_naming.specs.PlainStems.{IsStem};
 ghost use Rattle.slug_naming.specs.Stems.{stem_of};
 
-use crate::stem::stem_text;
+use crate::stems::stem_text;
 use itoa::Buffer;
 use pod_path::{Path, PathFault, Taken};
 use std::alloc::{AllocError, Global};

@@ -12,7 +12,7 @@
 #![tactic(auto)]
 
 mod candidates;
-mod stem;
+mod stems;
 
 pub use candidates::choose;
-pub use stem::{STEM_LIMIT, stem};
+pub use stems::{STEM_LIMIT, stem};

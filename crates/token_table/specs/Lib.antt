@@ -1,6 +1,6 @@
 -- the lines of a table, and what they make
-pub mod EntryLines
 pub mod Lines
+pub mod EntryLines
 pub mod Tables
 pub mod Faults
 -- on whose behalf a request is made

@@ -1,9 +1,10 @@
 //! One line of the table: a token, a space and the IRI of an agent.
 
-ghost use Rattle.std.specs.Prelude.{◌≡◌, true, false, IfOk, IfSome, IfNone, bytes_eq};
-ghost use Rattle.std.specs.List.{list_all, list_any, before_first, after_first};
+ghost use Rattle.std.specs.Prelude.{◌≡◌, ◌∷◌, [], List, ℕ, IfOk, IfSome, IfNone};
+ghost use Rattle.std.specs.List.{list_all};
 ghost use Rattle.token_table.specs.EntryLines as spec;
 
+use crate::lines::first_place;
 use iri_ref::{Iri, IriFault};
 use pod_base::{Mem, NoMemory, Text};
 use std::alloc::Global;
@@ -42,12 +43,22 @@ pub(crate) fn is_skipped(line: &[u8]) -> bool
     }
 }
 
-/// The position of the first space.
-fn first_space(line: &[u8]) -> Option<usize>
-    ensures some { IfSome result (λ at. spec.SpaceAt line.now at) }
-    ensures none { IfNone result (list_any spec.is_space line.now ≡ false) }
+/// The two texts around the one space of a line; none where it has another number of spaces.
+fn two_words(line: &[u8]) -> Option<(&[u8], &[u8])>
+    ensures some { IfSome result (λ p. spec.words line.now ≡ p.0.now ∷ p.1.now ∷ []) }
+    ensures none { IfNone result ((first second : List ℕ)
+        → spec.words line.now ≡ first ∷ second ∷ [] → ⊥) }
 {
-    line.iter().position(|byte| *byte == b' ')
+    match first_place(b' ', line) {
+        Some(at) => {
+            let rest = &line[at + 1..];
+            match first_place(b' ', rest) {
+                Some(_) => None,
+                None => Some((&line[..at], rest)),
+            }
+        }
+        None => None,
+    }
 }
 
 /// An absolute IRI as a text; none where the bytes are no such IRI.
@@ -75,15 +86,15 @@ pub(crate) fn entry_of(alloc: Global, line: &[u8]) -> Mem<Option<(Vec<u8>, Text)
     ensures none { IfOk result (λ found. IfNone found
         ((e : spec.Entry) → spec.IsEntryLine line.now e → ⊥)) }
 {
-    let Some(at) = first_space(line) else {
+    let Some((token, agent)) = two_words(line) else {
         return Ok(None);
     };
-    if !is_token(&line[..at]) {
+    if !is_token(token) {
         return Ok(None);
     }
-    match absolute_iri(alloc, &line[at + 1..])? {
+    match absolute_iri(alloc, agent)? {
         Some(agent) => {
-            let token = Vec::from_slice(alloc, &line[..at])?;
+            let token = Vec::from_slice(alloc, token)?;
             Ok(Some((token, agent)))
         }
         None => Ok(None),

@@ -8,7 +8,7 @@ ghost use Rattle.token_table.specs.Entries.{entries_of};
 ghost use Rattle.token_table.specs.Faults.{IsLineFault, IsTableFault};
 
 use crate::entry_line::{entry_of, is_skipped};
-use crate::lines::first_line_feed;
+use crate::lines::first_place;
 use pod_base::{NoMemory, Text};
 use std::alloc::Global;
 use std::collections::BTreeMap;
@@ -122,7 +122,7 @@ impl Tokens {
         let mut table = BTreeMap::new(alloc);
         let mut text = bytes;
         let mut number = 1;
-        while let Some(at) = first_line_feed(text) {
+        while let Some(at) = first_place(b'\n', text) {
             let offset = bytes.len() - text.len();
             add_line(alloc, &mut table, &text[..at], offset, number)?;
             text = &text[at + 1..];

@@ -1,5 +1,5 @@
 use Rattle.slug_naming.proofs.PlainNames.{item}
-use Rattle.slug_naming.proofs.stem.stem_text.Goals as goal
+use Rattle.slug_naming.proofs.stems.stem_text.Goals as goal
 
 -- without a slug
 pub returns-in-None-clause-stem : goal.returns-in-None-clause-stem

@@ -1,6 +1,6 @@
 use Rattle.std.proofs.Common.{◌≡◌, ◌++◌, length, string_bytes}
 use Rattle.slug_naming.specs.Stems.{fitting}
-use Rattle.slug_naming.proofs.stem.push_fitting.Given as goal
+use Rattle.slug_naming.proofs.stems.push_fitting.Given as goal
 
 abbrev pub invariant-loop-byte : goal.invariant-loop-byte
 invariant-loop-byte l =

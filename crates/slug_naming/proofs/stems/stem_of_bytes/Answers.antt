@@ -2,7 +2,7 @@ use Rattle.std.proofs.Common.{arith}
 use Rattle.std.proofs.lemmas.List.Elements.{All-from_get_or}
 use Rattle.percent_encoding.proofs.PercentLemmas.{All-percent_decode, IsByte}
 use Rattle.slug_naming.proofs.PlainNames.{slug_stem}
-use Rattle.slug_naming.proofs.stem.stem_of_bytes.Goals as goal
+use Rattle.slug_naming.proofs.stems.stem_of_bytes.Goals as goal
 
 -- the bytes of a slug make a stem
 pub returns : goal.returns
