@@ -1,5 +1,5 @@
 -- The verdict on a request's preconditions (RFC 9110, section 13.2.2).
-use Rattle.std.specs.Prelude.{ℕ, Bool, true, false, not, ◌&&◌, ◌||◌, nat_lt, nat_le, min, if◌then◌else◌, List, [], ◌∷◌, Option, Some, None, is_some, is_none}
+use Rattle.std.specs.Prelude.{ℕ, Bool, true, false, not, ◌&&◌, ◌||◌, nat_lt, nat_le, min, if◌then◌else◌, List, [], Option, Some, None, is_some}
 use Rattle.pod_base.specs.declared.field.Field.{Field}
 use Rattle.pod_base.specs.declared.moment.TheConstants.{LAST_SECOND}
 use Rattle.pod_base.specs.declared.method.Method.{Method}

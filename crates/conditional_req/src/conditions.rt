@@ -1,7 +1,6 @@
 //! [`Conditions`]: the precondition fields of a request.
 
-ghost use Rattle.std.specs.Prelude.{◌≡◌, ◌||◌, not, IfOk, filter, codes, bytes_eq};
-ghost use Rattle.std.specs.List.{list_any};
+ghost use Rattle.std.specs.Prelude.{◌≡◌, ◌||◌, IfOk};
 ghost use Rattle.field_list.specs.Joined.{joined_value};
 ghost use Rattle.conditional_req.specs.Conditions as spec;
 

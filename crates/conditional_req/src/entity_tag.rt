@@ -1,7 +1,7 @@
 //! The entity tags of a field (RFC 9110, section 8.8.3).
 
-ghost use Rattle.std.specs.Prelude.{◌≡◌, ◌||◌, ◌&&◌, ◌==◌, nat_le, IfSome, IfNone, Some, None, codes};
-ghost use Rattle.std.specs.Prelude.{drop, take, bytes_eq, if◌then◌else◌};
+ghost use Rattle.std.specs.Prelude.{◌≡◌, ◌||◌, ◌&&◌, ◌==◌, IfSome, IfNone, Some, None};
+ghost use Rattle.std.specs.Prelude.{bytes_eq};
 ghost use Rattle.std.specs.List.{list_all, list_any};
 ghost use Rattle.std.specs.Option.{option_copied};
 ghost use Rattle.conditional_req.specs.EntityTags as spec;
@@ -44,13 +44,7 @@ fn before_quote(text: &[u8]) -> Option<&[u8]>
     ensures { option_copied result ≡ spec.before_quote text.now }
 {
     match text.split_last() {
-        Some((last, rest)) => {
-            if *last == b'"' {
-                Some(rest)
-            } else {
-                None
-            }
-        }
+        Some((last, rest)) => { if *last == b'"' { Some(rest) } else { None } }
         None => None,
     }
 }

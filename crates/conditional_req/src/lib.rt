@@ -22,7 +22,6 @@
 mod conditions;
 mod entity_tag;
 mod preconditions;
-
 mod tag;
 mod tag_list;
 

@@ -1,10 +1,8 @@
 //! The verdict on a request's preconditions (RFC 9110, section 13.2.2).
 
-ghost use Rattle.std.specs.Prelude.{◌≡◌, ◌&&◌, ◌||◌, not, Option, None, Some};
+ghost use Rattle.std.specs.Prelude.{◌≡◌, ◌&&◌, ◌||◌, Option, None, Some};
 ghost use Rattle.std.specs.Option.{option_copied};
-ghost use Rattle.conditional_req.specs.Conditions as spec;
 ghost use Rattle.conditional_req.specs.Verdicts as verdicts;
-ghost use Rattle.conditional_req.specs.declared.preconditions.Current.{Current as CurrentState};
 
 use crate::conditions::Conditions;
 use crate::tag::Tag;

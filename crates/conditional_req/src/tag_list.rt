@@ -1,7 +1,6 @@
 //! The values of If-Match and If-None-Match: `*`, or a list of entity tags.
 
-ghost use Rattle.std.specs.Prelude.{◌≡◌, bytes_eq, codes};
-ghost use Rattle.std.specs.List.{list_all, list_any};
+ghost use Rattle.std.specs.Prelude.{◌≡◌};
 ghost use Rattle.field_list.specs.Elements.{elements};
 ghost use Rattle.field_list.specs.declared.quoting.Quoting.TheVariants.{Tags};
 ghost use Rattle.conditional_req.specs.EntityTags as tags;

@@ -1,5 +1,5 @@
 -- A tally of ranges has the best range of each offer.
-use Rattle.std.proofs.Common.{◌≡◌, ℕ, Bool, true, false, cond, nat_lt, List, [], ◌∷◌, Option, Some, None, refl, sym, ap, ◌∙◌}
+use Rattle.std.proofs.Common.{◌≡◌, Bool, true, false, cond, nat_lt, List, [], ◌∷◌, Option, Some, refl, ap, ◌∙◌}
 use Rattle.std.specs.List.{fold}
 use Rattle.content_nego.specs.MediaTypes.{Media, specificity}
 use Rattle.content_nego.specs.MediaRanges.{Range}
@@ -15,9 +15,9 @@ grade_of best = grade best.specificity best.quality
 better-grade : (offer : Option Media) (best : Best) (range : Range) → grade_of (better offer best range) ≡ choices.better offer (grade_of best) range
 better-grade offer best range = step (nat_lt best.specificity (specificity offer range.media))
   where
-  step : (b : Bool) → grade_of (cond b (record { specificity = specificity offer range.media; quality = range.quality }) best) ≡ cond b (grade (specificity offer range.media) range.quality) (grade_of best)
-  step true = refl
-  step false = refl
+    step : (b : Bool) → grade_of (cond b (record { specificity = specificity offer range.media; quality = range.quality }) best) ≡ cond b (grade (specificity offer range.media) range.quality) (grade_of best)
+    step true = refl
+    step false = refl
 
 fold-grade : (offer : Option Media) (best : Best) (ranges : List Range) → grade_of (fold (better offer) best ranges) ≡ fold (choices.better offer) (grade_of best) ranges
 fold-grade offer best [] = refl

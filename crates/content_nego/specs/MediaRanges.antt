@@ -1,5 +1,5 @@
 -- The media ranges of an Accept field (RFC 9110, section 12.5.1).
-use Rattle.std.specs.Prelude.{ℕ, if◌then◌else◌, List, Option, Some, None, slice_get}
+use Rattle.std.specs.Prelude.{ℕ, if◌then◌else◌, List, Option, None, slice_get}
 use Rattle.std.specs.List.{list_all, filter_map}
 use Rattle.std.specs.Option.{option_and_then, option_map}
 use Rattle.httparse.specs.Grammar.{trim_ows}

@@ -1,5 +1,5 @@
 -- The parameters of an element of an Accept field (RFC 9110, sections 5.6.6 and 12.4.2).
-use Rattle.std.specs.Prelude.{ℕ, Bool, true, false, ◌&&◌, ◌||◌, ◌==◌, if◌then◌else◌, List, [], ◌∷◌, length, map, drop, slice_get, Option, Some, None, codes}
+use Rattle.std.specs.Prelude.{ℕ, Bool, false, ◌&&◌, ◌||◌, ◌==◌, if◌then◌else◌, List, length, map, drop, slice_get, Option, Some, None, codes}
 use Rattle.std.specs.List.{filter_map}
 use Rattle.std.specs.Option.{option_and_then, option_map_or}
 use Rattle.std.specs.Str.{str_eq_ignore_ascii_case}

@@ -1,5 +1,5 @@
 -- What the values that borrow from a field represent.
-use Rattle.std.specs.Prelude.{Option, Some, None}
+use Rattle.std.specs.Prelude.{Option}
 use Rattle.std.specs.Option.{option_map}
 use Rattle.content_nego.specs.MediaTypes.{Media, media_of}
 use Rattle.content_nego.specs.MediaRanges.{Range, range_of}

@@ -1,7 +1,7 @@
 //! The choice by an Accept field.
 
-ghost use Rattle.std.specs.Prelude.{◌≡◌, ◌≤◌, nat_lt};
-ghost use Rattle.std.specs.List.{fold, filter_map};
+ghost use Rattle.std.specs.Prelude.{◌≡◌};
+ghost use Rattle.std.specs.List.{fold};
 ghost use Rattle.std.specs.Option.{option_copied};
 ghost use Rattle.field_list.specs.Elements.{elements};
 ghost use Rattle.field_list.specs.declared.quoting.Quoting.TheVariants.{Strings};
@@ -9,7 +9,7 @@ ghost use Rattle.content_nego.specs.MediaRanges as spec;
 ghost use Rattle.content_nego.specs.MediaTypes.{media_type};
 ghost use Rattle.content_nego.specs.Choices as choices;
 ghost use Rattle.content_nego.specs.Tallies as tallies;
-ghost use Rattle.content_nego.specs.Views.{media_view, offer_view, range_view};
+ghost use Rattle.content_nego.specs.Views.{offer_view, range_view};
 
 use crate::media_range::{MediaRange, media_range};
 use crate::media_type::{MediaType, media_type, specificity};

@@ -1,7 +1,6 @@
 //! Media types, and how specific a range is for one (RFC 9110, sections 8.3.1 and 12.5.1).
 
 ghost use Rattle.std.specs.Prelude.{◌≡◌, ◌≤◌, ◌&&◌, IfSome, IfNone, Some, None, codes, bytes_eq};
-ghost use Rattle.std.specs.Str.{str_eq_ignore_ascii_case};
 ghost use Rattle.content_nego.specs.MediaTypes as spec;
 ghost use Rattle.content_nego.specs.Views.{media_view, offer_view};
 

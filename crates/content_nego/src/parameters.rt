@@ -1,6 +1,6 @@
 //! The parameters of an element of an Accept field (RFC 9110, sections 5.6.6 and 12.4.2).
 
-ghost use Rattle.std.specs.Prelude.{◌≡◌, Some, None, codes, drop};
+ghost use Rattle.std.specs.Prelude.{◌≡◌, Some, None, drop};
 ghost use Rattle.std.specs.List.{list_all};
 ghost use Rattle.std.specs.Option.{option_copied};
 ghost use Rattle.field_list.specs.Parts.{parts, parts_rest};

@@ -1,5 +1,5 @@
 -- How a walk over a text finds its first part, and what its parts join to.
-use Rattle.std.proofs.Common.{◌≡◌, ℕ, List, [], ◌∷◌, ◌++◌, refl, sym, ap, ◌∙◌, append_assoc, Bool, true, false, cond, ◌==◌}
+use Rattle.std.proofs.Common.{◌≡◌, ℕ, List, [], ◌∷◌, ◌++◌, refl, sym, ap, ◌∙◌, append_assoc, Bool, true, false, cond}
 use Rattle.std.specs.List.{onto_first, join_with_byte}
 use Rattle.field_list.specs.Places.{parts_from, separates, next_place}
 use Rattle.field_list.specs.declared.quoting.Quoting.{Quoting}
@@ -23,13 +23,13 @@ onto-nil quoting separator place (b ∷ text) =
     elim (separates separator place b) as (λ s.
     cond s ([] ∷ parts_from quoting separator Outside text) (onto_first b (parts_from quoting separator (next_place quoting place b) text))
     ≡ onto [] (cond s ([] ∷ parts_from quoting separator Outside text) (onto_first b (parts_from quoting separator (next_place quoting place b) text)))) [
-      true ↦ refl
-    | false ↦ first b (parts_from quoting separator (next_place quoting place b) text)
+      | true ↦ refl
+      | false ↦ first b (parts_from quoting separator (next_place quoting place b) text)
     ]
   where
-  first : (b : ℕ) (parts : List (List ℕ)) → onto_first b parts ≡ onto [] (onto_first b parts)
-  first b [] = refl
-  first b (part ∷ parts) = refl
+    first : (b : ℕ) (parts : List (List ℕ)) → onto_first b parts ≡ onto [] (onto_first b parts)
+    first b [] = refl
+    first b (part ∷ parts) = refl
 
 join-onto_first : (separator b : ℕ) (parts : List (List ℕ)) → join_with_byte separator (onto_first b parts) ≡ b ∷ join_with_byte separator parts
 join-onto_first separator b [] = refl

@@ -1,5 +1,5 @@
 -- The elements of a list that commas separate (RFC 9110, section 5.6.1).
-use Rattle.std.specs.Prelude.{ℕ, Bool, nat_lt, List, length, map, filter}
+use Rattle.std.specs.Prelude.{ℕ, nat_lt, List, length, map, filter}
 use Rattle.httparse.specs.Grammar.{trim_ows}
 use Rattle.field_list.specs.Parts.{parts, parts_rest}
 use Rattle.field_list.specs.declared.quoting.Quoting.{Quoting}

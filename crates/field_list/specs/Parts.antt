@@ -1,6 +1,6 @@
 -- The parts of a text between the separators that stand outside of quotes.
-use Rattle.std.specs.Prelude.{ℕ, List, [], Option, Some, None}
-use Rattle.std.specs.Option.{option_copied, option_map_or}
+use Rattle.std.specs.Prelude.{ℕ, List, []}
+use Rattle.std.specs.Option.{option_map_or}
 use Rattle.field_list.specs.Places.{parts_from}
 use Rattle.field_list.specs.declared.quoting.Quoting.{Quoting}
 use Rattle.field_list.specs.declared.quoting.Place.TheVariants.{Outside}

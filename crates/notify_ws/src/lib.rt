@@ -12,4 +12,3 @@
 mod accept;
 
 pub use accept::accept_of;
-

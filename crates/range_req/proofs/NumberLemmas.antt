@@ -1,5 +1,5 @@
 -- Numbers that stop at a limit.
-use Rattle.std.proofs.Common.{◌≡◌, ℕ, ◌+◌, ◌-◌, ◌*◌, min, List, [], ◌∷◌, refl, sym, ap, ◌∙◌, arith}
+use Rattle.std.proofs.Common.{◌≡◌, ℕ, ◌+◌, ◌-◌, ◌*◌, List, [], ◌∷◌, sym, ap, ◌∙◌, arith}
 use Rattle.range_req.specs.Numbers.{limited, value_after}
 
 limited-digit : (n d : ℕ) → limited (limited n * 10 + d) ≡ limited (n * 10 + d)

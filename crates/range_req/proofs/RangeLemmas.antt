@@ -1,12 +1,12 @@
 -- The parts that ranges are, are inside of the body.
 use Rattle.std.proofs.Common.{◌≡◌, ℕ, ◌-◌, ◌<◌, ◌≤◌, ◌==◌, Bool, true, false, cond, ◌&&◌, min, nat_lt, nat_le, List, [], ◌∷◌, length, Option, Some, None, refl, arith}
 use Rattle.std.proofs.lemmas.Bool.Decides.{nat_tests}
-use Rattle.std.specs.List.{list_all, filter_map, cons_option}
+use Rattle.std.specs.List.{list_all, cons_option}
 use Rattle.std.specs.Option.{option_and_then}
 use Rattle.field_list.specs.Pairs.{Pair, two_parts}
 use Rattle.field_list.specs.declared.quoting.Quoting.TheVariants.{Strings}
 use Rattle.range_req.specs.ByteRanges.{number, between, range_of_pair, byte_range, part_up_to, part_in, from, last_bytes}
-use Rattle.range_req.specs.RangeSets.{is_within, element_part, parts_in, Asked, asked_of, are_within}
+use Rattle.range_req.specs.RangeSets.{is_within, element_part, parts_in}
 use Rattle.range_req.specs.declared.byte_range.ByteRange.{ByteRange}
 use Rattle.range_req.specs.declared.byte_range.ByteRange.TheVariants.{Between, From, Last}
 use Rattle.range_req.specs.declared.byte_range.Part.{Part}

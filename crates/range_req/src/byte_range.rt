@@ -1,6 +1,6 @@
 //! [`ByteRange`]: one range of a Range field, and the part of a body that it is.
 
-ghost use Rattle.std.specs.Prelude.{◌≡◌, ◌<◌, ◌≤◌, IfSome, Some, None, nat_lt};
+ghost use Rattle.std.specs.Prelude.{◌≡◌, ◌<◌, Some, None};
 ghost use Rattle.range_req.specs.ByteRanges as spec;
 
 use crate::number::number;

@@ -1,6 +1,6 @@
 //! Positions in decimal digits.
 
-ghost use Rattle.std.specs.Prelude.{◌≡◌, Some, None, if◌then◌else◌};
+ghost use Rattle.std.specs.Prelude.{◌≡◌, Some, None};
 ghost use Rattle.std.specs.List.{list_all};
 ghost use Rattle.std.specs.Char.{is_ascii_digit};
 ghost use Rattle.range_req.specs.Numbers as spec;

@@ -1,10 +1,9 @@
 //! The parts of a body that the value of a Range field names.
 
 ghost use Rattle.std.specs.Prelude.{◌≡◌, true, false, reverse, IfOk, IfSome, IfNone};
-ghost use Rattle.std.specs.List.{list_all, filter_map};
+ghost use Rattle.std.specs.List.{list_all};
 ghost use Rattle.field_list.specs.Elements.{elements};
 ghost use Rattle.field_list.specs.declared.quoting.Quoting.TheVariants.{Strings};
-ghost use Rattle.range_req.specs.ByteRanges as range;
 ghost use Rattle.range_req.specs.RangeSets as spec;
 
 use crate::byte_range::{Part, byte_range, part_in};

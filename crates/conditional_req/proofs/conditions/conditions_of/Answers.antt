@@ -1,4 +1,4 @@
-use Rattle.std.proofs.Common.{◌≡◌, sym, ◌∙◌, ap, ◌++◌}
+use Rattle.std.proofs.Common.{sym, ◌∙◌, ap, ◌++◌}
 use Rattle.conditional_req.specs.Conditions.{conditions}
 use Rattle.conditional_req.proofs.ConditionLemmas.{one_more}
 use Rattle.conditional_req.proofs.conditions.conditions_of.Goals as goal

@@ -1,4 +1,4 @@
-use Rattle.std.proofs.Common.{◌≡◌, sym, ◌∙◌, ap}
+use Rattle.std.proofs.Common.{sym, ◌∙◌, ap}
 use Rattle.field_list.specs.Joined.{joined_value}
 use Rattle.field_list.proofs.JoinLemmas.{named-first}
 use Rattle.field_list.proofs.joined.joined_value.Goals as goal
