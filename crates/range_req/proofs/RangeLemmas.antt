@@ -29,9 +29,9 @@ between-ordered None last = tt
 between-ordered (Some first) None = tt
 between-ordered (Some first) (Some last) = step (nat_le first last) refl
   where
-  step : (b : Bool) → nat_le first last ≡ b → IsOrdered (cond b (Some (Between first last)) None)
-  step true h = le-true first last h
-  step false h = tt
+    step : (b : Bool) → nat_le first last ≡ b → IsOrdered (cond b (Some (Between first last)) None)
+    step true h = le-true first last h
+    step false h = tt
 
 from-ordered : (first : Option ℕ) → IsOrdered (from first)
 from-ordered None = tt
@@ -60,9 +60,9 @@ within-true size first last inside ordered = grind (arith, nat_tests)
 part-inside : (first last size : ℕ) → (first < size → first ≤ last) → IsInside size (part_up_to first last size)
 part-inside first last size ordered = step (nat_lt first size) refl
   where
-  step : (b : Bool) → nat_lt first size ≡ b → IsInside size (cond b (Some (record { first = first; last = min last (size - 1) })) None)
-  step true h = let inside = lt-true first size h in within-true size first last inside (ordered inside)
-  step false h = tt
+    step : (b : Bool) → nat_lt first size ≡ b → IsInside size (cond b (Some (record { first = first; last = min last (size - 1) })) None)
+    step true h = let inside = lt-true first size h in within-true size first last inside (ordered inside)
+    step false h = tt
 
 last-inside : (b : Bool) (count size : ℕ) → IsInside size (cond b None (part_up_to (size - count) (size - 1) size))
 last-inside true count size = tt

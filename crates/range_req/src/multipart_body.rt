@@ -83,17 +83,21 @@ fn append_fields(
     let mut first = Buffer::new();
     let mut last = Buffer::new();
     let mut whole = Buffer::new();
-    append_all(alloc, text, &[
-        b"\r\nContent-Type: ".as_slice(),
-        ctype.as_bytes(),
-        b"\r\nContent-Range: bytes ".as_slice(),
-        first.format(part.first).as_bytes(),
-        b"-".as_slice(),
-        last.format(part.last).as_bytes(),
-        b"/".as_slice(),
-        whole.format(size).as_bytes(),
-        b"\r\n\r\n".as_slice(),
-    ])
+    append_all(
+        alloc,
+        text,
+        &[
+            b"\r\nContent-Type: ".as_slice(),
+            ctype.as_bytes(),
+            b"\r\nContent-Range: bytes ".as_slice(),
+            first.format(part.first).as_bytes(),
+            b"-".as_slice(),
+            last.format(part.last).as_bytes(),
+            b"/".as_slice(),
+            whole.format(size).as_bytes(),
+            b"\r\n\r\n".as_slice(),
+        ],
+    )
 }
 
 /// The bytes of a part of a body.
@@ -145,24 +149,26 @@ fn append_parts(
 ///
 /// The boundary is the first of `pod-0`, `pod-1`, .. whose delimiter isn't in the body. The content
 /// type of the response is `multipart/byteranges; boundary=` and the boundary.
-pub fn multipart(
-    alloc: Global,
-    ctype: &str,
-    body: &[u8],
-    parts: &List<Part>,
-) -> Mem<(Text, Bytes)>
+pub fn multipart(alloc: Global, ctype: &str, body: &[u8], parts: &List<Part>) -> Mem<(Text, Bytes)>
     requires { list_all (is_within (length body.now)) parts.now.items ≡ true }
     ensures boundary { IfOk result (λ r. spec.IsFreeBoundary body.now r.0) }
     ensures text { IfOk result (λ r. r.1 ≡ spec.multipart_text r.0 ctype.now body.now parts.now.items) }
 {
     let boundary = free_boundary(alloc, body)?;
     let mut text = BytesBuilder::new(alloc);
-    append_parts(alloc, &mut text, boundary.as_str(), ctype, body, parts.as_slice())?;
-    append_all(alloc, &mut text, &[
-        b"--".as_slice(),
-        boundary.as_bytes(),
-        b"--\r\n".as_slice(),
-    ])?;
+    append_parts(
+        alloc,
+        &mut text,
+        boundary.as_str(),
+        ctype,
+        body,
+        parts.as_slice(),
+    )?;
+    append_all(
+        alloc,
+        &mut text,
+        &[b"--".as_slice(), boundary.as_bytes(), b"--\r\n".as_slice()],
+    )?;
     let text = text.freeze(alloc)?;
     let boundary = Text::from_string(alloc, boundary)?;
     Ok((boundary, text))

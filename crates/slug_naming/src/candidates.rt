@@ -71,7 +71,10 @@ fn first_free<T: Taken>(
     ensures bound { IfOk result (λ k. k + 1 < 2 ^ 64) }
     ensures first { IfOk result (IsFirstFreeText (T.is_row taken.now) container.now stem.now) }
 {
-    let len = container.len().saturating_add(stem.len()).saturating_add(END_ROOM);
+    let len = container
+        .len()
+        .saturating_add(stem.len())
+        .saturating_add(END_ROOM);
     let mut text = String::with_capacity(alloc, len)?;
     for number in 0..u64::MAX - 1 {
         write_candidate(&mut text, container, stem, number)?;
