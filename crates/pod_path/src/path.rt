@@ -52,10 +52,6 @@ pub trait Taken {
     /// Whether the path is a row.
     fn taken(&self, path: &Path) -> bool
         ensures { result ≡ is_row self.now path.now };
-
-    /// Whether the text is that of a row's path. It takes no memory, as a path would.
-    fn taken_text(&self, text: &str) -> bool
-        ensures { result ≡ is_row self.now text.now };
 }
 
 impl PartialEq for Path {
