@@ -1,0 +1,3 @@
+pub mod IriPaths
+pub mod NodeRules
+pub mod NodeValues

@@ -1,6 +1,7 @@
 //! [`rules_of`]: the rules of a graph.
 ghost use Rattle.std.specs.Prelude.{◌≡◌, [], IfOk, OnOk};
-ghost use Rattle.acl_rules.specs.Rules.{empty_rule, rule_of, rules_of, with_triple};
+ghost use Rattle.acl_rules.specs.Building.{empty_rule, with_places, with_triple};
+ghost use Rattle.acl_rules.specs.Rules.{rule_of, rules_of};
 
 use crate::items::Items;
 use crate::rule::{Rule, Rules};
@@ -67,6 +68,7 @@ impl Rule {
 
     /// Adds the paths that a triple gives.
     fn add_places(&mut self, alloc: Global, base: &Iri, triple: &Triple) -> Mem<()>
+        ensures { OnOk result (self.new ≡ with_places base.now triple.now self.old) }
     {
         let access_to = place_of(alloc, base, ACL_ACCESS_TO, triple)?;
         let default = place_of(alloc, base, ACL_DEFAULT, triple)?;

@@ -33,7 +33,7 @@ fn document_of(alloc: Global, base: &Iri, iri: &str) -> Mem<Option<Path>>
 fn resource_of(alloc: Global, base: &Iri, iri: &str) -> Mem<Option<Path>>
     ensures { IfOk result (λ found. found ≡ resource_of base.now iri.now) }
 {
-    if iri.contains('#') {
+    if iri.as_bytes().contains(&b'#') {
         return Ok(None);
     }
     document_of(alloc, base, iri)
