@@ -5,6 +5,7 @@ use Rattle.std.specs.List.{before_first, list_any, list_all, starts_with}
 use Rattle.std.proofs.lemmas.Bool.{false≢true, true≢false}
 use Rattle.std.proofs.lemmas.Slice.Eq.{bytes_eq-Decides}
 use Rattle.std.proofs.lemmas.List.{take-append-drop}
+use Rattle.std.proofs.lemmas.List.Sums.{take_while-cons}
 use Rattle.std.proofs.Math.Seq.{take-append_seam}
 use Rattle.iri_ref.specs.Characters.{slash, is_hash, Lacks}
 use Rattle.pod_base.specs.declared.memory.NoMemory.{NoMemory}
@@ -108,3 +109,33 @@ pub uri_resource : (base iri path : List ℕ) → IsUriOf base iri path × Lacks
 unfolding resource_of
 uri_resource base iri path h =
     ap (λ (b : Bool). cond b None (document_of base iri)) (lacks_none iri h.1) ∙ uri_document base iri path h.0
+
+-- ---- the IRI of a resource
+
+abbrev no_hash : ℕ → Bool
+no_hash c = not (is_hash c)
+
+first_lacks : (xs : List ℕ) → Lacks is_hash (before_first is_hash xs)
+first_lacks [] = refl
+first_lacks (x ∷ xs) = subst (λ (t : List ℕ). Lacks is_hash t) (sym (take_while-cons no_hash x xs)) (by_test (no_hash x) refl)
+  where
+    by_test : (b : Bool) → no_hash x ≡ b → Lacks is_hash (cond b (x ∷ before_first is_hash xs) [])
+    by_test true e = ap (λ (b : Bool). b && list_all no_hash (before_first is_hash xs)) e ∙ first_lacks xs
+    by_test false e = refl
+
+lacks_whole : (xs : List ℕ) → Lacks is_hash xs → before_first is_hash xs ≡ xs
+lacks_whole [] h = refl
+lacks_whole (x ∷ xs) h = take_while-cons no_hash x xs ∙ by_test (no_hash x) refl h
+  where
+    by_test : (b : Bool) → no_hash x ≡ b → (b && list_all no_hash xs) ≡ true → cond b (x ∷ before_first is_hash xs) [] ≡ x ∷ xs
+    by_test true e h = ap (λ (t : List ℕ). x ∷ t) (lacks_whole xs h)
+    by_test false e h = absurd (false≢true h)
+
+pub resource_is : (base iri path : List ℕ) → resource_of base iri ≡ Some path → iri ≡ uri_of base path
+resource_is base iri path h =
+    let parts = resource_uri base iri path h in
+    sym (lacks_whole iri parts.1) ∙ parts.0.whole
+
+pub uri_is : (base path : List ℕ) → IsUriOf base (uri_of base path) path → resource_of base (uri_of base path) ≡ Some path
+uri_is base path h =
+    uri_resource base (uri_of base path) path (h, subst (λ (t : List ℕ). Lacks is_hash t) h.whole (first_lacks (uri_of base path)))

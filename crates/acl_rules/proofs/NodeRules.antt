@@ -30,12 +30,12 @@ use Rattle.pod_base.specs.declared.agent.Mode.{Mode}
 
 -- ---- what a list of images contains
 
-record IsImage {X Y : Type 0} (f : X → Y) (xs : List X) (y : Y) : Type 0 where
-  at : X
-  member : Contains xs at
-  is : f at ≡ y
+pub record IsImage {X Y : Type 0} (f : X → Y) (xs : List X) (y : Y) : Type 0 where
+  pub at : X
+  pub member : Contains xs at
+  pub is : f at ≡ y
 
-contains_image : {X Y : Type 0} (f : X → Y) (xs : List X) (y : Y) → Contains (map f xs) y → IsImage f xs y
+pub contains_image : {X Y : Type 0} (f : X → Y) (xs : List X) (y : Y) → Contains (map f xs) y → IsImage f xs y
 contains_image f [] y h = absurd (contains_none y h)
 contains_image f (x ∷ xs) y h =
     ⊎_elim
@@ -44,7 +44,7 @@ contains_image f (x ∷ xs) y h =
     record { at = rest.at; member = contains_there x xs rest.at rest.member; is = rest.is })
     (contains_cases (f x) (map f xs) y h)
 
-image_contains : {X Y : Type 0} (f : X → Y) (xs : List X) (x : X) → Contains xs x → Contains (map f xs) (f x)
+pub image_contains : {X Y : Type 0} (f : X → Y) (xs : List X) (x : X) → Contains xs x → Contains (map f xs) (f x)
 image_contains f [] x h = absurd (contains_none x h)
 image_contains f (y ∷ ys) x h =
     ⊎_elim

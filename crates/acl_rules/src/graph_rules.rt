@@ -31,7 +31,7 @@ pub fn rules_of(alloc: Global, graph: &Graph, base: &Iri) -> Mem<Rules>
 }
 
 /// The rule of a node.
-fn rule_of(alloc: Global, graph: &Graph, base: &Iri, node: &Term) -> Mem<Rule>
+fn rule_of<'a>(alloc: Global, graph: &'a Graph, base: &Iri, node: &'a Term) -> Mem<Rule>
     ensures { IfOk result (λ rule. rule ≡ rule_of base.now graph.now node.now) }
 {
     let mut rule = empty_rule(alloc, node)?;

@@ -4,7 +4,7 @@ ghost use Rattle.std.specs.Prelude.{◌≡◌, ◌↔◌, ℕ, List, Option, Som
 ghost use Rattle.std.specs.List.Sorted.{IsStrictlySortedBy};
 ghost use Rattle.iri_ref.specs.Characters.{Lacks, is_hash};
 ghost use Rattle.pod_base.specs.declared.agent.Mode.{Mode};
-ghost use Rattle.pod_path.specs.Hierarchy.{IsUriOf};
+ghost use Rattle.pod_path.specs.Hierarchy.{uri_of, IsUriOf};
 ghost use Rattle.rdf_graph.specs.Graph.{IsGraph};
 ghost use Rattle.rdf_graph.specs.declared.term.Term.{Term};
 ghost use Rattle.rdf_graph.specs.declared.triple.Triple.{Triple};
@@ -50,10 +50,13 @@ pub fn values_law()
         ↔ (States g node acl_agent_group group × (doc ≡ document_of base group)) }
 {}
 
-/// The document of an IRI is the path of its URI, and a resource the same for an IRI without a fragment.
+/// The document of an IRI is the path of its URI, and a resource the same for an IRI without a fragment:
+/// under a base without one, a resource's IRI is its URI.
 pub fn documents_law()
     ensures documents { (base iri path : List ℕ)
         → (document_of base iri ≡ Some path) ↔ IsUriOf base iri path }
     ensures resources { (base iri path : List ℕ)
         → (resource_of base iri ≡ Some path) ↔ (IsUriOf base iri path × Lacks is_hash iri) }
+    ensures uris { (base iri path : List ℕ) → IsUriOf base (uri_of base path) path
+        → (resource_of base iri ≡ Some path) ↔ (iri ≡ uri_of base path) }
 {}

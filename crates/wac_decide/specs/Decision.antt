@@ -56,12 +56,13 @@ abbrev pub rule_grants : Membership → How → List ℕ → Agent → Mode → 
 rule_grants member how at agent mode rule =
     is_about how at rule && (has_mode rule mode && has_subject member agent rule)
 
+-- The subjects of the rule at a position.
+abbrev pub subjects_of : Option Rule → List Subject
+subjects_of None = []
+subjects_of (Some rule) = rule.subjects
+
 abbrev pub subjects_at : List Rule → ℕ → List Subject
 subjects_at rules i = subjects_of (slice_get rules i)
-  where
-    subjects_of : Option Rule → List Subject
-    subjects_of (Some rule) = rule.subjects
-    subjects_of None = []
 
 -- In the rule at that position, the first subject that covers the agent.
 abbrev pub ground_in : Membership → List Rule → Agent → ℕ → Option Ground

@@ -1,6 +1,7 @@
 //! [`granted`]: the first rule that grants, and in it the first subject that covers the agent.
 ghost use Rattle.std.specs.Prelude.{◌≡◌, ◌↔◌, ℕ, Bool, List, IsTrue, IfSome, IfNone, All, is_some, bytes_eq, false, ◌&&◌, ◌||◌};
 ghost use Rattle.std.specs.List.{list_any, position};
+ghost use Rattle.pod_base.specs.declared.agent.Mode.TheVariants.{Read, Write, Append, Control};
 ghost use Rattle.pod_base.specs.EachTo.{EachTo};
 ghost use Rattle.pod_base.specs.declared.agent.Agent.TheVariants.{Known};
 ghost use Rattle.pod_path.specs.Hierarchy.{uri_of, IsUriOf};
@@ -41,12 +42,7 @@ pub fn granted<G: Groups>(
         → IsUriOf base (uri_of base at.now) at.now
         → IsTrue (is_some result) ↔ Grants (G.is_member groups.now) base g how at.now agent.now mode }
 {
-    let list = rules.list.as_slice();
-    let rule = list
-        .iter()
-        .position(|rule| rule_grants(rule, how, at, agent, groups, mode))?;
-    let subject = position_of_subject(&list[rule], agent, groups)?;
-    Some(Ground { rule, subject })
+    find_ground(rules.list.as_slice(), how, at, agent, groups, mode)
 }
 
 /// Which modes are granted, in the order read, write, append, control: for each of them what
@@ -65,8 +61,44 @@ pub fn granted_modes<G: Groups>(
         → EachTo (λ mode granted. IsTrue granted ↔ Grants (G.is_member groups.now) base g how at.now agent.now mode)
             allow_modes result }
 {
-    let mut found = Found::default();
-    for rule in rules.list.as_slice() {
+    find_modes(rules.list.as_slice(), how, at, agent, groups)
+}
+
+/// The first rule, and in it the first subject.
+fn find_ground<G: Groups>(
+    rules: &[Rule],
+    how: How,
+    at: &Path,
+    agent: &Agent,
+    groups: &G,
+    mode: Mode,
+) -> Option<Ground>
+    ensures { result ≡ first_ground (G.is_member groups.now) rules.now how at.now agent.now mode }
+{
+    let rule = rules
+        .iter()
+        .position(|rule| rule_grants(rule, how, at, agent, groups, mode))?;
+    let subject = position_of_subject(&rules[rule], agent, groups)?;
+    Some(Ground { rule, subject })
+}
+
+/// Which modes some of the rules grant.
+fn find_modes<G: Groups>(
+    rules: &[Rule],
+    how: How,
+    at: &Path,
+    agent: &Agent,
+    groups: &G,
+) -> [bool; 4]
+    ensures { result ≡ granted_modes (G.is_member groups.now) rules.now how at.now agent.now }
+{
+    let mut found = Found {
+        read: false,
+        write: false,
+        append: false,
+        control: false,
+    };
+    for rule in rules {
         if is_about(rule, how, at) && has_subject(rule, agent, groups) {
             found.add(rule);
         }
@@ -75,7 +107,7 @@ pub fn granted_modes<G: Groups>(
 }
 
 /// The modes that some of the rules so far grant.
-#[derive(Clone, Copy, Default)]
+#[derive(Clone, Copy)]
 struct Found {
     read: bool,
     write: bool,
