@@ -83,19 +83,19 @@ documented base iri (Ok None) some none = by_document (document_of base iri) ref
 
 none_lacks : (xs : List ℕ) → list_any is_hash xs ≡ false → Lacks is_hash xs
 none_lacks [] h = refl
-none_lacks (x ∷ xs) h = by_test (is_hash x) refl h
+none_lacks (x ∷ xs) h = by_test (is_hash x) refl (none_lacks xs) h
   where
-    by_test : (b : Bool) → is_hash x ≡ b → (b || list_any is_hash xs) ≡ false → Lacks is_hash (x ∷ xs)
-    by_test true e h = absurd (true≢false h)
-    by_test false e h = ap (λ (b : Bool). not b && list_all (λ c. not (is_hash c)) xs) e ∙ none_lacks xs h
+    by_test : (b : Bool) → is_hash x ≡ b → (list_any is_hash xs ≡ false → Lacks is_hash xs) → (b || list_any is_hash xs) ≡ false → Lacks is_hash (x ∷ xs)
+    by_test true e rest h = absurd (true≢false h)
+    by_test false e rest h = ap (λ (b : Bool). not b && list_all (λ c. not (is_hash c)) xs) e ∙ rest h
 
 lacks_none : (xs : List ℕ) → Lacks is_hash xs → list_any is_hash xs ≡ false
 lacks_none [] h = refl
-lacks_none (x ∷ xs) h = by_test (is_hash x) refl h
+lacks_none (x ∷ xs) h = by_test (is_hash x) refl (lacks_none xs) h
   where
-    by_test : (b : Bool) → is_hash x ≡ b → (not b && list_all (λ c. not (is_hash c)) xs) ≡ true → list_any is_hash (x ∷ xs) ≡ false
-    by_test true e h = absurd (false≢true h)
-    by_test false e h = ap (λ (b : Bool). b || list_any is_hash xs) e ∙ lacks_none xs h
+    by_test : (b : Bool) → is_hash x ≡ b → (Lacks is_hash xs → list_any is_hash xs ≡ false) → (not b && list_all (λ c. not (is_hash c)) xs) ≡ true → list_any is_hash (x ∷ xs) ≡ false
+    by_test true e rest h = absurd (false≢true h)
+    by_test false e rest h = ap (λ (b : Bool). b || list_any is_hash xs) e ∙ rest h
 
 pub resource_uri : (base iri path : List ℕ) → resource_of base iri ≡ Some path → IsUriOf base iri path × Lacks is_hash iri
 unfolding resource_of
@@ -117,19 +117,19 @@ no_hash c = not (is_hash c)
 
 first_lacks : (xs : List ℕ) → Lacks is_hash (before_first is_hash xs)
 first_lacks [] = refl
-first_lacks (x ∷ xs) = subst (λ (t : List ℕ). Lacks is_hash t) (sym (take_while-cons no_hash x xs)) (by_test (no_hash x) refl)
+first_lacks (x ∷ xs) = subst (λ (t : List ℕ). Lacks is_hash t) (sym (take_while-cons no_hash x xs)) (by_test (no_hash x) refl (first_lacks xs))
   where
-    by_test : (b : Bool) → no_hash x ≡ b → Lacks is_hash (cond b (x ∷ before_first is_hash xs) [])
-    by_test true e = ap (λ (b : Bool). b && list_all no_hash (before_first is_hash xs)) e ∙ first_lacks xs
-    by_test false e = refl
+    by_test : (b : Bool) → no_hash x ≡ b → Lacks is_hash (before_first is_hash xs) → Lacks is_hash (cond b (x ∷ before_first is_hash xs) [])
+    by_test true e rest = ap (λ (b : Bool). b && list_all no_hash (before_first is_hash xs)) e ∙ rest
+    by_test false e rest = refl
 
 lacks_whole : (xs : List ℕ) → Lacks is_hash xs → before_first is_hash xs ≡ xs
 lacks_whole [] h = refl
-lacks_whole (x ∷ xs) h = take_while-cons no_hash x xs ∙ by_test (no_hash x) refl h
+lacks_whole (x ∷ xs) h = take_while-cons no_hash x xs ∙ by_test (no_hash x) refl (lacks_whole xs) h
   where
-    by_test : (b : Bool) → no_hash x ≡ b → (b && list_all no_hash xs) ≡ true → cond b (x ∷ before_first is_hash xs) [] ≡ x ∷ xs
-    by_test true e h = ap (λ (t : List ℕ). x ∷ t) (lacks_whole xs h)
-    by_test false e h = absurd (false≢true h)
+    by_test : (b : Bool) → no_hash x ≡ b → (Lacks is_hash xs → before_first is_hash xs ≡ xs) → (b && list_all no_hash xs) ≡ true → cond b (x ∷ before_first is_hash xs) [] ≡ x ∷ xs
+    by_test true e rest h = ap (λ (t : List ℕ). x ∷ t) (rest h)
+    by_test false e rest h = absurd (false≢true h)
 
 pub resource_is : (base iri path : List ℕ) → resource_of base iri ≡ Some path → iri ≡ uri_of base path
 resource_is base iri path h =

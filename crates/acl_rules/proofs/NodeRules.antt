@@ -1,5 +1,5 @@
 -- The rules of a graph are those of its nodes of type `acl:Authorization`.
-use Rattle.std.proofs.Common.{◌≡◌, ◌+◌, ◌<◌, ◌≤◌, ℕ, Bool, true, false, cond, List, [], ◌∷◌, ◌++◌, length, take, take_more, get_or, map, Option, Some, None, refl, sym, ap, subst, ◌∙◌, ⊎_elim, ◌&&◌}
+use Rattle.std.proofs.Common.{◌≡◌, ◌+◌, ◌<◌, ◌≤◌, ℕ, Bool, true, false, cond, List, [], ◌∷◌, ◌++◌, length, take, get_or, map, Option, Some, None, refl, sym, ap, subst, ◌∙◌, ⊎_elim, ◌&&◌}
 use Rattle.std.specs.Prelude.{◌↔◌}
 use Rattle.std.specs.List.{Contains, filter, filter_map, cons_option, AllByRecursion}
 use Rattle.std.specs.List.Sorted.{IsStrictlySortedBy}
@@ -7,6 +7,7 @@ use Rattle.std.specs.Option.{option_to_list}
 use Rattle.std.specs.declared.cmp.Ordering.{Ordering}
 use Rattle.std.specs.declared.cmp.Ordering.TheVariants.{Less}
 use Rattle.std.proofs.lemmas.Bool.{false≢true}
+use Rattle.std.proofs.lemmas.List.{take_more}
 use Rattle.std.proofs.lemmas.List.Elements.{filter_map-append}
 use Rattle.std.proofs.lemmas.List.Kept.{IsStrictlySortedBy-filter}
 use Rattle.rdf_graph.specs.Graph.{IsGraph, IsOrdered}
@@ -94,7 +95,7 @@ own_rule base g rule h =
 -- images stay in order where the order of each is that of its image
 sorted_images : {X Y : Type 0} (c : X → X → Ordering) (d : Y → Y → Ordering) (f : X → Y) (xs : List X)
     → ((x y : X) → Contains xs x → Contains xs y → c x y ≡ Less → d (f x) (f y) ≡ Less) → IsStrictlySortedBy c xs → IsStrictlySortedBy d (map f xs)
-unfolding IsStrictlySortedBy AllByRecursion
+unfolding IsStrictlySortedBy
 sorted_images c d f [] keeps h = h
 sorted_images c d f (x ∷ xs) keeps h = (
   below xs (λ y member. contains_there x xs y member) h.0,

@@ -40,26 +40,26 @@ finds_cases f x xs y h =
 
 contains_finds : {X Y : Type 0} (f : X → Option Y) (xs : List X) (y : Y) → Contains (filter_map f xs) y → Finds f xs y
 contains_finds f [] y h = absurd (contains_none y h)
-contains_finds f (x ∷ xs) y h = by_value (f x) refl h
+contains_finds {X} {Y} f (x ∷ xs) y h = by_value (f x) refl (contains_finds f xs y) h
   where
-    by_value : (o : Option _) → f x ≡ o → Contains (cons_option o (filter_map f xs)) y → Finds f (x ∷ xs) y
-    by_value None e h = finds_there f x xs y (contains_finds f xs y h)
-    by_value (Some z) e h =
+    by_value : (o : Option Y) → f x ≡ o → (Contains (filter_map f xs) y → Finds f xs y) → Contains (cons_option o (filter_map f xs)) y → Finds f (x ∷ xs) y
+    by_value None e rest h = finds_there f x xs y (rest h)
+    by_value (Some z) e rest h =
         ⊎_elim
-        (λ same. record { at = x; member = contains_here x xs; gives = e ∙ ap (λ w. Some w) same })
-        (λ there. finds_there f x xs y (contains_finds f xs y there))
+        (λ same. record { at = x; member = contains_here x xs; gives = e ∙ ap (λ (w : Y). Some w) same })
+        (λ there. finds_there f x xs y (rest there))
         (contains_cases z (filter_map f xs) y h)
 
 finds_contains : {X Y : Type 0} (f : X → Option Y) (xs : List X) (y : Y) → Finds f xs y → Contains (filter_map f xs) y
 finds_contains f [] y h = absurd (contains_none h.at h.member)
-finds_contains f (x ∷ xs) y h = by_value (f x) refl (finds_cases f x xs y h)
+finds_contains {X} {Y} f (x ∷ xs) y h = by_value (f x) refl (finds_contains f xs y) (finds_cases f x xs y h)
   where
-    by_value : (o : Option _) → f x ≡ o → (f x ≡ Some y) ⊎ Finds f xs y → Contains (cons_option o (filter_map f xs)) y
-    by_value None e h = ⊎_elim (λ same. absurd cc) (λ there. finds_contains f xs y there) h
-    by_value (Some z) e h =
+    by_value : (o : Option Y) → f x ≡ o → (Finds f xs y → Contains (filter_map f xs) y) → (f x ≡ Some y) ⊎ Finds f xs y → Contains (cons_option o (filter_map f xs)) y
+    by_value None e rest h = ⊎_elim (λ same. absurd cc) rest h
+    by_value (Some z) e rest h =
         ⊎_elim
         (λ same. let is : z ≡ y = cc in subst (Contains (z ∷ filter_map f xs)) is (contains_here z (filter_map f xs)))
-        (λ there. contains_there z (filter_map f xs) y (finds_contains f xs y there))
+        (λ there. contains_there z (filter_map f xs) y (rest there))
         h
 
 -- ---- a triple of a property whose object is an IRI

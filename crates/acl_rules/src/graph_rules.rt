@@ -1,5 +1,6 @@
 //! [`rules_of`]: the rules of a graph.
 ghost use Rattle.std.specs.Prelude.{◌≡◌, [], IfOk, OnOk};
+ghost use Rattle.rdf_graph.specs.Graph.{IsOrdered};
 ghost use Rattle.acl_rules.specs.Building.{empty_rule, with_places, with_triple};
 ghost use Rattle.acl_rules.specs.Rules.{rule_of, rules_of};
 
@@ -32,6 +33,7 @@ pub fn rules_of(alloc: Global, graph: &Graph, base: &Iri) -> Mem<Rules>
 
 /// The rule of a node.
 fn rule_of<'a>(alloc: Global, graph: &'a Graph, base: &Iri, node: &'a Term) -> Mem<Rule>
+    requires { IsOrdered graph.now }
     ensures { IfOk result (λ rule. rule ≡ rule_of base.now graph.now node.now) }
 {
     let mut rule = empty_rule(alloc, node)?;

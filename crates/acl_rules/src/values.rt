@@ -1,7 +1,9 @@
 //! What the triples of a rule give: paths, modes and subjects.
 ghost use Rattle.std.specs.Prelude.{◌≡◌, IfOk, Option, None, Some};
+ghost use Rattle.std.specs.List.{list_any};
+ghost use Rattle.iri_ref.specs.Characters.{is_hash};
 ghost use Rattle.acl_rules.specs.Documents.{document_of, resource_of};
-ghost use Rattle.acl_rules.specs.Rules.{is_of, is_rule_statement, mode_of, class_of, if_iri, place_of, granted_mode, subject_of};
+ghost use Rattle.acl_rules.specs.Rules.{is_rule_statement, mode_of, class_of, place_of, granted_mode, subject_of};
 ghost use Rattle.acl_rules.specs.declared.rule.Subject.TheVariants.{Agent as AgentSubject, Group as GroupSubject};
 
 use crate::rule::Subject;
@@ -33,10 +35,17 @@ fn document_of(alloc: Global, base: &Iri, iri: &str) -> Mem<Option<Path>>
 fn resource_of(alloc: Global, base: &Iri, iri: &str) -> Mem<Option<Path>>
     ensures { IfOk result (λ found. found ≡ resource_of base.now iri.now) }
 {
-    if iri.as_bytes().contains(&b'#') {
+    if has_fragment(iri) {
         return Ok(None);
     }
     document_of(alloc, base, iri)
+}
+
+/// Whether the IRI has a fragment.
+fn has_fragment(iri: &str) -> bool
+    ensures { result ≡ list_any is_hash iri.now }
+{
+    iri.as_bytes().iter().any(|byte| *byte == b'#')
 }
 
 /// The path that the triple gives, where it is one of this property.
