@@ -135,7 +135,12 @@ pub fn decide(
         how: how(how_word),
         mode: mode(mode_word),
     };
-    match decision(alloc, graph_field, question, [at, agent_word, members_field]) {
+    match decision(
+        alloc,
+        graph_field,
+        question,
+        [at, agent_word, members_field],
+    ) {
         Ok(text) => Ok(text),
         Err(_) => Err(AllocError),
     }
@@ -198,7 +203,12 @@ pub fn modes(
     agent_word: &str,
     members_field: &str,
 ) -> Result<String, AllocError> {
-    match allowed(alloc, graph_field, how(how_word), [at, agent_word, members_field]) {
+    match allowed(
+        alloc,
+        graph_field,
+        how(how_word),
+        [at, agent_word, members_field],
+    ) {
         Ok(text) => Ok(text),
         Err(_) => Err(AllocError),
     }
@@ -253,7 +263,11 @@ fn many_rules(alloc: Global, count: u32, agent_word: &str, mode: Mode) -> Mem<St
 fn add_rule(alloc: Global, graph: &mut Graph, number: u32) -> Mem<()> {
     let node = format!(in alloc; "/.acl#{number:03}")?;
     let agent = format!(in alloc; "@agent{number:03}")?;
-    add(alloc, graph, [node.as_str(), "rdf:type", "acl:Authorization"])?;
+    add(
+        alloc,
+        graph,
+        [node.as_str(), "rdf:type", "acl:Authorization"],
+    )?;
     add(alloc, graph, [node.as_str(), "acl:accessTo", "/"])?;
     add(alloc, graph, [node.as_str(), "acl:mode", "acl:Read"])?;
     add(alloc, graph, [node.as_str(), "acl:agent", agent.as_str()])

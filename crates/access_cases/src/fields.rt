@@ -156,9 +156,8 @@ impl Groups for Members {
 
     fn member(&self, doc: &Path, group: &str, agent: &str) -> bool {
         let doc = doc.as_str();
-        self.list
-            .iter()
-            .any(|m| m.doc.as_str() == doc && (m.group.as_str() == group && m.agent.as_str() == agent))
+        self.list.iter().any(|m| m.doc.as_str() == doc
+            && (m.group.as_str() == group && m.agent.as_str() == agent))
     }
 }
 

@@ -48,8 +48,7 @@ base_after base part path h = by_test (starts_with nat_eq part base) refl h
     by_test : (b : Bool) → starts_with nat_eq part base ≡ b → cond b (normal_path (slash ∷ drop (length base) part)) None ≡ Some path → (norm path ≡ Ok path) × (part ≡ uri_of base path)
     by_test true e h =
         let some = some_normal (slash ∷ drop (length base) part) path h in
-        let front : base ≡ take (length base) part = (bytes_eq-Decides base (take (length base) part)).0 e in
-        (
+        let front : base ≡ take (length base) part = (bytes_eq-Decides base (take (length base) part)).0 e in (
           subst (λ (t : List ℕ). norm t ≡ Ok t) some.0 some.1,
           sym (take-append-drop (length base) part) ∙ ap (λ (t : List ℕ). t ++ drop (length base) part) (sym front) ∙ ap (λ (t : List ℕ). base ++ drop 1 t) some.0,
         )

@@ -75,13 +75,13 @@ pub rule_nodes : (base : List ℕ) (g : List Triple) (node : Term) → Contains 
 unfolding rules_of rule_of
 rule_nodes base g node = (
   λ h. let rule = contains_image (λ (r : Rule). r.node) (rules_of base g) node h in
-  let from = contains_image (λ (t : Triple). rule_of base g t.s) (filter is_rule_statement g) rule.at rule.member in
-  let kept = (contains_filter is_rule_statement g from.at).0 from.member in
-  let same : from.at.s ≡ node = ap (λ (r : Rule). r.node) from.is ∙ rule.is in
-  subst (λ n. States g n rdf_type acl_authorization) same (subst (Contains g) (says from.at kept.1) kept.0),
+      let from = contains_image (λ (t : Triple). rule_of base g t.s) (filter is_rule_statement g) rule.at rule.member in
+      let kept = (contains_filter is_rule_statement g from.at).0 from.member in
+      let same : from.at.s ≡ node = ap (λ (r : Rule). r.node) from.is ∙ rule.is in
+      subst (λ n. States g n rdf_type acl_authorization) same (subst (Contains g) (says from.at kept.1) kept.0),
   λ h. let kept = (contains_filter is_rule_statement g (statement node rdf_type acl_authorization)).1 (h, statement_says node) in
-  image_contains (λ (r : Rule). r.node) (rules_of base g) (rule_of base g node)
-  (image_contains (λ (t : Triple). rule_of base g t.s) (filter is_rule_statement g) (statement node rdf_type acl_authorization) kept),
+      image_contains (λ (r : Rule). r.node) (rules_of base g) (rule_of base g node)
+      (image_contains (λ (t : Triple). rule_of base g t.s) (filter is_rule_statement g) (statement node rdf_type acl_authorization) kept),
 )
 
 pub own_rule : (base : List ℕ) (g : List Triple) (rule : Rule) → Contains (rules_of base g) rule → rule ≡ rule_of base g rule.node
@@ -138,10 +138,10 @@ found_more : {X Y : Type 0} (f : X → Option Y) (xs : List X) (i : ℕ) (x : X)
     → filter_map f (take i xs) ++ option_to_list (f x) ≡ filter_map f (take (i + 1) xs)
 found_more f xs i x l is =
     sym (
-      ap (filter_map f) (take_more xs i x l)
-      ∙ filter_map-append f (take i xs) (get_or xs i x ∷ [])
-      ∙ ap (λ z. filter_map f (take i xs) ++ filter_map f (z ∷ [])) (sym is)
-      ∙ ap (λ z. filter_map f (take i xs) ++ z) (one_option (f x))
+    ap (filter_map f) (take_more xs i x l)
+    ∙ filter_map-append f (take i xs) (get_or xs i x ∷ [])
+    ∙ ap (λ z. filter_map f (take i xs) ++ filter_map f (z ∷ [])) (sym is)
+    ∙ ap (λ z. filter_map f (take i xs) ++ z) (one_option (f x))
     )
 
 abbrev rule_with : Term → List (List ℕ) → List (List ℕ) → List Mode → List Subject → Rule

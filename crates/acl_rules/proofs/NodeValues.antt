@@ -121,12 +121,12 @@ pub value_members : {Y : Type 0} (property : List ℕ) (value : List ℕ → Opt
     → Contains (filter_map (value_of property value) (triples_of node g)) y ↔ ((iri : List ℕ) × States g node property iri × (value iri ≡ Some y))
 value_members property value g node y = (
   λ h. let found = contains_finds (value_of property value) (triples_of node g) y h in
-  let is = of_value property value found.at y found.gives in
-  (is.iri, states property value g node found.at y found.member is, is.gives),
+      let is = of_value property value found.at y found.gives in
+      (is.iri, states property value g node found.at y found.member is, is.gives),
   λ h. finds_contains (value_of property value) (triples_of node g) y (record {
     at = statement node property h.0;
     member = to_node g node property h.0 h.1;
-    gives = to_value property value (statement node property h.0) y (record { iri = h.0; predicate = refl; object = refl; gives = h.2 })
+    gives = to_value property value (statement node property h.0) y (record { iri = h.0; predicate = refl; object = refl; gives = h.2 });
   }),
 )
 
@@ -168,7 +168,7 @@ pub mode_members : (base : List ℕ) (g : List Triple) (node : Term) (mode : Mod
 unfolding rule_of
 mode_members base g node mode = (
   λ h. let found = (value_members acl_mode mode_of g node mode).0 h in
-  subst (States g node acl_mode) (iri_of_mode found.0 mode found.2) found.1,
+      subst (States g node acl_mode) (iri_of_mode found.0 mode found.2) found.1,
   λ h. (value_members acl_mode mode_of g node mode).1 (mode_iri mode, h, mode_of_iri mode),
 )
 

@@ -15,7 +15,7 @@ empty_rule node = record { node = node; access_to = []; defaults = []; modes = [
 abbrev pub with_places : List ℕ → Triple → Rule → Rule
 with_places base t rule = record rule {
   access_to = rule.access_to ++ option_to_list (place_of base acl_access_to t);
-  defaults = rule.defaults ++ option_to_list (place_of base acl_default t)
+  defaults = rule.defaults ++ option_to_list (place_of base acl_default t);
 }
 
 -- The rule with all that a triple gives.
@@ -24,5 +24,5 @@ with_triple base t rule = record rule {
   access_to = rule.access_to ++ option_to_list (place_of base acl_access_to t);
   defaults = rule.defaults ++ option_to_list (place_of base acl_default t);
   modes = rule.modes ++ option_to_list (granted_mode t);
-  subjects = rule.subjects ++ option_to_list (subject_of base t)
+  subjects = rule.subjects ++ option_to_list (subject_of base t);
 }

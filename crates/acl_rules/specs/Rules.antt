@@ -75,7 +75,7 @@ rule_from base node triples = record {
   access_to = filter_map (place_of base acl_access_to) triples;
   defaults = filter_map (place_of base acl_default) triples;
   modes = filter_map granted_mode triples;
-  subjects = filter_map (subject_of base) triples
+  subjects = filter_map (subject_of base) triples;
 }
 
 unfoldable pub rule_of : List ℕ → List Triple → Term → Rule

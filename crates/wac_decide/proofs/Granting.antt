@@ -140,13 +140,15 @@ pub some_is_granted : (member : Membership) (base : List ℕ) (g : List Triple) 
     → IsTrue (is_some (first_ground member (rules_of base g) how at agent mode)) ↔ Grants member base g how at agent mode
 some_is_granted member base g how at agent mode own = (
   λ h. let rule = any_passes (rule_grants member how at agent mode) (rules_of base g) (sym (some_grants member (rules_of base g) how at agent mode) ∙ h) in
-  let node = rule.at.node in
-  (node, rule_node member base g how at agent mode node
-  ((rule_nodes base g node).0 (image_contains (λ (r : Rule). r.node) (rules_of base g) rule.at rule.member))
-  (subst (λ r. rule_grants member how at agent mode r ≡ true) (own_rule base g rule.at rule.member) rule.passes)),
+      let node = rule.at.node in (
+        node,
+        rule_node member base g how at agent mode node
+            ((rule_nodes base g node).0 (image_contains (λ (r : Rule). r.node) (rules_of base g) rule.at rule.member))
+            (subst (λ r. rule_grants member how at agent mode r ≡ true) (own_rule base g rule.at rule.member) rule.passes),
+      ),
   λ h. let image = contains_image (λ (r : Rule). r.node) (rules_of base g) h.0 ((rule_nodes base g h.0).1 h.1.rule) in
-  let same : image.at ≡ rule_of base g h.0 = own_rule base g image.at image.member ∙ ap (rule_of base g) image.is in
-  some_grants member (rules_of base g) how at agent mode
-  ∙ passes_any (rule_grants member how at agent mode) (rules_of base g) image.at image.member
-  (subst (λ r. rule_grants member how at agent mode r ≡ true) (sym same) (node_rule member base g how at agent mode h.0 own h.1)),
+      let same : image.at ≡ rule_of base g h.0 = own_rule base g image.at image.member ∙ ap (rule_of base g) image.is in
+      some_grants member (rules_of base g) how at agent mode
+      ∙ passes_any (rule_grants member how at agent mode) (rules_of base g) image.at image.member
+      (subst (λ r. rule_grants member how at agent mode r ≡ true) (sym same) (node_rule member base g how at agent mode h.0 own h.1)),
 )

@@ -55,19 +55,23 @@ module _ (member : Membership) (rules : List Rule) (how : How) (at : List ℕ) (
           ⊎ ((ground : Ground) × (found ≡ Some ground) × IsFirstGround member rules how at agent mode ground)
       by_rule None e = inl (no_rule e, position_fails grants rules e)
       by_rule (Some i) e = (
-        let rule = first_of grants rules i e in
-        let some = some_position (covers member agent) rule.at.subjects (covered rule.at rule.passes) in
-        let subject = first_of (covers member agent) rule.at.subjects some.0 some.1 in
-        inr (ground i some.0, at_subject i rule.at (Some some.0) e rule.is_at some.1, record {
-          rule = rule.at;
-          is_rule = rule.is_at;
-          grants = rule.passes;
-          first_rule = rule.before;
-          subject = subject.at;
-          is_subject = subject.is_at;
-          covers_agent = subject.passes;
-          first_subject = subject.before;
-        }))
+          let rule = first_of grants rules i e in
+          let some = some_position (covers member agent) rule.at.subjects (covered rule.at rule.passes) in
+          let subject = first_of (covers member agent) rule.at.subjects some.0 some.1 in
+          inr (
+            ground i some.0,
+            at_subject i rule.at (Some some.0) e rule.is_at some.1,
+            record {
+              rule = rule.at;
+              is_rule = rule.is_at;
+              grants = rule.passes;
+              first_rule = rule.before;
+              subject = subject.at;
+              is_subject = subject.is_at;
+              covers_agent = subject.passes;
+              first_subject = subject.before;
+            },
+          ))
 
   pub if_ground : (o : Option Ground) → o ≡ found → IfSome o (IsFirstGround member rules how at agent mode)
   if_ground o e =

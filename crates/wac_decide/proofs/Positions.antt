@@ -17,12 +17,12 @@ pub record Passes {X : Type 0} (p : X → Bool) (xs : List X) : Type 0 where
 
 pub any_passes : {X : Type 0} (p : X → Bool) (xs : List X) → list_any p xs ≡ true → Passes p xs
 any_passes p [] h = absurd (false≢true h)
-any_passes p (x ∷ xs) h = by_test (p x) refl h
+any_passes p (x ∷ xs) h = by_test (p x) refl (any_passes p xs) h
   where
-    by_test : (b : Bool) → p x ≡ b → (b || list_any p xs) ≡ true → Passes p (x ∷ xs)
-    by_test true e h = record { at = x; member = contains_here x xs; passes = e }
-    by_test false e h =
-        let rest = any_passes p xs h in
+    by_test : (b : Bool) → p x ≡ b → (list_any p xs ≡ true → Passes p xs) → (b || list_any p xs) ≡ true → Passes p (x ∷ xs)
+    by_test true e below h = record { at = x; member = contains_here x xs; passes = e }
+    by_test false e below h =
+        let rest = below h in
         record { at = rest.at; member = contains_there x xs rest.at rest.member; passes = rest.passes }
 
 pub passes_any : {X : Type 0} (p : X → Bool) (xs : List X) (x : X) → Contains xs x → p x ≡ true → list_any p xs ≡ true

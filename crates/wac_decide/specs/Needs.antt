@@ -8,8 +8,8 @@ use Rattle.pod_base.specs.declared.method.Method.{Method}
 use Rattle.pod_base.specs.declared.method.Method.TheVariants.{Get, Head, Options, Post, Put, Patch}
 use Rattle.pod_base.specs.declared.method.Method.TheVariants.{Delete, Other}
 use Rattle.pod_path.specs.Hierarchy.{is_acl, is_meta, parent_of, subject_of}
-use Rattle.wac_decide.specs.declared.needs.Need.{Need}
-use Rattle.wac_decide.specs.declared.needs.Shape.{Shape}
+use Rattle.wac_decide.specs.declared.request_needs.Need.{Need}
+use Rattle.wac_decide.specs.declared.request_needs.Shape.{Shape}
 
 -- These modes on a path.
 abbrev pub on : List ℕ → List Mode → List Need

@@ -1,5 +1,5 @@
 //! [`wac_allow`]: the value of the field `WAC-Allow`.
-ghost use Rattle.std.specs.Prelude.{◌≡◌, ◌++◌, IfOk, OnOk, length};
+ghost use Rattle.std.specs.Prelude.{◌≡◌, ◌∷◌, [], IfOk, true, false};
 ghost use Rattle.wac_decide.specs.Allow.{allow_text, granted_words};
 
 use pod_base::{Bytes, BytesBuilder, Mem};
@@ -24,21 +24,53 @@ fn words(granted: [bool; 4]) -> &'static [u8]
     ensures { result.now ≡ granted_words granted }
 {
     match granted {
-        [false, false, false, false] => b"",
-        [true, false, false, false] => b"read",
-        [false, true, false, false] => b"write",
-        [true, true, false, false] => b"read write",
-        [false, false, true, false] => b"append",
-        [true, false, true, false] => b"read append",
-        [false, true, true, false] => b"write append",
-        [true, true, true, false] => b"read write append",
-        [false, false, false, true] => b"control",
-        [true, false, false, true] => b"read control",
-        [false, true, false, true] => b"write control",
-        [true, true, false, true] => b"read write control",
-        [false, false, true, true] => b"append control",
-        [true, false, true, true] => b"read append control",
-        [false, true, true, true] => b"write append control",
-        [true, true, true, true] => b"read write append control",
+        [false, false, append, control] => words_alone(append, control),
+        [true, false, append, control] => words_after_read(append, control),
+        [false, true, append, control] => words_after_write(append, control),
+        [true, true, append, control] => words_after_both(append, control),
+    }
+}
+
+fn words_alone(append: bool, control: bool) -> &'static [u8]
+    ensures { result.now ≡ granted_words (false ∷ false ∷ append ∷ control ∷ []) }
+{
+    match (append, control) {
+        (false, false) => b"",
+        (true, false) => b"append",
+        (false, true) => b"control",
+        (true, true) => b"append control",
+    }
+}
+
+fn words_after_read(append: bool, control: bool) -> &'static [u8]
+    ensures { result.now ≡ granted_words (true ∷ false ∷ append ∷ control ∷ []) }
+{
+    match (append, control) {
+        (false, false) => b"read",
+        (true, false) => b"read append",
+        (false, true) => b"read control",
+        (true, true) => b"read append control",
+    }
+}
+
+fn words_after_write(append: bool, control: bool) -> &'static [u8]
+    ensures { result.now ≡ granted_words (false ∷ true ∷ append ∷ control ∷ []) }
+{
+    match (append, control) {
+        (false, false) => b"write",
+        (true, false) => b"write append",
+        (false, true) => b"write control",
+        (true, true) => b"write append control",
+    }
+}
+
+fn words_after_both(append: bool, control: bool) -> &'static [u8]
+    ensures { result.now ≡ granted_words (true ∷ true ∷ append ∷ control ∷ []) }
+{
+    match (append, control) {
+        (false, false) => b"read write",
+        (true, false) => b"read write append",
+        (false, true) => b"read write control",
+        (true, true) => b"read write append control",
     }
 }

@@ -1,6 +1,6 @@
 //! [`granted`]: the first rule that grants, and in it the first subject that covers the agent.
-ghost use Rattle.std.specs.Prelude.{◌≡◌, ◌↔◌, ℕ, Bool, List, IsTrue, IfSome, IfNone, All, is_some, bytes_eq, false, ◌&&◌, ◌||◌};
-ghost use Rattle.std.specs.List.{list_any, position};
+ghost use Rattle.std.specs.Prelude.{◌≡◌, ◌↔◌, ℕ, Bool, List, IsTrue, IfSome, IfNone, All, is_some, false, ◌||◌, ◌<◌, length};
+ghost use Rattle.std.specs.List.{position};
 ghost use Rattle.pod_base.specs.declared.agent.Mode.TheVariants.{Read, Write, Append, Control};
 ghost use Rattle.pod_base.specs.EachTo.{EachTo};
 ghost use Rattle.pod_base.specs.declared.agent.Agent.TheVariants.{Known};
@@ -59,7 +59,7 @@ pub fn granted_modes<G: Groups>(
     ensures grants { (base : List ℕ) (g : List Triple) → rules.now.list ≡ rules_of base g
         → IsUriOf base (uri_of base at.now) at.now
         → EachTo (λ mode granted. IsTrue granted ↔ Grants (G.is_member groups.now) base g how at.now agent.now mode)
-            allow_modes result }
+        allow_modes result }
 {
     find_modes(rules.list.as_slice(), how, at, agent, groups)
 }
@@ -75,11 +75,26 @@ fn find_ground<G: Groups>(
 ) -> Option<Ground>
     ensures { result ≡ first_ground (G.is_member groups.now) rules.now how at.now agent.now mode }
 {
-    let rule = rules
-        .iter()
-        .position(|rule| rule_grants(rule, how, at, agent, groups, mode))?;
+    let rule = position_of_rule(rules, how, at, agent, groups, mode)?;
     let subject = position_of_subject(&rules[rule], agent, groups)?;
     Some(Ground { rule, subject })
+}
+
+/// The position of the first rule that grants.
+fn position_of_rule<G: Groups>(
+    rules: &[Rule],
+    how: How,
+    at: &Path,
+    agent: &Agent,
+    groups: &G,
+    mode: Mode,
+) -> Option<usize>
+    ensures first { result ≡ position (rule_grants (G.is_member groups.now) how at.now agent.now mode) rules.now }
+    ensures within { IfSome result (λ i. i < length rules.now) }
+{
+    rules
+        .iter()
+        .position(|rule| rule_grants(rule, how, at, agent, groups, mode))
 }
 
 /// Which modes some of the rules grant.

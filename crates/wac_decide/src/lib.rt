@@ -18,9 +18,9 @@ mod allow;
 mod basis;
 mod decision;
 pub mod laws;
-mod needs;
+mod request_needs;
 
 pub use allow::wac_allow;
 pub use basis::basis_of;
 pub use decision::{Ground, granted, granted_modes};
-pub use needs::{Need, Shape, needs};
+pub use request_needs::{Need, Shape, needs};

@@ -1,8 +1,10 @@
 //! [`needs`]: which modes a request needs, and where.
-ghost use Rattle.std.specs.Prelude.{◌≡◌, ◌++◌, [], ◌∷◌, IfOk, OnOk, List, fold};
-ghost use Rattle.pod_base.specs.declared.agent.Mode.{Mode};
-ghost use Rattle.pod_path.specs.Hierarchy.{is_acl, subject_of};
-ghost use Rattle.wac_decide.specs.Needs.{needs_of, all_needs, resource_needs, description_needs, new_row_needs, patch_modes, tag_modes, with_need, on, on_parent, need_eq, mode_eq, is_options};
+ghost use Rattle.std.specs.Prelude.{◌≡◌, ◌++◌, [], ◌∷◌, if◌then◌else◌, IfOk, OnOk, fold};
+ghost use Rattle.std.specs.List.{list_any};
+ghost use Rattle.pod_base.specs.declared.agent.Mode.TheVariants.{Write, Control};
+ghost use Rattle.pod_base.specs.declared.method.Method.TheVariants.{Put, Patch};
+ghost use Rattle.pod_path.specs.Hierarchy.{is_acl, parent_of};
+ghost use Rattle.wac_decide.specs.Needs.{needs_of, resource_needs, description_needs, new_row_needs, patch_modes, tag_modes, with_need, on, on_parent, need_eq, mode_eq};
 
 use pod_base::{List, Mem, Method, Mode, NoMemory};
 use pod_path::Path;
@@ -171,16 +173,39 @@ fn add(alloc: Global, needs: &mut List<Need>, path: &Path, modes: &[Mode]) -> Me
 fn add_one(alloc: Global, needs: &mut List<Need>, path: &Path, mode: Mode) -> Mem<()>
     ensures { OnOk result (needs.new.items ≡ with_need needs.old.items (record { path = path.now; mode = mode })) }
 {
-    if needs
-        .as_slice()
-        .iter()
-        .any(|need| need.mode == mode && need.path == *path)
-    {
+    if has_need(needs.as_slice(), path, mode) {
         return Ok(());
     }
+    push(alloc, needs, path, mode)
+}
+
+/// Adds a mode on a path.
+fn push(alloc: Global, needs: &mut List<Need>, path: &Path, mode: Mode) -> Mem<()>
+    ensures { OnOk result (needs.new.items ≡ needs.old.items ++ (record { path = path.now; mode = mode }) ∷ []) }
+{
     let path = path.copy(alloc)?;
     match needs.push(alloc, Need { path, mode }) {
         Ok(()) => Ok(()),
         Err(_) => Err(NoMemory),
+    }
+}
+
+/// Whether the mode on the path is among the needs.
+fn has_need(needs: &[Need], path: &Path, mode: Mode) -> bool
+    ensures { result ≡ list_any (need_eq (record { path = path.now; mode = mode })) needs.now }
+{
+    needs
+        .iter()
+        .any(|need| is_mode(mode, need.mode) && *path == need.path)
+}
+
+/// Whether these are one mode.
+fn is_mode(a: Mode, b: Mode) -> bool
+    ensures { result ≡ mode_eq a b }
+{
+    match (a, b) {
+        (Mode::Read, Mode::Read) | (Mode::Append, Mode::Append) => true,
+        (Mode::Write, Mode::Write) | (Mode::Control, Mode::Control) => true,
+        _ => false,
     }
 }
