@@ -26,8 +26,8 @@ use Rattle.pod_command.specs.declared.row.Content.TheVariants as contents
 use Rattle.pod_command.specs.declared.row.Kind.{Kind}
 use Rattle.pod_command.specs.declared.row.Kind.TheVariants as kinds
 use Rattle.pod_command.specs.declared.row.Row.{Row}
-use Rattle.pod_command.proofs.Reads.{Reads, AfterTags, Taken, placed_takes, both_reads, both_by_reads, mapped_reads, mapped_again, same_reads, checked_reads, tag_case, no_tags, tagged_reads, just_reads, number_reads, piece_reads, list_reads}
-use Rattle.pod_command.proofs.Tests.{utf8_decides, absolute_decides, path_decides, graph_decides, rows_decide}
+use Rattle.pod_command.proofs.ReadLaws.{Reads, AfterTags, Taken, placed_takes, both_reads, both_by_reads, mapped_reads, mapped_again, same_reads, checked_reads, tag_case, no_tags, tagged_reads, just_reads, number_reads, piece_reads, list_reads}
+use Rattle.pod_command.proofs.Deciders.{utf8_decides, absolute_decides, path_decides, graph_decides, rows_decide}
 
 pub text_reads : Reads IsText text_bytes text_at
 unfolding text_at
@@ -44,7 +44,7 @@ path_reads = checked_reads is_path IsPath path_decides text_reads
 -- ---- terms, triples, graphs
 
 term_tags : AfterTags IsStorableTerm term_bytes term_after
-unfolding term_after, term_bytes
+unfolding term_after term_bytes
 term_tags =
     tag_case 0 terms.Iri (λ _. refl) (λ _ h. h) iri_reads
     (tag_case 1 terms.Blank (λ _. refl) (λ _ h. h) text_reads
@@ -52,7 +52,7 @@ term_tags =
     (tag_case 3 tagged_of (λ _. refl) (λ _ h. h) (both_reads text_reads text_reads) (no_tags IsStorableTerm term_bytes))))
 
 term_again : (x : Term) (rest : List ℕ) → IsStorableTerm x → tagged term_after (term_bytes x ++ rest) ≡ Some (x, rest)
-unfolding term_after, term_bytes
+unfolding term_after term_bytes
 term_again (terms.Iri iri) rest is = mapped_again terms.Iri iri_reads iri rest is
 term_again (terms.Blank label) rest is = mapped_again terms.Blank text_reads label rest is
 term_again (terms.Literal lexical datatype) rest is = mapped_again literal_of (both_reads text_reads iri_reads) (lexical, datatype) rest is
@@ -63,11 +63,11 @@ unfolding term_at
 term_reads = tagged_reads term_tags term_again
 
 pub triple_reads : Reads IsStorableTriple triple_bytes triple_at
-unfolding triple_at, triple_bytes
+unfolding triple_at triple_bytes
 triple_reads = mapped_reads triple_of (λ t. (t.s, (t.p, t.o))) (λ _. refl) (λ _. refl) (both_reads term_reads (both_reads term_reads term_reads))
 
 pub graph_reads : Reads IsStorableGraph graph_bytes graph_at
-unfolding graph_at, graph_bytes
+unfolding graph_at graph_bytes
 graph_reads = checked_reads is_graph IsGraph graph_decides (list_reads triple_reads)
 
 -- ---- rows
@@ -102,7 +102,7 @@ graph_content_form triples = refl
 
 graph_content_again : (kind : Kind) → ((ctype bytes : List ℕ) → FitsKind kind (contents.Bytes ctype bytes) → ⊥)
     → (c : Content) (rest : List ℕ) → IsStorableContent c × FitsKind kind c → graph_content_at (content_bytes c ++ rest) ≡ Some (c, rest)
-unfolding graph_content_at, content_bytes
+unfolding graph_content_at content_bytes
 graph_content_again kind never (contents.Graph triples) rest is = mapped_again contents.Graph graph_reads triples rest is.0
 graph_content_again kind never (contents.Bytes ctype bytes) rest is = absurd (never ctype bytes is.1)
 
@@ -111,7 +111,7 @@ unfolding content_bytes
 bytes_content_form p = refl
 
 bytes_content_again : (c : Content) (rest : List ℕ) → IsStorableContent c × FitsKind kinds.Bytes c → bytes_content_at (content_bytes c ++ rest) ≡ Some (c, rest)
-unfolding bytes_content_at, content_bytes
+unfolding bytes_content_at content_bytes
 bytes_content_again (contents.Graph triples) rest is = absurd is.1
 bytes_content_again (contents.Bytes ctype bytes) rest is = mapped_again bytes_of (both_reads text_reads piece_reads) (ctype, bytes) rest is.0
 
@@ -139,7 +139,7 @@ content_reads kinds.Bytes = bytes_content_reads
 content_reads kinds.Meta = graph_content_reads kinds.Meta (λ _. tt) (λ _ _ h. h)
 
 pub row_reads : Reads IsStorableRow row_bytes row_at
-unfolding row_at, row_bytes
+unfolding row_at row_bytes
 row_reads =
     same_reads IsStorableRow
     (λ r is. record { path = is.0; modified = is.1.1.0; content = is.1.1.1.0; fits = is.1.1.1.1 })
@@ -159,7 +159,7 @@ rows_reads = checked_reads (is_rising path_cmp) AreInOrder rows_decide (list_rea
 -- ---- edits
 
 edit_tags : AfterTags IsStorableEdit edit_bytes edit_after
-unfolding edit_after, edit_bytes
+unfolding edit_after edit_bytes
 edit_tags =
     tag_case 0 edits.Put (λ _. refl) (λ _ h. h) row_reads
     (tag_case 1 change_of (λ _. refl) (λ _ h. h) (both_reads path_reads (both_reads number_reads (both_reads graph_reads graph_reads)))
@@ -167,7 +167,7 @@ edit_tags =
     (tag_case 3 edits.Remove (λ _. refl) (λ _ h. h) path_reads (no_tags IsStorableEdit edit_bytes))))
 
 edit_again : (x : Edit) (rest : List ℕ) → IsStorableEdit x → tagged edit_after (edit_bytes x ++ rest) ≡ Some (x, rest)
-unfolding edit_after, edit_bytes
+unfolding edit_after edit_bytes
 edit_again (edits.Put row) rest is = mapped_again edits.Put row_reads row rest is
 edit_again (edits.Change path change modified) rest is =
     mapped_again change_of (both_reads path_reads (both_reads number_reads (both_reads graph_reads graph_reads)))
@@ -182,13 +182,13 @@ edit_reads = tagged_reads edit_tags edit_again
 -- ---- agents, bases, methods
 
 agent_tags : AfterTags IsStorableAgent agent_bytes agent_after
-unfolding agent_after, agent_bytes
+unfolding agent_after agent_bytes
 agent_tags =
     tag_case 0 (λ (_ : Unit {0}). agents.Public) (λ _. refl) (λ _ h. h) just_reads
     (tag_case 1 agents.Known (λ _. refl) (λ _ h. h) text_reads (no_tags IsStorableAgent agent_bytes))
 
 agent_again : (x : Agent) (rest : List ℕ) → IsStorableAgent x → tagged agent_after (agent_bytes x ++ rest) ≡ Some (x, rest)
-unfolding agent_after, agent_bytes
+unfolding agent_after agent_bytes
 agent_again agents.Public rest is = refl
 agent_again (agents.Known iri) rest is = mapped_again agents.Known text_reads iri rest is
 
@@ -197,7 +197,7 @@ unfolding agent_at
 agent_reads = tagged_reads agent_tags agent_again
 
 who_tags : AfterTags IsStorableWho who_bytes who_after
-unfolding who_after, who_bytes
+unfolding who_after who_bytes
 who_tags =
     tag_case 0 (λ (_ : Unit {0}). whos.Agent) (λ _. refl) (λ _ h. h) just_reads
     (tag_case 1 (λ (_ : Unit {0}). whos.Everyone) (λ _. refl) (λ _ h. h) just_reads
@@ -205,7 +205,7 @@ who_tags =
     (tag_case 3 whos.Group (λ _. refl) (λ _ h. h) text_reads (no_tags IsStorableWho who_bytes))))
 
 who_again : (x : Who) (rest : List ℕ) → IsStorableWho x → tagged who_after (who_bytes x ++ rest) ≡ Some (x, rest)
-unfolding who_after, who_bytes
+unfolding who_after who_bytes
 who_again whos.Agent rest is = refl
 who_again whos.Everyone rest is = refl
 who_again whos.Authenticated rest is = refl
@@ -216,7 +216,7 @@ unfolding who_at
 who_reads = tagged_reads who_tags who_again
 
 pub basis_reads : Reads IsStorableBasis basis_bytes basis_at
-unfolding basis_at, basis_bytes
+unfolding basis_at basis_bytes
 basis_reads =
     same_reads IsStorableBasis
     (λ b is. record { acl = is.0; rule = is.1.0; who = is.1.1 })

@@ -1,5 +1,5 @@
-pub mod Reads
-pub mod Tests
+pub mod ReadLaws
+pub mod Deciders
 pub mod Forms
 pub mod Whole
 pub mod Sizes

@@ -1,5 +1,5 @@
 -- Whole entries and snapshots are read by their forms.
-use Rattle.std.proofs.Common.{◌≡◌, ℕ, List, [], ◌∷◌, ◌++◌, Option, Some, None, Result, Ok, Err, refl, sym, ap, ◌∙◌}
+use Rattle.std.proofs.Common.{◌≡◌, ℕ, List, [], ◌∷◌, ◌++◌, Option, Some, None, Result, Ok, Err, refl, sym, ap, ◌∙◌, arith}
 use Rattle.std.specs.Prelude.{IfOk, IsErrOf}
 use Rattle.std.proofs.lemmas.Option.{same_Some}
 use Rattle.pod_command.specs.Bare.{bare_entry, without_bases, bare_snapshot}
@@ -17,7 +17,7 @@ use Rattle.pod_command.specs.declared.read_back.ReadBack.{ReadBack}
 use Rattle.pod_command.specs.declared.read_back.ReadBack.TheVariants as faults
 use Rattle.pod_command.specs.declared.row.Row.{Row}
 use Rattle.pod_command.specs.declared.snapshot.Snapshot.{Snapshot}
-use Rattle.pod_command.proofs.Reads.{IsBytes, Reads, AfterTags, both_reads, mapped_again, tag_case, no_tags, tagged_reads, list_reads, number_reads, whole_takes, whole_again}
+use Rattle.pod_command.proofs.ReadLaws.{IsBytes, Reads, AfterTags, both_reads, mapped_again, tag_case, no_tags, tagged_reads, list_reads, number_reads, whole_takes, whole_again}
 use Rattle.pod_command.proofs.Forms.{text_reads, iri_reads, edit_reads, basis_reads, rows_reads, origin_reads, request_reads}
 
 -- ---- format 2
@@ -26,7 +26,7 @@ abbrev Is2 : Entry → Type 0
 Is2 e = IsStorable e × (bare_entry e ≡ e)
 
 entry_tags : AfterTags Is2 entry_bytes (after_tag 2 new_entry_at no_tag)
-unfolding new_entry_at, entry_bytes, origin_bytes, request_bytes
+unfolding new_entry_at entry_bytes origin_bytes request_bytes
 entry_tags =
     tag_case 2 entry_of_2 (λ _. refl)
     (λ p is. (record {
@@ -37,7 +37,7 @@ entry_tags =
     (no_tags Is2 entry_bytes)
 
 entry_again : (e : Entry) (rest : List ℕ) → Is2 e → tagged (after_tag 2 new_entry_at no_tag) (entry_bytes e ++ rest) ≡ Some (e, rest)
-unfolding new_entry_at, entry_bytes, origin_bytes, request_bytes
+unfolding new_entry_at entry_bytes origin_bytes request_bytes
 entry_again e rest is =
     let s = is.0 in
     mapped_again entry_of_2 (both_reads origin_reads (both_reads request_reads (both_reads (list_reads edit_reads) (list_reads basis_reads))))
@@ -52,7 +52,7 @@ bare_is : (e : Entry) → IsStorable e → IsStorable (bare_entry e)
 bare_is e s = record { seq = s.seq; conn = s.conn; number = s.number; agent = s.agent; moment = s.moment; method = s.method; path = s.path; edits = s.edits; bases = s.bases }
 
 bare_form : (e : Entry) → entry_bytes (bare_entry e) ≡ entry_bytes e
-unfolding entry_bytes, origin_bytes, request_bytes
+unfolding entry_bytes origin_bytes request_bytes
 bare_form e = refl
 
 pub entry_taken : (bytes : List ℕ) (e : Entry) → IsBytes bytes → entry_in bytes ≡ Some e → (bytes ≡ entry_bytes e) × IsStorable e
@@ -72,7 +72,7 @@ abbrev Is1 : Entry → Type 0
 Is1 e = IsStorable e × (without_bases e ≡ e)
 
 old_tags : AfterTags Is1 entry_1_bytes (after_tag 1 old_entry_at no_tag)
-unfolding old_entry_at, entry_1_bytes, origin_bytes, request_bytes
+unfolding old_entry_at entry_1_bytes origin_bytes request_bytes
 old_tags =
     tag_case 1 entry_of_1 (λ _. refl)
     (λ p is. (record {
@@ -83,7 +83,7 @@ old_tags =
     (no_tags Is1 entry_1_bytes)
 
 old_again : (e : Entry) (rest : List ℕ) → Is1 e → tagged (after_tag 1 old_entry_at no_tag) (entry_1_bytes e ++ rest) ≡ Some (e, rest)
-unfolding old_entry_at, entry_1_bytes, origin_bytes, request_bytes
+unfolding old_entry_at entry_1_bytes origin_bytes request_bytes
 old_again e rest is =
     let s = is.0 in
     mapped_again entry_of_1 (both_reads origin_reads (both_reads request_reads (list_reads edit_reads)))
@@ -98,7 +98,7 @@ old_is : (e : Entry) → IsStorable e → IsStorable (without_bases e)
 old_is e s = record { seq = s.seq; conn = s.conn; number = s.number; agent = s.agent; moment = s.moment; method = s.method; path = s.path; edits = s.edits; bases = no_bases }
 
 old_form : (e : Entry) → entry_1_bytes (without_bases e) ≡ entry_1_bytes e
-unfolding entry_1_bytes, origin_bytes, request_bytes
+unfolding entry_1_bytes origin_bytes request_bytes
 old_form e = refl
 
 pub old_taken : (bytes : List ℕ) (e : Entry) → IsBytes bytes → entry_1_in bytes ≡ Some e → (bytes ≡ entry_1_bytes e) × IsStorable e × (e.bases.items ≡ [])
@@ -117,7 +117,7 @@ abbrev Is0 : Snapshot → Type 0
 Is0 s = IsStorableSnapshot s × (bare_snapshot s ≡ s)
 
 snapshot_tags : AfterTags Is0 snapshot_bytes (after_tag 0 snapshot_at no_tag)
-unfolding snapshot_at, snapshot_bytes
+unfolding snapshot_at snapshot_bytes
 snapshot_tags =
     tag_case 0 snapshot_of (λ _. refl)
     (λ p is. (record { seq = is.0; base = is.1.0; owner = is.1.1.0; rows = is.1.1.1.0; order = is.1.1.1.1 }, refl))
@@ -125,7 +125,7 @@ snapshot_tags =
     (no_tags Is0 snapshot_bytes)
 
 snapshot_again : (s : Snapshot) (rest : List ℕ) → Is0 s → tagged (after_tag 0 snapshot_at no_tag) (snapshot_bytes s ++ rest) ≡ Some (s, rest)
-unfolding snapshot_at, snapshot_bytes
+unfolding snapshot_at snapshot_bytes
 snapshot_again s rest is =
     let i = is.0 in
     mapped_again snapshot_of (both_reads number_reads (both_reads iri_reads (both_reads text_reads rows_reads)))

@@ -1,7 +1,7 @@
 -- Reading stored forms from left to right. A reader gives a value and the bytes after its form, or
 -- nothing where the bytes begin with the form of no value.
 use Rattle.std.specs.Prelude.{◌≡◌, ℕ, zero, suc, Bool, List, [], ◌∷◌, length, take, drop}
-use Rattle.std.specs.Prelude.{Option, Some, None, Result, Ok, Err, Unit, nat_lt, ◌==◌, if◌then◌else◌}
+use Rattle.std.specs.Prelude.{Option, Some, None, Result, Ok, Err, nat_lt, ◌==◌, if◌then◌else◌}
 use Rattle.std.specs.Int.{w64, from_be_bytes}
 use Rattle.pod_command.specs.declared.read_back.ReadBack.{ReadBack}
 use Rattle.pod_command.specs.declared.read_back.ReadBack.TheVariants as faults

@@ -1,6 +1,6 @@
 -- What the values of the types are. Clauses see numbers, texts and lists of any kind; those of a value
 -- are bounded, UTF-8, absolute, normal and so on.
-use Rattle.std.specs.Prelude.{ℕ, List, Unit, length, ◌<◌, ◌^◌}
+use Rattle.std.specs.Prelude.{ℕ, List, length, ◌<◌, ◌^◌}
 use Rattle.std.specs.List.{AllByRecursion}
 use Rattle.std.specs.Str.{IsUtf8}
 use Rattle.iri_ref.specs.Components.{IsAbsolute}

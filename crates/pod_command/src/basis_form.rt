@@ -11,7 +11,7 @@ use crate::graph_form::{put_term, term_of, term_size};
 use crate::read_back::ReadBack;
 use crate::reading::{byte_of, path_of, text_of};
 use crate::stored::Stored;
-use crate::writing::{byte_size, piece_size, plus, put_byte, put_path, put_text};
+use crate::writing::{after_byte, byte_size, piece_size, plus, put_byte, put_path, put_text};
 use pod_base::Mem;
 use std::alloc::Global;
 
@@ -39,7 +39,7 @@ fn who_size(who: &Who) -> u64
 {
     match who {
         Who::Agent | Who::Everyone | Who::Authenticated => byte_size(),
-        Who::Group(iri) => plus(byte_size(), piece_size(iri.as_str().as_bytes())),
+        Who::Group(iri) => after_byte(piece_size(iri.as_str().as_bytes())),
     }
 }
 
@@ -101,7 +101,6 @@ fn basis_of(alloc: Global, bytes: &[u8]) -> Result<(Basis, &[u8]), ReadBack>
 }
 
 impl Stored for Basis {
-    ghost use Rattle.std.specs.Prelude.{Unit};
     ghost use Rattle.pod_command.specs.Reading.{basis_at};
     ghost use Rattle.pod_command.specs.Storable.{IsStorableBasis};
     ghost use Rattle.pod_command.specs.StoredForms.{basis_bytes};

@@ -14,7 +14,7 @@ use crate::read_back::ReadBack;
 use crate::reading::{byte_of, number_of, path_of};
 use crate::row_form::{put_row, row_of, row_size};
 use crate::stored::Stored;
-use crate::writing::{byte_size, number_size, piece_size, plus, put_byte, put_number, put_path};
+use crate::writing::{after_byte, number_size, piece_size, plus, put_byte, put_number, put_path};
 use pod_base::{Mem, Moment};
 use rdf_graph::Change;
 use std::alloc::Global;
@@ -60,18 +60,18 @@ fn edit_size(edit: &Edit) -> u64
     ensures { result ≡ saturated (length (edit_bytes edit.now)) }
 {
     match edit {
-        Edit::Put(row) => plus(byte_size(), row_size(row)),
+        Edit::Put(row) => after_byte(row_size(row)),
         Edit::Change { path, change, .. } => {
             let graphs = plus(graph_size(&change.removed), graph_size(&change.added));
             let rest = plus(number_size(), graphs);
             let rest = plus(piece_size(path.as_str().as_bytes()), rest);
-            plus(byte_size(), rest)
+            after_byte(rest)
         }
         Edit::Touch { path, .. } => {
             let rest = plus(piece_size(path.as_str().as_bytes()), number_size());
-            plus(byte_size(), rest)
+            after_byte(rest)
         }
-        Edit::Remove { path } => plus(byte_size(), piece_size(path.as_str().as_bytes())),
+        Edit::Remove { path } => after_byte(piece_size(path.as_str().as_bytes())),
     }
 }
 

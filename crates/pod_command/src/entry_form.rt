@@ -1,5 +1,5 @@
 //! The stored forms of entries, in both formats.
-ghost use Rattle.std.specs.Prelude.{◌≡◌, ◌++◌, ◌∷◌, ⊥, [], length, IfOk, IsErrOf, OnOk};
+ghost use Rattle.std.specs.Prelude.{◌≡◌, ◌++◌, ◌∷◌, [], length, IfOk, IsErrOf, OnOk};
 ghost use Rattle.rdf_graph.specs.Size.{saturated};
 ghost use Rattle.pod_command.specs.Bare.{bare_entry, without_bases};
 ghost use Rattle.pod_command.specs.Encodable.{IsChanging, IsEncodable};
@@ -20,7 +20,7 @@ use crate::read_back::ReadBack;
 use crate::reading::{byte_of, number_of, path_of, text_of};
 use crate::stored::{list_of, list_size, put_list};
 use crate::writing::{
-    byte_size, number_size, piece_size, plus, put_byte, put_number, put_path, put_text,
+    after_byte, byte_size, number_size, piece_size, plus, put_byte, put_number, put_path, put_text,
 };
 use pod_base::{Agent, Bytes, List, Mem, Method, Moment, NoMemory};
 use pod_path::Path;
@@ -67,7 +67,7 @@ pub fn entry_size(e: &Entry) -> u64
     let lists = plus(list_size(e.edits.as_slice()), list_size(e.bases.as_slice()));
     let rest = plus(request_size(e), lists);
     let rest = plus(origin_size(e), rest);
-    plus(byte_size(), rest)
+    after_byte(rest)
 }
 
 /// The entry whose stored form in format 2 the bytes are.
@@ -127,9 +127,9 @@ fn put_entry(out: &mut Vec<u8>, e: &Entry) -> Mem<()>
 #[tactic(auto, unfolding(crate::specs::StoredForms::origin_bytes))]
 fn put_origin(out: &mut Vec<u8>, e: &Entry) -> Mem<()>
     ensures form { OnOk result (out.new.items ≡ out.old.items ++ origin_bytes e.now) }
-    ensures seq { IsNumber e.now.seq }
-    ensures conn { IsNumber e.now.conn }
-    ensures number { IsNumber e.now.number }
+    ensures seq { OnOk result (IsNumber e.now.seq) }
+    ensures conn { OnOk result (IsNumber e.now.conn) }
+    ensures number { OnOk result (IsNumber e.now.number) }
     ensures agent { OnOk result (IsStorableAgent e.now.agent) }
 {
     put_number(out, e.seq)?;
@@ -142,7 +142,7 @@ fn put_origin(out: &mut Vec<u8>, e: &Entry) -> Mem<()>
 #[tactic(auto, unfolding(crate::specs::StoredForms::request_bytes))]
 fn put_request(out: &mut Vec<u8>, e: &Entry) -> Mem<()>
     ensures form { OnOk result (out.new.items ≡ out.old.items ++ request_bytes e.now) }
-    ensures moment { IsNumber e.now.moment.0 }
+    ensures moment { OnOk result (IsNumber e.now.moment.0) }
     ensures path { OnOk result (IsPathText e.now.path) }
 {
     put_number(out, e.moment.0)?;
@@ -193,7 +193,7 @@ fn origin_size(e: &Entry) -> u64
 fn request_size(e: &Entry) -> u64
     ensures { result ≡ saturated (length (request_bytes e.now)) }
 {
-    let rest = plus(byte_size(), piece_size(e.path.as_str().as_bytes()));
+    let rest = after_byte(piece_size(e.path.as_str().as_bytes()));
     plus(number_size(), rest)
 }
 
@@ -204,7 +204,7 @@ fn agent_size(agent: &Agent) -> u64
 {
     match agent {
         Agent::Public => byte_size(),
-        Agent::Known(iri) => plus(byte_size(), piece_size(iri.as_str().as_bytes())),
+        Agent::Known(iri) => after_byte(piece_size(iri.as_str().as_bytes())),
     }
 }
 

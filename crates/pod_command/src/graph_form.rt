@@ -112,7 +112,6 @@ fn triple_of(alloc: Global, bytes: &[u8]) -> Result<(Triple, &[u8]), ReadBack>
 }
 
 impl Stored for Triple {
-    ghost use Rattle.std.specs.Prelude.{Unit};
     ghost use Rattle.pod_command.specs.Reading.{triple_at};
     ghost use Rattle.pod_command.specs.Storable.{IsStorableTriple};
     ghost use Rattle.pod_command.specs.StoredForms.{triple_bytes};

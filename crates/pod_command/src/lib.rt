@@ -8,6 +8,7 @@ mod edit_form;
 mod entry;
 mod entry_form;
 mod graph_form;
+pub mod laws;
 mod read_back;
 mod reading;
 mod row;

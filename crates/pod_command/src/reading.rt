@@ -2,7 +2,7 @@
 //!
 //! Each function returns the value and the bytes after it. The memory of a value is its own: it keeps
 //! no stored bytes alive.
-ghost use Rattle.std.specs.Prelude.{◌≡◌, ◌==◌, Unit, length};
+ghost use Rattle.std.specs.Prelude.{◌≡◌, ◌==◌, length};
 ghost use Rattle.std.specs.Prelude.{if◌then◌else◌, Some, None};
 ghost use Rattle.pod_command.specs.Readers.{Gives, byte_at, number_at, piece_at};
 ghost use Rattle.pod_command.specs.Reading.{iri_at, is_absolute, is_path, path_at, text_at};

@@ -14,7 +14,7 @@ use crate::reading::{byte_of, bytes_of, number_of, path_of, text_of};
 use crate::row::{Content, Kind, Row};
 use crate::stored::Stored;
 use crate::writing::{
-    byte_size, number_size, piece_size, plus, put_byte, put_number, put_path, put_piece, put_text,
+    after_byte, number_size, piece_size, plus, put_byte, put_number, put_path, put_piece, put_text,
 };
 use pod_base::{Mem, Moment};
 use std::alloc::Global;
@@ -133,7 +133,7 @@ pub(crate) fn row_size(row: &Row) -> u64
     ensures { result ≡ saturated (length (row_bytes row.now)) }
 {
     let rest = plus(number_size(), content_size(&row.content));
-    let rest = plus(byte_size(), rest);
+    let rest = after_byte(rest);
     plus(piece_size(row.path.as_str().as_bytes()), rest)
 }
 

@@ -1,5 +1,5 @@
 //! The stored forms of snapshots.
-ghost use Rattle.std.specs.Prelude.{◌≡◌, ◌++◌, ◌∷◌, ⊥, [], length, IfOk, IsErrOf, OnOk};
+ghost use Rattle.std.specs.Prelude.{◌≡◌, ◌++◌, ◌∷◌, [], length, IfOk, IsErrOf, OnOk};
 ghost use Rattle.rdf_graph.specs.Size.{saturated};
 ghost use Rattle.pod_command.specs.Bare.{bare_snapshot};
 ghost use Rattle.pod_command.specs.Encodable.{IsEncodableSnapshot, path_cmp};
@@ -17,7 +17,7 @@ use crate::row::Row;
 use crate::snapshot::Snapshot;
 use crate::stored::{list_of, list_size, put_list};
 use crate::writing::{
-    byte_size, number_size, piece_size, plus, put_byte, put_iri, put_number, put_text,
+    after_byte, number_size, piece_size, plus, put_byte, put_iri, put_number, put_text,
 };
 use pod_base::{Bytes, List, Mem, NoMemory};
 use std::alloc::Global;
@@ -80,7 +80,7 @@ fn snapshot_size(s: &Snapshot) -> u64
     let rest = plus(owner, list_size(s.rows.as_slice()));
     let rest = plus(piece_size(s.base.as_str().as_bytes()), rest);
     let rest = plus(number_size(), rest);
-    plus(byte_size(), rest)
+    after_byte(rest)
 }
 
 /// The snapshot that all of the bytes are.

@@ -61,6 +61,7 @@ pub(crate) fn copy_list<T: Stored + Drop>(alloc: Global, items: &[T]) -> Mem<Vec
 }
 
 /// The size of a list's form, at most 2^64 - 1.
+#[tactic(auto, unfolding(crate::specs::StoredForms::list_bytes))]
 pub(crate) fn list_size<T: Stored>(items: &[T]) -> u64
     ensures { result ≡ saturated (length (list_bytes T.form items.now)) }
 {
@@ -72,6 +73,7 @@ pub(crate) fn list_size<T: Stored>(items: &[T]) -> u64
 }
 
 /// Appends a list's form.
+#[tactic(auto, unfolding(crate::specs::StoredForms::list_bytes))]
 pub(crate) fn put_list<T: Stored>(out: &mut Vec<u8>, items: &[T]) -> Mem<()>
     requires { AllByRecursion T.fits items.now }
     ensures form { OnOk result (out.new.items ≡ out.old.items ++ list_bytes T.form items.now) }

@@ -1,5 +1,5 @@
 //! Numbers and texts, at the end of stored bytes; and the sizes of stored forms.
-ghost use Rattle.std.specs.Prelude.{◌≡◌, ◌++◌, ◌∷◌, ℕ, List, [], length, OnOk};
+ghost use Rattle.std.specs.Prelude.{◌≡◌, ◌++◌, ◌∷◌, ℕ, suc, List, [], length, OnOk};
 ghost use Rattle.rdf_graph.specs.Size.{saturated};
 ghost use Rattle.pod_command.specs.StoredForms.{number_bytes, text_bytes};
 ghost use Rattle.pod_command.specs.Storable.{IsCounted, IsIriText, IsPathText, IsText};
@@ -71,9 +71,16 @@ pub(crate) fn plus(first: u64, second: u64) -> u64
 /// The size of a byte.
 #[tactic(auto, unfolding(rdf_graph::specs::Size::saturated))]
 pub(crate) fn byte_size() -> u64
-    ensures { (byte : ℕ) → result ≡ saturated (length (byte ∷ [])) }
+    ensures { result ≡ saturated 1 }
 {
     1
+}
+
+/// The size of a byte and of what follows it, at most 2^64 - 1.
+pub(crate) fn after_byte(rest: u64) -> u64
+    ensures { (m : List ℕ) → rest ≡ saturated (length m) → result ≡ saturated (suc (length m)) }
+{
+    rest.saturating_add(1)
 }
 
 /// The size of a number.
@@ -85,6 +92,7 @@ pub(crate) fn number_size() -> u64
 }
 
 /// The size of bytes after their number.
+#[tactic(auto, unfolding(crate::specs::StoredForms::text_bytes))]
 pub(crate) fn piece_size(piece: &[u8]) -> u64
     ensures { result ≡ saturated (length (text_bytes piece.now)) }
 {

@@ -1,6 +1,6 @@
 -- What a reader takes is the form of a value, and a value is read again from its form, whatever
 -- follows it: one law for each way to build readers.
-use Rattle.std.proofs.Common.{◌≡◌, ⊎_elim, ℕ, zero, suc, ◌+◌, ◌^◌, ◌<◌, ◌≤◌, Bool, true, false, cond, eqb, ltb, List, [], ◌∷◌, ◌++◌, length, get_or, take, drop, Option, Some, None, refl, sym, ap, subst, ◌∙◌, append_assoc, arith, inl, inr}
+use Rattle.std.proofs.Common.{◌≡◌, ◌⊎◌, ℕ, zero, suc, ◌+◌, ◌^◌, ◌<◌, ◌≤◌, Bool, true, false, cond, eqb, ltb, List, [], ◌∷◌, ◌++◌, length, get_or, take, drop, Option, Some, None, refl, sym, ap, subst, ◌∙◌, append_assoc, arith, inl, inr}
 use Rattle.std.specs.Bool.{Decides}
 use Rattle.std.specs.List.{flat_map, AllByRecursion}
 use Rattle.std.specs.Int.{w64, from_be_bytes, to_be_bytes}
@@ -238,7 +238,7 @@ pub number_reads : Reads IsNumber number_bytes number_at
 number_reads = record { takes = number_takes; again = number_is_again }
 
 piece_takes : (bytes piece rest : List ℕ) → IsBytes bytes → piece_at bytes ≡ Some (piece, rest) → Taken IsCounted text_bytes bytes piece rest
-unfolding piece_at, text_bytes
+unfolding piece_at text_bytes
 piece_takes bytes piece rest fits e =
     let n = bind_some (number_at bytes) (λ n. cond (ltb (length n.1) n.0) None (Some (take n.0 n.1, drop n.0 n.1))) (piece, rest) e in
     let first = number_takes bytes n.0.0 n.0.1 fits n.1 in
@@ -255,7 +255,7 @@ piece_takes bytes piece rest fits e =
         })
 
 piece_again : (piece rest : List ℕ) → IsCounted piece → piece_at (text_bytes piece ++ rest) ≡ Some (piece, rest)
-unfolding piece_at, text_bytes
+unfolding piece_at text_bytes
 piece_again piece rest is =
     let long : ltb (length (piece ++ rest)) (length piece) ≡ false = le-ltb _ _ (omega (arith, length-append piece rest)) in
     ap piece_at (append_assoc (number_bytes (length piece)) piece rest)
@@ -300,7 +300,7 @@ module _ {A : Type 0} {Is : A → Type 0} {form : A → List ℕ} {read : List �
       ∙ ap (λ o. o >>= λ others. Some (x ∷ others.0, others.1)) (times_again xs rest is.1)
 
   list_takes : (bytes : List ℕ) (xs : List A) (rest : List ℕ) → IsBytes bytes → list_at read bytes ≡ Some (xs, rest) → Taken (IsListOf Is) (list_bytes form) bytes xs rest
-  unfolding list_at, list_bytes
+  unfolding list_at list_bytes
   list_takes bytes xs rest fits e =
       let n = bind_some (number_at bytes) (λ n. times_at read n.0 n.1) (xs, rest) e in
       let first = number_takes bytes n.0.0 n.0.1 fits n.1 in
@@ -314,7 +314,7 @@ module _ {A : Type 0} {Is : A → Type 0} {form : A → List ℕ} {read : List �
       }
 
   list_again : (xs : List A) (rest : List ℕ) → IsListOf Is xs → list_at read (list_bytes form xs ++ rest) ≡ Some (xs, rest)
-  unfolding list_at, list_bytes
+  unfolding list_at list_bytes
   list_again xs rest is =
       ap (list_at read) (append_assoc (number_bytes (length xs)) (flat_map form xs) rest)
       ∙ ap (λ o. o >>= λ n. times_at read n.0 n.1) (number_is_again (length xs) (flat_map form xs ++ rest) is.0)

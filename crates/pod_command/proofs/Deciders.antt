@@ -1,7 +1,7 @@
 -- The tests of readers decide what the values of the types are.
-use Rattle.std.proofs.Common.{◌≡◌, ◌≢◌, ⊎_elim, ℕ, Bool, true, false, cond, eqb, not, ◌&&◌, List, [], ◌∷◌, ◌++◌, Result, Ok, Err, refl, sym, ap, subst, ◌∙◌, inl, inr}
+use Rattle.std.proofs.Common.{◌≡◌, ◌⊎◌, ℕ, Bool, true, false, cond, eqb, not, ◌&&◌, List, [], ◌∷◌, ◌++◌, Option, Some, None, Result, Ok, Err, refl, sym, ap, subst, ◌∙◌, inl, inr}
 use Rattle.std.specs.Bool.{Decides}
-use Rattle.std.specs.Prelude.{IsTrue, bytes_eq, ¬◌}
+use Rattle.std.specs.Prelude.{IsTrue, bytes_eq}
 use Rattle.std.specs.List.{list_all, All, AllByRecursion}
 use Rattle.std.specs.List.Sorted.{IsStrictlySortedBy}
 use Rattle.std.specs.Cmp.{IsTotalOrder}
@@ -25,6 +25,7 @@ use Rattle.rdf_graph.specs.declared.term.Term.{Term}
 use Rattle.rdf_graph.specs.declared.term.Term.TheVariants.{Iri, Blank, Literal, Tagged}
 use Rattle.rdf_graph.specs.declared.triple.Triple.{Triple}
 use Rattle.pod_command.specs.Encodable.{path_cmp, AreInOrder}
+use Rattle.pod_command.specs.Readers.{◌>>=◌, checked}
 use Rattle.pod_command.specs.Reading.{is_rest_of_scheme, begins_with_scheme, is_absolute, is_same_path, is_path, is_less, is_below_next, is_rising, is_iri, is_literal, is_rdf, is_graph}
 use Rattle.pod_command.specs.declared.row.Row.{Row}
 
@@ -190,3 +191,24 @@ graph_decides ts = (
       record { ordered = (rising_decides triple_cmp_total ts).0 s.0; rdf = All-from_recursion IsRdf ts (all_rdf ts s.1) },
   λ h. both_true (is_rising triple_cmp ts) (list_all is_rdf ts) ((rising_decides triple_cmp_total ts).1 h.ordered) (rdf_all ts (recursion_from_All IsRdf ts h.rdf)),
 )
+
+-- ---- what passes a test, and what doesn't
+
+pub passes : {A : Type 0} {P : Type 0} (b : Bool) (x y : A) → Decides b P → P → y ≡ x → cond b (Some x) None ≡ Some y
+passes {A} b x y decides h e = ap (λ (t : Bool). cond t (Some x) None) (decides.1 h) ∙ ap (λ (z : A). Some z) (sym e)
+
+none_of : {A : Type 0} {P : Type 0} (b : Bool) (x : A) → (b ≡ true → P) → (P → ⊥) → cond b (Some x) None ≡ None
+none_of true x is h = absurd (h (is refl))
+none_of false x is h = refl
+
+pub fails : {A : Type 0} {P : Type 0} (b : Bool) (x : A) → Decides b P → (P → ⊥) → cond b (Some x) None ≡ None
+fails b x decides h = none_of b x decides.0 h
+
+pub checked_passes : {A : Type 0} {P : Type 0} (test : A → Bool) (read : List ℕ → Option (A × List ℕ)) (bytes : List ℕ) (x y : A) (rest : List ℕ)
+    → read bytes ≡ Some (x, rest) → Decides (test x) P → P → y ≡ x → checked test read bytes ≡ Some (y, rest)
+checked_passes {A} test read bytes x y rest e decides h is =
+    ap (λ o. o >>= λ a. cond (test a.0) (Some a) None) e ∙ passes (test x) (x, rest) (y, rest) decides h (ap (λ (z : A). (z, rest)) is)
+
+pub checked_fails : {A : Type 0} {P : Type 0} (test : A → Bool) (read : List ℕ → Option (A × List ℕ)) (bytes : List ℕ) (x : A) (rest : List ℕ)
+    → read bytes ≡ Some (x, rest) → Decides (test x) P → (P → ⊥) → checked test read bytes ≡ None
+checked_fails test read bytes x rest e decides h = ap (λ o. o >>= λ a. cond (test a.0) (Some a) None) e ∙ fails (test x) (x, rest) decides h
