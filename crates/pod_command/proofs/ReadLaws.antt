@@ -58,12 +58,12 @@ both_by_reads {A} {B} {IsA} {form_a} {read_a} IsB form_b read_b ra rb = record {
       let first = ra.takes bytes a.0.0 a.0.1 fits a.1 in
       let second = (rb a.0.0).takes a.0.1 b.0.0 b.0.1 first.rest_bytes b.1 in
       subst (λ (q : (A × B) × List ℕ). Taken (λ p. IsA p.0 × IsB p.0 p.1) (λ p. form_a p.0 ++ form_b p.0 p.1) bytes q.0 q.1)
-          (same_Some ((a.0.0, b.0.0), b.0.1) (p, rest) b.2)
-          (record {
-            parts = first.parts ∙ ap (λ (t : List ℕ). form_a a.0.0 ++ t) second.parts ∙ sym (append_assoc (form_a a.0.0) (form_b a.0.0 b.0.0) b.0.1);
-            is = (first.is, second.is);
-            rest_bytes = second.rest_bytes;
-          });
+      (same_Some ((a.0.0, b.0.0), b.0.1) (p, rest) b.2)
+      (record {
+        parts = first.parts ∙ ap (λ (t : List ℕ). form_a a.0.0 ++ t) second.parts ∙ sym (append_assoc (form_a a.0.0) (form_b a.0.0 b.0.0) b.0.1);
+        is = (first.is, second.is);
+        rest_bytes = second.rest_bytes;
+      });
   again = λ p rest is.
       ap (both_by read_a read_b) (append_assoc (form_a p.0) (form_b p.0 p.1) rest)
       ∙ ap (λ r. r >>= λ a. read_b a.0 a.1 >>= λ b. Some ((a.0, b.0), b.1)) (ra.again p.0 (form_b p.0 p.1 ++ rest) is.0)
@@ -86,11 +86,11 @@ mapped_takes {A} {B} {Is} {form} {read} f g back r bytes y rest fits e =
     let taken = r.takes bytes a.0.0 a.0.1 fits a.1 in
     let it = sym (back a.0.0) in
     subst (λ (q : B × List ℕ). Taken (λ y. Is (g y)) (λ y. form (g y)) bytes q.0 q.1) (same_Some (f a.0.0, a.0.1) (y, rest) a.2)
-        (record {
-          parts = subst (λ (x : A). bytes ≡ form x ++ a.0.1) it taken.parts;
-          is = subst Is it taken.is;
-          rest_bytes = taken.rest_bytes;
-        })
+    (record {
+      parts = subst (λ (x : A). bytes ≡ form x ++ a.0.1) it taken.parts;
+      is = subst Is it taken.is;
+      rest_bytes = taken.rest_bytes;
+    })
 
 pub mapped_again : {A B : Type 0} {Is : A → Type 0} {form : A → List ℕ} {read : List ℕ → Option (A × List ℕ)}
     (f : A → B) → Reads Is form read → (x : A) (rest : List ℕ) → Is x → mapped f read (form x ++ rest) ≡ Some (f x, rest)
@@ -123,7 +123,7 @@ checked_reads {A} {Is} {form} {read} test P decides r = record {
       let c = cond_some (test a.0.0) a.0 (x, rest) a.2 in
       let taken = r.takes bytes a.0.0 a.0.1 fits a.1 in
       subst (λ (q : A × List ℕ). Taken (λ x. Is x × P x) form bytes q.0 q.1) c.1
-          (record { parts = taken.parts; is = (taken.is, (decides a.0.0).0 c.0); rest_bytes = taken.rest_bytes });
+      (record { parts = taken.parts; is = (taken.is, (decides a.0.0).0 c.0); rest_bytes = taken.rest_bytes });
   again = λ x rest is.
       ap (λ o. o >>= λ a. cond (test a.0) (Some a) None) (r.again x rest is.0)
       ∙ ap (λ (b : Bool). cond b (Some (x, rest)) None) ((decides x).1 is.1);
@@ -139,11 +139,11 @@ placed_takes {A} {B} {IsA} {form_a} {read} {Is} {form} f spells is r bytes x res
     let a = bind_some (read bytes) (λ a. Some (f a.0, a.1)) (x, rest) e in
     let taken = r.takes bytes a.0.0 a.0.1 fits a.1 in
     subst (λ (q : B × List ℕ). Taken Is form bytes q.0 q.1) (same_Some (f a.0.0, a.0.1) (x, rest) a.2)
-        (record {
-          parts = taken.parts ∙ ap (λ (t : List ℕ). t ++ a.0.1) (sym (spells a.0.0));
-          is = is a.0.0 taken.is;
-          rest_bytes = taken.rest_bytes;
-        })
+    (record {
+      parts = taken.parts ∙ ap (λ (t : List ℕ). t ++ a.0.1) (sym (spells a.0.0));
+      is = is a.0.0 taken.is;
+      rest_bytes = taken.rest_bytes;
+    })
 
 -- ---- after a first byte
 
@@ -167,15 +167,15 @@ tag_case {A} {B} {IsA} {form_a} {read} {Is} {form} {others} this f spells is r m
   takes = λ tag bytes x rest fits e.
       elim (chosen (eqb tag this) (mapped f read bytes) (others tag bytes) (Some (x, rest)) e) [
         | inl w ↦ (
-          let a = bind_some (read bytes) (λ a. Some (f a.0, a.1)) (x, rest) w.1 in
-          let taken = r.takes bytes a.0.0 a.0.1 fits a.1 in
-          subst (λ (q : B × List ℕ). Taken Is form (tag ∷ bytes) q.0 q.1) (same_Some (f a.0.0, a.0.1) (x, rest) a.2)
-              (record {
-                parts = ap (λ (t : ℕ). t ∷ bytes) (eqb-true tag this w.0) ∙ ap (λ (t : List ℕ). this ∷ t) taken.parts ∙ ap (λ (t : List ℕ). t ++ a.0.1) (sym (spells a.0.0));
-                is = is a.0.0 taken.is;
-                rest_bytes = taken.rest_bytes;
-              })
-        )
+            let a = bind_some (read bytes) (λ a. Some (f a.0, a.1)) (x, rest) w.1 in
+            let taken = r.takes bytes a.0.0 a.0.1 fits a.1 in
+            subst (λ (q : B × List ℕ). Taken Is form (tag ∷ bytes) q.0 q.1) (same_Some (f a.0.0, a.0.1) (x, rest) a.2)
+            (record {
+              parts = ap (λ (t : ℕ). t ∷ bytes) (eqb-true tag this w.0) ∙ ap (λ (t : List ℕ). this ∷ t) taken.parts ∙ ap (λ (t : List ℕ). t ++ a.0.1) (sym (spells a.0.0));
+              is = is a.0.0 taken.is;
+              rest_bytes = taken.rest_bytes;
+            })
+            )
         | inr w ↦ more.takes tag bytes x rest fits w.1
       ];
 }
@@ -225,7 +225,7 @@ number_takes bytes n rest fits e =
     let front = IsBytes-take 8 bytes fits in
     let spelled : number_bytes (from_be_bytes w64 (take 8 bytes)) ≡ take 8 bytes = number_back (take 8 bytes) (omega (arith, length-take 8 bytes)) front in
     subst (λ (q : ℕ × List ℕ). Taken IsNumber number_bytes bytes q.0 q.1) g.1
-        (record { parts = rw spelled (sym (take-append-drop 8 bytes)); is = below_64 (take 8 bytes) front; rest_bytes = IsBytes-drop 8 bytes fits })
+    (record { parts = rw spelled (sym (take-append-drop 8 bytes)); is = below_64 (take 8 bytes) front; rest_bytes = IsBytes-drop 8 bytes fits })
 
 number_is_again : (n : ℕ) (rest : List ℕ) → IsNumber n → number_at (number_bytes n ++ rest) ≡ Some (n, rest)
 unfolding number_at
@@ -246,13 +246,13 @@ piece_takes bytes piece rest fits e =
     let long : n.0.0 ≤ length n.0.1 = ltb-false _ _ g.0 in
     let len : n.0.0 ≡ length (take n.0.0 n.0.1) = omega (arith, length-take n.0.0 n.0.1) in
     let all : bytes ≡ (number_bytes n.0.0 ++ take n.0.0 n.0.1) ++ drop n.0.0 n.0.1 =
-        first.parts ∙ ap (λ (t : List ℕ). number_bytes n.0.0 ++ t) (sym (take-append-drop n.0.0 n.0.1)) ∙ sym (append_assoc (number_bytes n.0.0) (take n.0.0 n.0.1) (drop n.0.0 n.0.1)) in
+    first.parts ∙ ap (λ (t : List ℕ). number_bytes n.0.0 ++ t) (sym (take-append-drop n.0.0 n.0.1)) ∙ sym (append_assoc (number_bytes n.0.0) (take n.0.0 n.0.1) (drop n.0.0 n.0.1)) in
     subst (λ (q : List ℕ × List ℕ). Taken IsCounted text_bytes bytes q.0 q.1) g.1
-        (record {
-          parts = subst (λ (k : ℕ). bytes ≡ (number_bytes k ++ take n.0.0 n.0.1) ++ drop n.0.0 n.0.1) len all;
-          is = subst IsNumber len first.is;
-          rest_bytes = IsBytes-drop n.0.0 n.0.1 first.rest_bytes;
-        })
+    (record {
+      parts = subst (λ (k : ℕ). bytes ≡ (number_bytes k ++ take n.0.0 n.0.1) ++ drop n.0.0 n.0.1) len all;
+      is = subst IsNumber len first.is;
+      rest_bytes = IsBytes-drop n.0.0 n.0.1 first.rest_bytes;
+    })
 
 piece_again : (piece rest : List ℕ) → IsCounted piece → piece_at (text_bytes piece ++ rest) ≡ Some (piece, rest)
 unfolding piece_at text_bytes
@@ -277,24 +277,24 @@ module _ {A : Type 0} {Is : A → Type 0} {form : A → List ℕ} {read : List �
   unfolding times_at
   times_take zero bytes xs rest fits e =
       subst (λ (q : List A × List ℕ). TakenTimes Is form 0 bytes q.0 q.1) (same_Some ([], bytes) (xs, rest) e)
-          (record { parts = refl; count = refl; each = tt; rest_bytes = fits })
+      (record { parts = refl; count = refl; each = tt; rest_bytes = fits })
   times_take (suc n) bytes xs rest fits e =
       let a = bind_some (read bytes) (λ first. times_at read n first.1 >>= λ others. Some (first.0 ∷ others.0, others.1)) (xs, rest) e in
       let b = bind_some (times_at read n a.0.1) (λ others. Some (a.0.0 ∷ others.0, others.1)) (xs, rest) a.2 in
       let first = r.takes bytes a.0.0 a.0.1 fits a.1 in
       let others = times_take n a.0.1 b.0.0 b.0.1 first.rest_bytes b.1 in
       let all : bytes ≡ flat_map form (a.0.0 ∷ b.0.0) ++ b.0.1 =
-          first.parts ∙ ap (λ (t : List ℕ). form a.0.0 ++ t) others.parts ∙ sym (append_assoc (form a.0.0) (flat_map form b.0.0) b.0.1)
-          ∙ ap (λ (t : List ℕ). t ++ b.0.1) (sym (flat_map-cons form a.0.0 b.0.0)) in
+      first.parts ∙ ap (λ (t : List ℕ). form a.0.0 ++ t) others.parts ∙ sym (append_assoc (form a.0.0) (flat_map form b.0.0) b.0.1)
+      ∙ ap (λ (t : List ℕ). t ++ b.0.1) (sym (flat_map-cons form a.0.0 b.0.0)) in
       subst (λ (q : List A × List ℕ). TakenTimes Is form (suc n) bytes q.0 q.1) (same_Some (a.0.0 ∷ b.0.0, b.0.1) (xs, rest) b.2)
-          (record { parts = all; count = ap suc others.count; each = (first.is, others.each); rest_bytes = others.rest_bytes })
+      (record { parts = all; count = ap suc others.count; each = (first.is, others.each); rest_bytes = others.rest_bytes })
 
   times_again : (xs : List A) (rest : List ℕ) → AllByRecursion Is xs → times_at read (length xs) (flat_map form xs ++ rest) ≡ Some (xs, rest)
   unfolding times_at
   times_again [] rest is = refl
   times_again (x ∷ xs) rest is =
       let regrouped : flat_map form (x ∷ xs) ++ rest ≡ form x ++ (flat_map form xs ++ rest) =
-          ap (λ (t : List ℕ). t ++ rest) (flat_map-cons form x xs) ∙ append_assoc (form x) (flat_map form xs) rest in
+      ap (λ (t : List ℕ). t ++ rest) (flat_map-cons form x xs) ∙ append_assoc (form x) (flat_map form xs) rest in
       ap (times_at read (suc (length xs))) regrouped
       ∙ ap (λ o. o >>= λ first. times_at read (length xs) first.1 >>= λ others. Some (first.0 ∷ others.0, others.1)) (r.again x (flat_map form xs ++ rest) is.0)
       ∙ ap (λ o. o >>= λ others. Some (x ∷ others.0, others.1)) (times_again xs rest is.1)
@@ -306,7 +306,7 @@ module _ {A : Type 0} {Is : A → Type 0} {form : A → List ℕ} {read : List �
       let first = number_takes bytes n.0.0 n.0.1 fits n.1 in
       let items = times_take n.0.0 n.0.1 xs rest first.rest_bytes n.2 in
       let all : bytes ≡ (number_bytes n.0.0 ++ flat_map form xs) ++ rest =
-          first.parts ∙ ap (λ (t : List ℕ). number_bytes n.0.0 ++ t) items.parts ∙ sym (append_assoc (number_bytes n.0.0) (flat_map form xs) rest) in
+      first.parts ∙ ap (λ (t : List ℕ). number_bytes n.0.0 ++ t) items.parts ∙ sym (append_assoc (number_bytes n.0.0) (flat_map form xs) rest) in
       record {
         parts = subst (λ (k : ℕ). bytes ≡ (number_bytes k ++ flat_map form xs) ++ rest) (sym items.count) all;
         is = (subst IsNumber (sym items.count) first.is, items.each);
@@ -332,7 +332,7 @@ module _ {A : Type 0} {Is : A → Type 0} {form : A → List ℕ} {read : List �
       let taken = r.takes bytes a.0.0 a.0.1 fits a.1 in
       let nothing : a.0.1 ≡ [] = nil_from_length a.0.1 (eqb-true _ _ c.0) in
       subst (λ (y : A). (bytes ≡ form y) × Is y) c.1
-          (taken.parts ∙ ap (λ (t : List ℕ). form a.0.0 ++ t) nothing ∙ append-nil (form a.0.0), taken.is)
+      (taken.parts ∙ ap (λ (t : List ℕ). form a.0.0 ++ t) nothing ∙ append-nil (form a.0.0), taken.is)
 
   pub whole_again : (x : A) → Is x → whole read (form x) ≡ Some x
   whole_again x is =

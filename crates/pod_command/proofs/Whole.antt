@@ -29,10 +29,20 @@ entry_tags : AfterTags Is2 entry_bytes (after_tag 2 new_entry_at no_tag)
 unfolding new_entry_at entry_bytes origin_bytes request_bytes
 entry_tags =
     tag_case 2 entry_of_2 (λ _. refl)
-    (λ p is. (record {
-          seq = is.0.0; conn = is.0.1.0; number = is.0.1.1.0; agent = is.0.1.1.1;
-          moment = is.1.0.0; method = is.1.0.1.0; path = is.1.0.1.1; edits = is.1.1.0; bases = is.1.1.1;
-        }, refl))
+    (λ p is. (
+      record {
+        seq = is.0.0;
+        conn = is.0.1.0;
+        number = is.0.1.1.0;
+        agent = is.0.1.1.1;
+        moment = is.1.0.0;
+        method = is.1.0.1.0;
+        path = is.1.0.1.1;
+        edits = is.1.1.0;
+        bases = is.1.1.1;
+      },
+      refl,
+    ))
     (both_reads origin_reads (both_reads request_reads (both_reads (list_reads edit_reads) (list_reads basis_reads))))
     (no_tags Is2 entry_bytes)
 
@@ -75,10 +85,20 @@ old_tags : AfterTags Is1 entry_1_bytes (after_tag 1 old_entry_at no_tag)
 unfolding old_entry_at entry_1_bytes origin_bytes request_bytes
 old_tags =
     tag_case 1 entry_of_1 (λ _. refl)
-    (λ p is. (record {
-          seq = is.0.0; conn = is.0.1.0; number = is.0.1.1.0; agent = is.0.1.1.1;
-          moment = is.1.0.0; method = is.1.0.1.0; path = is.1.0.1.1; edits = is.1.1; bases = no_bases;
-        }, refl))
+    (λ p is. (
+      record {
+        seq = is.0.0;
+        conn = is.0.1.0;
+        number = is.0.1.1.0;
+        agent = is.0.1.1.1;
+        moment = is.1.0.0;
+        method = is.1.0.1.0;
+        path = is.1.0.1.1;
+        edits = is.1.1;
+        bases = no_bases;
+      },
+      refl,
+    ))
     (both_reads origin_reads (both_reads request_reads (list_reads edit_reads)))
     (no_tags Is1 entry_1_bytes)
 

@@ -183,7 +183,21 @@ pub(crate) fn graph_of(alloc: Global, bytes: &[u8]) -> Result<(Graph, &[u8]), Re
 fn is_graph(triples: &[Triple]) -> bool
     ensures { result ≡ is_graph triples.now }
 {
-    are_rising(triples) && triples.iter().all(|triple| triple.is_rdf())
+    are_rising(triples) && are_rdf(triples)
+}
+
+/// Whether these are triples of RDF.
+fn are_rdf(triples: &[Triple]) -> bool
+    ensures { result ≡ list_all is_rdf triples.now }
+{
+    triples.iter().all(|triple| is_rdf(triple))
+}
+
+/// Whether this is a triple of RDF.
+fn is_rdf(triple: &Triple) -> bool
+    ensures { result ≡ is_rdf triple.now }
+{
+    triple.is_rdf()
 }
 
 /// Whether each triple is less than the next.

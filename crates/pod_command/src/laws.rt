@@ -18,5 +18,4 @@ pub fn one_form()
     ensures formats { (a b : Entry) → entry_bytes a ≡ entry_1_bytes b → ⊥ }
     ensures records { (a : Entry) (s : Snapshot) → entry_bytes a ≡ snapshot_bytes s → ⊥ }
     ensures old_records { (a : Entry) (s : Snapshot) → entry_1_bytes a ≡ snapshot_bytes s → ⊥ }
-{
-}
+{}

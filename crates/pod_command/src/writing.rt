@@ -2,7 +2,7 @@
 ghost use Rattle.std.specs.Prelude.{◌≡◌, ◌++◌, ◌∷◌, ℕ, suc, List, [], length, OnOk};
 ghost use Rattle.rdf_graph.specs.Size.{saturated};
 ghost use Rattle.pod_command.specs.StoredForms.{number_bytes, text_bytes};
-ghost use Rattle.pod_command.specs.Storable.{IsCounted, IsIriText, IsPathText, IsText};
+ghost use Rattle.pod_command.specs.Storable.{IsCounted, IsIriText, IsNumber, IsPathText, IsText};
 
 use iri_ref::Iri;
 use pod_base::{Mem, Text};
@@ -19,7 +19,8 @@ pub(crate) fn put_byte(out: &mut Vec<u8>, byte: u8) -> Mem<()>
 /// Appends a number.
 #[tactic(auto, unfolding(crate::specs::StoredForms::number_bytes))]
 pub(crate) fn put_number(out: &mut Vec<u8>, number: u64) -> Mem<()>
-    ensures { OnOk result (out.new.items ≡ out.old.items ++ number_bytes number) }
+    ensures form { OnOk result (out.new.items ≡ out.old.items ++ number_bytes number) }
+    ensures storable { IsNumber number }
 {
     out.extend_from_slice(&number.to_be_bytes())?;
     Ok(())

@@ -12,7 +12,7 @@ returns-in_err-item g c =
 pub loop-preserved : goal.loop-preserved
 loop-preserved g c =
     rw c.in_ok-push.ensures.items
-        (goes_on g.T.Stored.reads c.loop.items.items c.args.count c.loop.counter c.loop.rest.now c.in_ok-item.item c.in_ok-item.after.now (times_at g.T.Stored.reads c.args.count c.args.bytes.now) c.loop-test.true c.in_ok-item.ensures c.loop.invariant)
+    (goes_on g.T.Stored.reads c.loop.items.items c.args.count c.loop.counter c.loop.rest.now c.in_ok-item.item c.in_ok-item.after.now (times_at g.T.Stored.reads c.args.count c.args.bytes.now) c.loop-test.true c.in_ok-item.ensures c.loop.invariant)
 
 pub returns : goal.returns
 returns g c = is_done g.T.Stored.reads c.loop.items.items c.args.count c.loop.counter c.loop.rest.now (times_at g.T.Stored.reads c.args.count c.args.bytes.now) c.loop-test.false c.loop.invariant
