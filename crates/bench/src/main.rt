@@ -5,6 +5,7 @@
 #![tactic(auto)]
 
 mod building;
+mod coding;
 mod joining;
 mod opening;
 mod reading;
@@ -13,6 +14,7 @@ mod writing;
 
 use anyhow::bail;
 use building::build_graph;
+use coding::code_snapshots;
 use joining::join_conditions;
 use opening::open_journal;
 use reading::{Looks, read_versions};
@@ -30,6 +32,7 @@ fn number(rt: &HostRuntime, place: usize, other: usize) -> anyhow::Result<usize>
 /// Runs the figures of one thread with small counts.
 fn run_small(rt: &HostRuntime, alloc: Global) -> anyhow::Result<()> {
     build_graph(rt, alloc, 1_000, false)?;
+    code_snapshots(rt, alloc, 100, false)?;
     join_conditions(rt, alloc, 1_000, false)?;
     open_journal(rt, alloc, false)?;
     serve_stream(rt, alloc, 100, 1, false)?;
@@ -61,6 +64,7 @@ fn main(rt: HostRuntime) -> anyhow::Result<()> {
     };
     let first = number(&rt, 2, 0)?;
     match word.as_str() {
+        "codec" => code_snapshots(&rt, alloc, first, true),
         "graph" => build_graph(&rt, alloc, first, true),
         "join" => join_conditions(&rt, alloc, first, true),
         "journal" => open_journal(&rt, alloc, true),

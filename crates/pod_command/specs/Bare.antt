@@ -1,6 +1,6 @@
 -- Entries and snapshots without the spare room of their lists. Two that agree in all else are equal
 -- values, and have one bare form.
-use Rattle.std.specs.Prelude.{ℕ}
+use Rattle.std.specs.Prelude.{ℕ, []}
 use Rattle.pod_base.specs.Listed.{Listed, listed}
 use Rattle.pod_command.specs.declared.entry.Entry.{Entry}
 use Rattle.pod_command.specs.declared.snapshot.Snapshot.{Snapshot}
@@ -20,6 +20,20 @@ bare_entry e = record {
   path = e.path;
   edits = bare e.edits;
   bases = bare e.bases;
+}
+
+-- what format 1 has of an entry: all but its bases
+abbrev pub without_bases : Entry → Entry
+without_bases e = record {
+  seq = e.seq;
+  conn = e.conn;
+  number = e.number;
+  agent = e.agent;
+  moment = e.moment;
+  method = e.method;
+  path = e.path;
+  edits = bare e.edits;
+  bases = listed [] 0;
 }
 
 abbrev pub bare_snapshot : Snapshot → Snapshot

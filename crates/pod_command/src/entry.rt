@@ -3,8 +3,8 @@ ghost use Rattle.std.specs.Prelude.{◌≡◌, IfOk};
 ghost use Rattle.pod_command.specs.Bare.{bare_entry};
 
 use crate::basis::Basis;
-use crate::copies::{copy_bases, copy_edits};
 use crate::edit::Edit;
+use crate::stored::copy_list;
 use pod_base::{Agent, List, Mem, Method, Moment};
 use pod_path::Path;
 use std::alloc::Global;
@@ -35,8 +35,8 @@ impl Entry {
     {
         let agent = self.agent.copy(alloc)?;
         let path = self.path.copy(alloc)?;
-        let edits = copy_edits(alloc, self.edits.as_slice())?;
-        let bases = copy_bases(alloc, self.bases.as_slice())?;
+        let edits = copy_list(alloc, self.edits.as_slice())?;
+        let bases = copy_list(alloc, self.bases.as_slice())?;
         Ok(Entry {
             seq: self.seq,
             conn: self.conn,

@@ -2,8 +2,8 @@
 ghost use Rattle.std.specs.Prelude.{◌≡◌, IfOk};
 ghost use Rattle.pod_command.specs.Bare.{bare_snapshot};
 
-use crate::copies::copy_rows;
 use crate::row::Row;
+use crate::stored::copy_list;
 use iri_ref::Iri;
 use pod_base::{List, Mem, NoMemory, Text};
 use std::alloc::Global;
@@ -24,7 +24,7 @@ impl Snapshot {
     {
         let base = copy_iri(alloc, &self.base)?;
         let owner = self.owner.copy(alloc)?;
-        let rows = copy_rows(alloc, self.rows.as_slice())?;
+        let rows = copy_list(alloc, self.rows.as_slice())?;
         Ok(Snapshot {
             seq: self.seq,
             base,
