@@ -1,0 +1,22 @@
+-- What a crash at any moment leaves of two disks.
+use Rattle.std.specs.Prelude.{◌≡◌, ◌⊎◌, ◌+◌, ◌≤◌, ℕ, List, length}
+use Rattle.journal_log.specs.Renewing.{IsNew}
+use Rattle.journal_log.specs.declared.fault.Side.{Side}
+use Rattle.journal_pair.specs.Stores.{IsPassedOver}
+
+-- Whatever a crash since then left of the first disk, with whatever one left of the second, has P.
+-- The two need not be of one moment.
+abbrev pub LeavesPairs : {D : Type 0} → (D → ℕ) → (D → ℕ → List ℕ → Type 0) → D → D → D → D → (List ℕ → List ℕ → Type 0) → Type 0
+LeavesPairs moment left_since first second first_new second_new P = (c d : List ℕ)
+    → left_since first_new (moment first) c → left_since second_new (moment second) d → P c d
+
+-- each pair of crash images now has P
+abbrev pub EachPair : (List ℕ → Type 0) → (List ℕ → Type 0) → (List ℕ → List ℕ → Type 0) → Type 0
+EachPair first second P = (c d : List ℕ) → first c → second d → P c d
+
+-- The disk beside a journal of this side and epoch while a checkpoint is made on it: it is passed
+-- over and has the place of a first gate, or it holds the journal of the next epoch, with this
+-- snapshot alone, and any first gate.
+abbrev pub IsWhileCheckpointed : Side → ℕ → List ℕ → List ℕ → Type 0
+IsWhileCheckpointed side epoch snapshot image =
+    (IsPassedOver side epoch image × (17 ≤ length image)) ⊎ IsNew (epoch + 1) snapshot image
