@@ -1,6 +1,6 @@
 //! Checkpoints: a new journal with one snapshot on the other disk.
 
-ghost use Rattle.std.specs.Prelude.{◌≡◌, ◌⊎◌, ◌+◌, ◌<◌, ◌^◌, ◌∷◌, [], List, ℕ, IsOk, IfOk, OnOk, OnErr};
+ghost use Rattle.std.specs.Prelude.{◌≡◌, ◌⊎◌, ◌+◌, ◌<◌, ◌^◌, ◌∷◌, [], List, ℕ, IsOk, OnOk, OnErr, false};
 ghost use Rattle.pod_disk.specs.Disk.{LeavesOnly};
 ghost use Rattle.journal_pair.specs.Sides.{active_of, other_of, opposite_of};
 ghost use Rattle.journal_pair.specs.Stores.{StoreStandsBoth};
@@ -83,11 +83,12 @@ impl Pair {
         if epoch == EPOCH_LIMIT {
             return Ok(());
         }
+        let len = snapshot.len();
         match renew_beside(self.active, first, second, epoch + 1, snapshot) {
             Ok(journal) => {
                 self.active = opposite(self.active);
                 self.journal = journal;
-                self.snapshot = snapshot.len();
+                self.snapshot = len;
                 Ok(())
             }
             Err(RenewFault::Closed) => Err(DiskFault),

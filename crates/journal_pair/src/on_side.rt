@@ -1,21 +1,17 @@
 //! Calls of a journal on one of two disks, which a side names.
 
-ghost use Rattle.std.specs.Prelude.{◌≡◌, ◌≤◌, ◌<◌, ◌+◌, ◌^◌, ◌++◌, ◌∷◌, [], ℕ, length, IfOk, IfErr, OnOk, OnErr, IsErrOf};
+ghost use Rattle.std.specs.Prelude.{◌≡◌, ◌≤◌, ◌<◌, ◌+◌, ◌^◌, ◌++◌, ◌∷◌, [], List, ℕ, length, IfOk, OnOk, OnErr, IsErrOf};
 ghost use Rattle.pod_io.specs.Told.{IfTold};
 ghost use Rattle.pod_disk.specs.Disk.{EachImage, LeavesOnly};
 ghost use Rattle.journal_log.specs.Gates.{IsFirstGateClosed};
-ghost use Rattle.journal_log.specs.Images.{Stands, IsEither};
-ghost use Rattle.journal_log.specs.Opening.{IsWhileOpened};
-ghost use Rattle.journal_log.specs.Causes.{HasCause};
+ghost use Rattle.journal_log.specs.Images.{IsEither};
 ghost use Rattle.journal_log.specs.CleanJournal.{IsClean, IsInDoubt, IsCleanOrInDoubt};
 ghost use Rattle.journal_log.specs.Renewing.{IsBeforeOpening, IsNew, IsWhileRenewed};
 ghost use Rattle.journal_pair.specs.Sides.{active_of, other_of, opposite_of};
 ghost use Rattle.journal_pair.specs.Causes.{PairCounts};
 
-use journal_log::{DiskFault, Framed, Journal, OpenFault, RenewFault, Side};
-use pod_base::{Bytes, List};
+use journal_log::{DiskFault, Framed, Journal, RenewFault, Side};
 use pod_disk::Disk;
-use std::alloc::Global;
 
 /// The other side.
 pub fn opposite(side: Side) -> Side
@@ -145,33 +141,5 @@ pub fn shut_beside<D: Disk>(side: Side, first: &mut D, second: &mut D) -> Result
     match side {
         Side::First => Journal::shut(second),
         Side::Second => Journal::shut(first),
-    }
-}
-
-/// Opens the journal on this side.
-pub fn open_journal<D: Disk>(
-    alloc: Global,
-    side: Side,
-    first: &mut D,
-    second: &mut D,
-) -> Result<(Journal, List<Bytes>), OpenFault>
-    ensures moments { LeavesOnly D.moment D.left_since
-        (active_of side first.old second.old) (active_of side first.new second.new)
-        (IsWhileOpened (D.image (active_of side first.old second.old))) }
-    ensures other { other_of side first.new second.new ≡ other_of side first.old second.old }
-    ensures clean { IfOk result (λ opened.
-        IsClean (D.image (active_of side first.new second.new)) opened.0 opened.1.items) }
-    ensures records { IfOk result (λ opened.
-        IfTold (D.content (active_of side first.old second.old))
-        (Stands opened.0.format opened.0.epoch opened.1.items)) }
-    ensures no_fewer_first { D.faults first.old ≤ D.faults first.new }
-    ensures no_fewer_second { D.faults second.old ≤ D.faults second.new }
-    ensures cause { IfErr result (HasCause (D.content (active_of side first.old second.old)) side
-        (D.faults (active_of side first.old second.old))
-        (D.faults (active_of side first.new second.new))) }
-{
-    match side {
-        Side::First => Journal::open(alloc, first, side),
-        Side::Second => Journal::open(alloc, second, side),
     }
 }
