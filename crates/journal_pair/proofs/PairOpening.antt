@@ -18,6 +18,7 @@ use Rattle.journal_pair.specs.Sides.{active_of, other_of}
 use Rattle.journal_pair.specs.Stores.{IsPassedOver, IsTaken, StoreStands, IsStoreDamaged, IsStoreEmpty}
 use Rattle.journal_pair.specs.PairState.{PairState}
 use Rattle.journal_pair.specs.PairJournal.{IsPassedBeside}
+use Rattle.journal_pair.specs.PairMoments.{LeavesPairs, IsWhileStoreOpened}
 use Rattle.journal_pair.specs.Causes.{IfBothTold, HasStoreCause}
 use Rattle.journal_pair.specs.Choices.{IsChosenBy}
 use Rattle.journal_pair.specs.declared.choice.Choice.TheVariants as choice
@@ -160,3 +161,14 @@ module _ {D : Type 0} (image : D → List ℕ → Type 0) (moment : D → ℕ) (
       → LeavesOnly moment left_since (other_of side first second) (other_of side first_new second_new) (image (other_of side first second))
   other_left First first second first_mid second_mid first_new second_new one other same = subst (λ (n : D). LeavesOnly moment left_since second n (image second)) (sym same) other
   other_left Second first second first_mid second_mid first_new second_new one other same = subst (λ (n : D). LeavesOnly moment left_since first n (image first)) (sym same) one
+
+  -- one disk is being mended, and no other
+  pub opened_pairs : (side : Side) (first second first_mid second_mid first_new second_new : D)
+      → LeavesOnly moment left_since first first_mid (image first) → LeavesOnly moment left_since second second_mid (image second)
+      → LeavesOnly moment left_since first first_new (IsWhileOpened (image first)) → LeavesOnly moment left_since second second_new (IsWhileOpened (image second))
+      → other_of side first_new second_new ≡ other_of side first_mid second_mid
+      → LeavesPairs moment left_since first second first_new second_new (IsWhileStoreOpened image first second)
+  opened_pairs First first second first_mid second_mid first_new second_new one other run run_2 same c d left left_2 =
+      (First, run.each c left, (other_left First first second first_mid second_mid first_new second_new one other same).each d left_2)
+  opened_pairs Second first second first_mid second_mid first_new second_new one other run run_2 same c d left left_2 =
+      (Second, run_2.each d left_2, (other_left Second first second first_mid second_mid first_new second_new one other same).each c left)

@@ -1,7 +1,9 @@
 -- What a crash at any moment leaves of two disks.
 use Rattle.std.specs.Prelude.{◌≡◌, ◌⊎◌, ◌+◌, ◌≤◌, ℕ, List, length}
+use Rattle.journal_log.specs.Opening.{IsWhileOpened}
 use Rattle.journal_log.specs.Renewing.{IsNew}
 use Rattle.journal_log.specs.declared.fault.Side.{Side}
+use Rattle.journal_pair.specs.Sides.{active_of, other_of}
 use Rattle.journal_pair.specs.Stores.{IsPassedOver}
 
 -- Whatever a crash since then left of the first disk, with whatever one left of the second, has P.
@@ -20,3 +22,10 @@ EachPair first second P = (c d : List ℕ) → first c → second d → P c d
 abbrev pub IsWhileCheckpointed : Side → ℕ → List ℕ → List ℕ → Type 0
 IsWhileCheckpointed side epoch snapshot image =
     (IsPassedOver side epoch image × (17 ≤ length image)) ⊎ IsNew (epoch + 1) snapshot image
+
+-- While a store is opened: of one disk an image from before, of the other one from before or one
+-- whose last gate is being mended.
+abbrev pub IsWhileStoreOpened : {D : Type 0} → (D → List ℕ → Type 0) → D → D → List ℕ → List ℕ → Type 0
+IsWhileStoreOpened image first second c d = (side : Side)
+    × IsWhileOpened (image (active_of side first second)) (active_of side c d)
+    × image (other_of side first second) (other_of side c d)

@@ -11,6 +11,7 @@ ghost use Rattle.journal_log.specs.Causes.{HasCause};
 ghost use Rattle.journal_pair.specs.Sides.{active_of, other_of};
 ghost use Rattle.journal_pair.specs.Stores.{StoreStands};
 ghost use Rattle.journal_pair.specs.PairJournal.{HasSnapshot, IsPairClean, IsPassedBeside};
+ghost use Rattle.journal_pair.specs.PairMoments.{LeavesPairs, IsWhileStoreOpened};
 ghost use Rattle.journal_pair.specs.Choices.{IsChosenBy};
 ghost use Rattle.journal_pair.specs.Causes.{IfBothTold, HasStoreCause};
 
@@ -42,6 +43,8 @@ impl Pair {
             (IsWhileOpened (D.image first.old)) }
         ensures second { LeavesOnly D.moment D.left_since second.old second.new
             (IsWhileOpened (D.image second.old)) }
+        ensures pairs { LeavesPairs D.moment D.left_since first.old second.old first.new second.new
+            (IsWhileStoreOpened D.image first.old second.old) }
         ensures other { IfOk result (λ opened. LeavesOnly D.moment D.left_since
             (other_of opened.0.active first.old second.old)
             (other_of opened.0.active first.new second.new)
@@ -80,6 +83,8 @@ fn open_choice<D: Disk>(
         (IsWhileOpened (D.image first.old)) }
     ensures second { LeavesOnly D.moment D.left_since second.old second.new
         (IsWhileOpened (D.image second.old)) }
+    ensures one { (side : Side)
+        × (other_of side first.new second.new ≡ other_of side first.old second.old) }
     ensures other { IfOk result (λ opened. other_of opened.0.active first.new second.new
         ≡ other_of opened.0.active first.old second.old) }
     ensures clean { IfOk result
