@@ -5,7 +5,7 @@ use Rattle.std.proofs.lemmas.Bool.{cases_eq, cases_lt}
 use Rattle.std.proofs.lemmas.Nat.{from_be_bytes-to_be_bytes_8}
 use Rattle.std.specs.Int.{to_be_bytes, from_be_bytes, w64}
 use Rattle.journal_log.specs.Frames.{framed_of}
-use Rattle.journal_log.specs.Heads.{mark_of, head_of, IsKnown, NoHead}
+use Rattle.journal_log.specs.Heads.{mark_of, encoded_head, IsKnownHead, NoHead}
 use Rattle.journal_log.specs.Gates.{IsFirstGateClosed}
 use Rattle.journal_log.specs.Classes.{HasClass}
 use Rattle.journal_log.specs.JournalState.{JournalState}
@@ -47,16 +47,16 @@ module _ (bytes image : List ℕ) (size : length bytes ≡ 17) (is : bytes ≡ t
   gate_not_closed other (head, whole, closed) =
       other (first_is _ 0 _ _ (sym gate_is ∙ ap (λ (l : List ℕ). drop 16 l) closed.1 ∙ drop_at head (0 ∷ closed.0) 16 whole))
 
-  module _ (format epoch : ℕ) (first rest : List ℕ) (known : IsKnown format epoch) (taken : first ≡ take 16 bytes) (found : first ≡ head_of format epoch ++ rest) where
-    with_head : image ≡ head_of format epoch ++ (get_or bytes 16 0 ∷ drop 17 image)
-    with_head = head_prefix first image rest format epoch (taken ∙ begins_alike) found ∙ ap (λ (l : List ℕ). head_of format epoch ++ l) gate_is
+  module _ (format epoch : ℕ) (first rest : List ℕ) (known : IsKnownHead format epoch) (taken : first ≡ take 16 bytes) (found : first ≡ encoded_head format epoch ++ rest) where
+    with_head : image ≡ encoded_head format epoch ++ (get_or bytes 16 0 ∷ drop 17 image)
+    with_head = head_prefix first image rest format epoch (taken ∙ begins_alike) found ∙ ap (λ (l : List ℕ). encoded_head format epoch ++ l) gate_is
 
     pub is_closed : get_or bytes 16 0 ≡ 0 → HasClass Closed image
     is_closed none = record {
       format = format;
       epoch = epoch;
       known = known;
-      closed = (drop 17 image, with_head ∙ ap (λ (n : ℕ). head_of format epoch ++ (n ∷ drop 17 image)) none);
+      closed = (drop 17 image, with_head ∙ ap (λ (n : ℕ). encoded_head format epoch ++ (n ∷ drop 17 image)) none);
     }
 
     pub is_open : get_or bytes 16 0 ≢ 0 → HasClass (Open epoch) image
@@ -83,13 +83,13 @@ length_first : (image : List ℕ) → IsFirstGateClosed image → 17 ≤ length 
 length_first image (head, whole, closed) = omega (arith, whole, length_closed head image closed)
 
 -- a head is the first sixteen bytes of an image
-closes : (image : List ℕ) (format epoch gate : ℕ) (rest : List ℕ) → image ≡ head_of format epoch ++ (gate ∷ rest) → IsFirstGateClosed image → gate ≡ 0
+closes : (image : List ℕ) (format epoch gate : ℕ) (rest : List ℕ) → image ≡ encoded_head format epoch ++ (gate ∷ rest) → IsFirstGateClosed image → gate ≡ 0
 closes image format epoch gate rest is (head, whole, closed) =
     first_is gate 0 rest closed.0
-    (sym (drop_at (head_of format epoch) (gate ∷ rest) 16 (length_head format epoch)) ∙ ap (λ (l : List ℕ). drop 16 l) (sym is ∙ closed.1) ∙ drop_at head (0 ∷ closed.0) 16 whole)
+    (sym (drop_at (encoded_head format epoch) (gate ∷ rest) 16 (length_head format epoch)) ∙ ap (λ (l : List ℕ). drop 16 l) (sym is ∙ closed.1) ∙ drop_at head (0 ∷ closed.0) 16 whole)
 
-is_long : (image : List ℕ) (format epoch gate : ℕ) (rest : List ℕ) → image ≡ head_of format epoch ++ (gate ∷ rest) → 17 ≤ length image
-is_long image format epoch gate rest is = omega (arith, ap length is, length-append (head_of format epoch) (gate ∷ rest), length_head format epoch)
+is_long : (image : List ℕ) (format epoch gate : ℕ) (rest : List ℕ) → image ≡ encoded_head format epoch ++ (gate ∷ rest) → 17 ≤ length image
+is_long image format epoch gate rest is = omega (arith, ap length is, length-append (encoded_head format epoch) (gate ∷ rest), length_head format epoch)
 
 pub one_class_lem : OneClass
 one_class_lem Empty Empty image a b = refl
@@ -116,7 +116,7 @@ one_class_lem Closed Torn image a b = absurd (b.0 a.format a.epoch (0 ∷ a.clos
 one_class_lem Closed Closed image a b = refl
 one_class_lem Closed Wrong image a b = absurd (b.wrong a.format a.epoch (0 ∷ a.closed.0) a.known a.closed.1)
 one_class_lem Closed (Open e) image a b =
-    absurd (b.is_open (closes image b.format e b.gate b.rest b.spells (head_of a.format a.epoch, length_head a.format a.epoch, a.closed)))
+    absurd (b.is_open (closes image b.format e b.gate b.rest b.spells (encoded_head a.format a.epoch, length_head a.format a.epoch, a.closed)))
 one_class_lem Wrong Empty image a b = absurd (omega (arith, ap length b, a.long))
 one_class_lem Wrong Short image a b = absurd (omega (arith, b.1, a.long))
 one_class_lem Wrong Torn image a b = absurd (a.is_open b.1)
@@ -127,7 +127,7 @@ one_class_lem (Open d) Empty image a b = absurd (omega (arith, ap length b, is_l
 one_class_lem (Open d) Short image a b = absurd (omega (arith, b.1, is_long image a.format d a.gate a.rest a.spells))
 one_class_lem (Open d) Torn image a b = absurd (b.0 a.format d (a.gate ∷ a.rest) a.known a.spells)
 one_class_lem (Open d) Closed image a b =
-    absurd (a.is_open (closes image a.format d a.gate a.rest a.spells (head_of b.format b.epoch, length_head b.format b.epoch, b.closed)))
+    absurd (a.is_open (closes image a.format d a.gate a.rest a.spells (encoded_head b.format b.epoch, length_head b.format b.epoch, b.closed)))
 one_class_lem (Open d) Wrong image a b = absurd (b.wrong a.format d (a.gate ∷ a.rest) a.known a.spells)
 one_class_lem (Open d) (Open e) image a b =
     ap Open (heads_are a.format b.format d e (a.gate ∷ a.rest) (b.gate ∷ b.rest) a.known b.known (sym a.spells ∙ b.spells)).1
@@ -148,24 +148,24 @@ cases_list (x ∷ a) (y ∷ b) = both (cases_eq x y) (cases_list a b)
 record HasHead (image : List ℕ) : Type 0 where
   format : ℕ
   epoch : ℕ
-  known : IsKnown format epoch
-  spells : image ≡ head_of format epoch ++ drop 16 image
+  known : IsKnownHead format epoch
+  spells : image ≡ encoded_head format epoch ++ drop 16 image
 
 module _ (image : List ℕ) where
   abbrev number : ℕ
   number = from_be_bytes w64 (take 8 (drop 8 image))
 
-  number_of : (format epoch : ℕ) (rest : List ℕ) → IsKnown format epoch → image ≡ head_of format epoch ++ rest → (number ≡ epoch) × (take 8 (drop 8 image) ≡ to_be_bytes w64 epoch)
+  number_of : (format epoch : ℕ) (rest : List ℕ) → IsKnownHead format epoch → image ≡ encoded_head format epoch ++ rest → (number ≡ epoch) × (take 8 (drop 8 image) ≡ to_be_bytes w64 epoch)
   number_of format epoch rest known is =
       let spelled = (head_parts image rest format epoch is).1 in
       (ap (from_be_bytes w64) spelled ∙ from_be_bytes-to_be_bytes_8 epoch (omega (arith, known.most)), spelled)
 
-  with_mark : (format : ℕ) → take 8 image ≡ mark_of format → ((IsKnown format number) ⊎ (IsKnown format number → ⊥)) → number < 2 ^ 64 → to_be_bytes w64 number ≡ take 8 (drop 8 image)
+  with_mark : (format : ℕ) → take 8 image ≡ mark_of format → ((IsKnownHead format number) ⊎ (IsKnownHead format number → ⊥)) → number < 2 ^ 64 → to_be_bytes w64 number ≡ take 8 (drop 8 image)
       → HasHead image ⊎ NoHead image
   with_mark format mark (inl known) small spelled = inl (record { format = format; epoch = number; known = known; spells = head_whole image format number mark spelled })
   with_mark format mark (inr unknown) small spelled = inr (no_head_epoch image format number mark small spelled unknown)
 
-  spelled_or_not : (format : ℕ) → take 8 image ≡ mark_of format → ((IsKnown format number) ⊎ (IsKnown format number → ⊥)) → HasHead image ⊎ NoHead image
+  spelled_or_not : (format : ℕ) → take 8 image ≡ mark_of format → ((IsKnownHead format number) ⊎ (IsKnownHead format number → ⊥)) → HasHead image ⊎ NoHead image
   spelled_or_not format mark either = elim (cases_lt number (2 ^ 64)) [
     | inl small ↦ elim (cases_list (to_be_bytes w64 number) (take 8 (drop 8 image))) [
       | inl spelled ↦ with_mark format mark either small spelled
@@ -174,7 +174,7 @@ module _ (image : List ℕ) where
     | inr great ↦ inr (λ f e rest known is. let parts = number_of f e rest known is in omega (arith, great, parts.0, known.most))
   ]
 
-  known_or_not : (format : ℕ) → (format ≡ 1) ⊎ (format ≡ 2) → (IsKnown format number) ⊎ (IsKnown format number → ⊥)
+  known_or_not : (format : ℕ) → (format ≡ 1) ⊎ (format ≡ 2) → (IsKnownHead format number) ⊎ (IsKnownHead format number → ⊥)
   known_or_not format (inl first) = elim (cases_lt number (2 ^ 63)) [
     | inl less ↦ inl (record { either = inl first; most = omega (arith, less); old = λ _. less })
     | inr more ↦ inr (λ known. omega (arith, more, known.old first))
@@ -193,10 +193,10 @@ module _ (image : List ℕ) where
     ]
   ]
 
-  whole : (head : HasHead image) → take 16 (take 17 image) ≡ head_of head.format head.epoch ++ []
+  whole : (head : HasHead image) → take 16 (take 17 image) ≡ encoded_head head.format head.epoch ++ []
   whole head =
       take-take 16 17 image (omega arith) ∙ ap (λ (l : List ℕ). take 16 l) head.spells
-      ∙ take_at (head_of head.format head.epoch) (drop 16 image) 16 (length_head head.format head.epoch) ∙ sym (append-nil (head_of head.format head.epoch))
+      ∙ take_at (encoded_head head.format head.epoch) (drop 16 image) 16 (length_head head.format head.epoch) ∙ sym (append-nil (encoded_head head.format head.epoch))
 
   with_gate : length (take 17 image) ≡ 17 → (get_or (take 17 image) 16 0 ≡ 0) ⊎ (get_or (take 17 image) 16 0 ≢ 0) → HasHead image ⊎ NoHead image → (class : DiskClass) × HasClass class image
   with_gate size (inl none) (inl head) = (Closed, is_closed (take 17 image) image size refl head.format head.epoch (take 16 (take 17 image)) [] head.known refl (whole head) none)
@@ -218,12 +218,12 @@ new_lem epoch body image most short (gate, gated) = elim (cases_eq gate 0) [
     format = 2;
     epoch = epoch;
     known = known_2 epoch most;
-    closed = (framed_of body ++ gated.0, gated.1 ∙ ap (λ (n : ℕ). head_of 2 epoch ++ (n ∷ framed_of body ++ gated.0)) none);
+    closed = (framed_of body ++ gated.0, gated.1 ∙ ap (λ (n : ℕ). encoded_head 2 epoch ++ (n ∷ framed_of body ++ gated.0)) none);
   })
   | inr other ↦
       let state : JournalState = record { end = 16; doubt = false; format = 2; epoch = epoch } in
       inr (
         record { format = 2; known = known_2 epoch most; gate = gate; rest = framed_of body ++ gated.0; is_open = other; spells = gated.1 },
-        stands_gated state [] (head_of 2 epoch) (head_is_prefix state (known_2 epoch most) refl) body image gate short other gated,
+        stands_gated state [] (encoded_head 2 epoch) (head_is_prefix state (known_2 epoch most) refl) body image gate short other gated,
       )
 ]

@@ -2,12 +2,12 @@
 use Rattle.std.proofs.Common.{◌≡◌, ◌≢◌, inl, inr, ⊎_elim, ℕ, ◌+◌, ◌<◌, ◌≤◌, ◌^◌, List, ◌∷◌, ◌++◌, length, take, drop, get_or, refl, sym, ◌∙◌, ap, arith, append_assoc, length-append, take-append-drop}
 use Rattle.std.proofs.lemmas.List.{take_at, drop-drop, drop_more, length-drop}
 use Rattle.std.specs.Int.{to_be_bytes, w64}
-use Rattle.journal_log.specs.Frames.{sized, IsEnd, IsFrame, IsBroken}
+use Rattle.journal_log.specs.Frames.{sized, BeginsWithClosedGate, IsFrame, IsBroken}
 use Rattle.journal_log.specs.Scanning.{IsByteAt, IsRecord}
 use Rattle.journal_log.proofs.Splits.{first_is, rest_is, length_be, length_sized, number_is, sized_are}
 
 -- an open gate isn't the end
-pub open_is_no_end : (bytes rest : List ℕ) (gate : ℕ) → bytes ≡ gate ∷ rest → gate ≢ 0 → IsEnd bytes → ⊥
+pub open_is_no_end : (bytes rest : List ℕ) (gate : ℕ) → bytes ≡ gate ∷ rest → gate ≢ 0 → BeginsWithClosedGate bytes → ⊥
 open_is_no_end bytes rest gate is other (more, end) = other (first_is gate 0 _ _ (sym is ∙ end))
 
 -- no bytes have no gate

@@ -1,7 +1,7 @@
 -- From a gate on, bytes are read in one way.
 use Rattle.std.proofs.Common.{◌≡◌, inl, inr, ℕ, ◌+◌, List, [], ◌∷◌, ◌++◌, refl, sym, ◌∙◌, ap, subst}
-use Rattle.journal_log.specs.Frames.{frame_len, IsEnd, IsFrame, IsBroken, FramesTo}
-use Rattle.journal_log.specs.Heads.{head_of, IsKnown}
+use Rattle.journal_log.specs.Frames.{frame_len, BeginsWithClosedGate, IsFrame, IsBroken, FramesTo}
+use Rattle.journal_log.specs.Heads.{encoded_head, IsKnownHead}
 use Rattle.std.specs.List.{sum_by}
 use Rattle.journal_log.specs.Laws.{StandsOnce, DamagedOnce, StandsOrDamaged}
 use Rattle.journal_log.proofs.Splits.{first_is, rest_is, sized_are, heads_are}
@@ -15,7 +15,7 @@ frames_are a b P Q bytes first second = sized_are a b _ _ first.short second.sho
 abbrev pub HasNoFrames : (List ℕ → Type 0) → Type 1
 HasNoFrames Last = (bytes : List ℕ) → Last bytes → (body : List ℕ) (P : List ℕ → Type 0) → IsFrame body P bytes → ⊥
 
-pub end_has_none : HasNoFrames IsEnd
+pub end_has_none : HasNoFrames BeginsWithClosedGate
 end_has_none bytes (rest, is) body P frame = frame.is_open (first_is frame.gate 0 _ _ (sym frame.spells ∙ is))
 
 pub broken_has_none : HasNoFrames IsBroken
@@ -40,7 +40,7 @@ frames_once P Q no_p no_q (a ∷ ones) (b ∷ twos) bytes first second =
     let others = frames_once P Q no_p no_q ones twos (first.next ∷ first.rest) first.behind (subst (FramesTo Q twos) (sym both.1) second.behind) in
     (ap (λ (l : List (List ℕ)). a ∷ l) others.0 ∙ ap (λ (x : List ℕ). x ∷ twos) both.0, others.1)
 
-module _ (format format_2 epoch epoch_2 : ℕ) (image rest rest_2 : List ℕ) (known : IsKnown format epoch) (known_2 : IsKnown format_2 epoch_2) (spells : image ≡ head_of format epoch ++ rest) (spells_2 : image ≡ head_of format_2 epoch_2 ++ rest_2) where
+module _ (format format_2 epoch epoch_2 : ℕ) (image rest rest_2 : List ℕ) (known : IsKnownHead format epoch) (known_2 : IsKnownHead format_2 epoch_2) (spells : image ≡ encoded_head format epoch ++ rest) (spells_2 : image ≡ encoded_head format_2 epoch_2 ++ rest_2) where
   -- two right heads of one image are one
   one_head : (format ≡ format_2) × (epoch ≡ epoch_2) × (rest ≡ rest_2)
   one_head = heads_are format format_2 epoch epoch_2 rest rest_2 known known_2 (sym spells ∙ spells_2)
@@ -53,7 +53,7 @@ module _ (format format_2 epoch epoch_2 : ℕ) (image rest rest_2 : List ℕ) (k
 pub stands_once_lem : StandsOnce
 stands_once_lem format format_2 epoch epoch_2 ones twos image first second =
     let heads = one_head format format_2 epoch epoch_2 image first.rest second.rest first.known second.known first.spells second.spells in
-    let lists = one_list format format_2 epoch epoch_2 image first.rest second.rest first.known second.known first.spells second.spells IsEnd IsEnd end_has_none end_has_none ones twos first.frames second.frames in
+    let lists = one_list format format_2 epoch epoch_2 image first.rest second.rest first.known second.known first.spells second.spells BeginsWithClosedGate BeginsWithClosedGate end_has_none end_has_none ones twos first.frames second.frames in
     (heads.0, heads.1, lists.0)
 
 pub damaged_once_lem : DamagedOnce
@@ -67,5 +67,5 @@ damaged_once_lem at at_2 image (inr a) (inr b) =
 pub stands_or_damaged_lem : StandsOrDamaged
 stands_or_damaged_lem format epoch at bodies image stands (inl a) = a.wrong format epoch stands.rest stands.known stands.spells
 stands_or_damaged_lem format epoch at bodies image stands (inr a) =
-    let lists = one_list format a.format epoch a.epoch image stands.rest a.rest stands.known a.known stands.spells a.spells IsEnd IsBroken end_has_none broken_has_none bodies a.bodies stands.frames a.frames in
+    let lists = one_list format a.format epoch a.epoch image stands.rest a.rest stands.known a.known stands.spells a.spells BeginsWithClosedGate IsBroken end_has_none broken_has_none bodies a.bodies stands.frames a.frames in
     lists.1.2.0 lists.1.1

@@ -1,7 +1,7 @@
 -- What an opening finds, and what it leaves.
 use Rattle.std.proofs.Common.{◌≡◌, inl, inr, ⊎_elim, ℕ, List, Option, Some, None, refl, sym, subst, arith}
 use Rattle.std.specs.Option.{MatchOption, IfSome, IfNone}
-use Rattle.pod_io.specs.Told.{IfTold}
+use Rattle.pod_io.specs.Visible.{IfVisible}
 use Rattle.pod_disk.specs.Disk.{EachImage, LeavesOnly}
 use Rattle.pod_disk.proofs.Moments.{both, weaker}
 use Rattle.journal_log.specs.Frames.{framed_of}
@@ -11,7 +11,7 @@ use Rattle.journal_log.specs.Images.{Stands}
 use Rattle.journal_log.specs.Opening.{IsWhileOpened}
 use Rattle.journal_log.specs.Reading.{OnlyReads}
 use Rattle.journal_log.specs.CleanJournal.{IsClean}
-use Rattle.journal_log.specs.Walking.{state_at, prefix_of, IsWhole, HasTornGate, IsFound}
+use Rattle.journal_log.specs.Walking.{state_at, prefix_of, IsReadToEnd, HasTornGate, IsFound}
 use Rattle.journal_log.specs.declared.head.Head.{Head}
 use Rattle.journal_log.specs.declared.walk.Found.{Found}
 use Rattle.journal_log.proofs.GateWrites.{torn_opening}
@@ -27,39 +27,39 @@ if_none None P Q leads has = leads has
 if_none (Some x) P Q leads has = tt
 
 -- what holds of the content holds of each image, where all of it is on the disk
-pub of_each : (images : List ℕ → Type 0) (content : Option (List ℕ)) (P : List ℕ → Type 0) → EachImage images (λ c. content ≡ Some c) → IfTold content P → EachImage images P
-of_each images content P durable told c now = told c (durable c now)
+pub of_each : (images : List ℕ → Type 0) (content : Option (List ℕ)) (P : List ℕ → Type 0) → EachImage images (λ c. content ≡ Some c) → IfVisible content P → EachImage images P
+of_each images content P durable visible c now = visible c (durable c now)
 
 module _ (content : Option (List ℕ)) (head : Head) (bodies : List (List ℕ)) (end : ℕ) where
-  whole_stands : IsWhole content head bodies end → IfTold content (Stands head.format head.epoch bodies)
-  whole_stands whole b told = stands_closed (state_at head end) bodies (prefix_of head bodies) whole.is_prefix b (whole.told b told)
+  whole_stands : IsReadToEnd content head bodies end → IfVisible content (Stands head.format head.epoch bodies)
+  whole_stands whole b visible = stands_closed (state_at head end) bodies (prefix_of head bodies) whole.is_prefix b (whole.visible b visible)
 
-  torn_gate_stands : (at : ℕ) → HasTornGate content head bodies end at → IfTold content (Stands head.format head.epoch bodies)
-  torn_gate_stands at found b told = subst (λ (l : List (List ℕ)). Stands head.format head.epoch l b) (sym found.are)
-      (stands_gated (state_at head at) found.before (prefix_of head found.before) found.is_prefix found.last b found.gate found.short found.other (found.told b told))
+  torn_gate_stands : (at : ℕ) → HasTornGate content head bodies end at → IfVisible content (Stands head.format head.epoch bodies)
+  torn_gate_stands at found b visible = subst (λ (l : List (List ℕ)). Stands head.format head.epoch l b) (sym found.are)
+      (stands_gated (state_at head at) found.before (prefix_of head found.before) found.is_prefix found.last b found.gate found.short found.other (found.visible b visible))
 
-  gates_stand : (torn_gate : Option ℕ) → MatchOption torn_gate (IsWhole content head bodies end) (HasTornGate content head bodies end) → IfTold content (Stands head.format head.epoch bodies)
+  gates_stand : (torn_gate : Option ℕ) → MatchOption torn_gate (IsReadToEnd content head bodies end) (HasTornGate content head bodies end) → IfVisible content (Stands head.format head.epoch bodies)
   gates_stand None whole = whole_stands whole
   gates_stand (Some at) found = torn_gate_stands at found
 
 -- what was found is what the disk stands for
-pub found_stands : (content : Option (List ℕ)) (found : Found) → IsFound content found → IfTold content (Stands found.head.format found.head.epoch found.records.items)
+pub found_stands : (content : Option (List ℕ)) (found : Found) → IsFound content found → IfVisible content (Stands found.head.format found.head.epoch found.records.items)
 found_stands content found is = gates_stand content found.head found.records.items found.end found.torn_gate is.gates
 
 -- with a closed gate behind the records the journal is at rest
 pub clean_whole : (images : List ℕ → Type 0) (content : Option (List ℕ)) (head : Head) (bodies : List (List ℕ)) (end : ℕ)
-    → EachImage images (λ c. content ≡ Some c) → IsWhole content head bodies end → IsClean images (state_at head end) bodies
+    → EachImage images (λ c. content ≡ Some c) → IsReadToEnd content head bodies end → IsClean images (state_at head end) bodies
 clean_whole images content head bodies end durable whole = record {
   prefix = prefix_of head bodies;
   is_prefix = whole.is_prefix;
-  closed = of_each images content _ durable whole.told;
+  closed = of_each images content _ durable whole.visible;
   certain = refl;
 }
 
 module _ {D : Type 0} (image : D → List ℕ → Type 0) (moment : D → ℕ) (left_since : D → ℕ → List ℕ → Type 0) (content : Option (List ℕ)) (head : Head) (bodies : List (List ℕ)) (end at : ℕ) (old new : D)
     (durable : EachImage (image old) (λ c. content ≡ Some c)) (found : HasTornGate content head bodies end at) where
   pub gated : EachImage (image old) (IsGated (prefix_of head found.before) found.gate (framed_of found.last))
-  gated = of_each (image old) content _ durable found.told
+  gated = of_each (image old) content _ durable found.visible
 
   -- with the gate written the journal is at rest
   pub clean_normalized : EachImage (image new) (IsGated (prefix_of head found.before) 1 (framed_of found.last)) → IsClean (image new) (state_at head end) bodies

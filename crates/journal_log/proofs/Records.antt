@@ -4,8 +4,8 @@ use Rattle.std.proofs.lemmas.List.{append-nil}
 use Rattle.std.proofs.lemmas.List.Elements.{All-append}
 use Rattle.std.proofs.lemmas.Bool.{cases_eq}
 use Rattle.pod_disk.specs.Disk.{EachImage}
-use Rattle.journal_log.specs.Frames.{sized, framed_of, opened, IsEnd, FramesTo}
-use Rattle.journal_log.specs.Heads.{head_of, IsKnown}
+use Rattle.journal_log.specs.Frames.{sized, framed_of, opened, BeginsWithClosedGate, FramesTo}
+use Rattle.journal_log.specs.Heads.{encoded_head, IsKnownHead}
 use Rattle.journal_log.specs.Images.{Stands, IsEither}
 use Rattle.journal_log.specs.Gates.{IsClosed, IsGated, IsOpening}
 use Rattle.journal_log.specs.JournalState.{JournalState}
@@ -43,12 +43,12 @@ short-push : (bodies : List (List ℕ)) (body : List ℕ) → All IsShort bodies
 short-push bodies body short is = All-append IsShort bodies (body ∷ []) short (only_short body is)
 
 module _ (journal : JournalState) (bodies : List (List ℕ)) (prefix : List ℕ) (is : IsJournalPrefix journal bodies prefix) where
-  behind : (others : List (List ℕ)) (next : ℕ) (rest : List ℕ) → FramesTo IsEnd others (next ∷ rest) → Stands journal.format journal.epoch (bodies ++ others) (prefix ++ next ∷ rest)
+  behind : (others : List (List ℕ)) (next : ℕ) (rest : List ℕ) → FramesTo BeginsWithClosedGate others (next ∷ rest) → Stands journal.format journal.epoch (bodies ++ others) (prefix ++ next ∷ rest)
   behind others next rest leads = record {
     known = is.known;
     rest = opened bodies ++ next ∷ rest;
-    spells = ap (λ (l : List ℕ). l ++ next ∷ rest) is.spells ∙ append_assoc (head_of journal.format journal.epoch) (opened bodies) (next ∷ rest);
-    frames = frames_behind IsEnd bodies others next rest is.short leads;
+    spells = ap (λ (l : List ℕ). l ++ next ∷ rest) is.spells ∙ append_assoc (encoded_head journal.format journal.epoch) (opened bodies) (next ∷ rest);
+    frames = frames_behind BeginsWithClosedGate bodies others next rest is.short leads;
   }
 
   -- a closed gate ends them
@@ -79,11 +79,11 @@ module _ (journal : JournalState) (bodies : List (List ℕ)) (prefix : List ℕ)
   pub next_prefix : (next : JournalState) (body : List ℕ) → IsShort body → next.format ≡ journal.format → next.epoch ≡ journal.epoch → next.end ≡ journal.end + length (framed_of body)
       → IsJournalPrefix next (bodies ++ body ∷ []) (prefix ++ (1 ∷ sized body))
   next_prefix next body short format epoch ends = record {
-    known = subst (λ (n : ℕ). IsKnown n next.epoch) (sym format) (subst (λ (n : ℕ). IsKnown journal.format n) (sym epoch) is.known);
-    spells = ap (λ (l : List ℕ). l ++ (1 ∷ sized body)) is.spells ∙ append_assoc (head_of journal.format journal.epoch) (opened bodies) (1 ∷ sized body)
-        ∙ ap (λ (l : List ℕ). head_of journal.format journal.epoch ++ l) (sym (opened-push bodies body))
-        ∙ ap (λ (n : ℕ). head_of n journal.epoch ++ opened (bodies ++ body ∷ [])) (sym format)
-        ∙ ap (λ (n : ℕ). head_of next.format n ++ opened (bodies ++ body ∷ [])) (sym epoch);
+    known = subst (λ (n : ℕ). IsKnownHead n next.epoch) (sym format) (subst (λ (n : ℕ). IsKnownHead journal.format n) (sym epoch) is.known);
+    spells = ap (λ (l : List ℕ). l ++ (1 ∷ sized body)) is.spells ∙ append_assoc (encoded_head journal.format journal.epoch) (opened bodies) (1 ∷ sized body)
+        ∙ ap (λ (l : List ℕ). encoded_head journal.format journal.epoch ++ l) (sym (opened-push bodies body))
+        ∙ ap (λ (n : ℕ). encoded_head n journal.epoch ++ opened (bodies ++ body ∷ [])) (sym format)
+        ∙ ap (λ (n : ℕ). encoded_head next.format n ++ opened (bodies ++ body ∷ [])) (sym epoch);
     ends = omega (arith, ends, is.ends, length-append prefix (1 ∷ sized body), length-append (sized body) (0 ∷ []));
     short = short-push bodies body is.short short;
   }
@@ -115,8 +115,8 @@ length_opening prefix behind c (gate, gated) = omega (arith, ap length gated.1, 
 pub same_prefix : (journal next : JournalState) (bodies : List (List ℕ)) (prefix : List ℕ) → next.end ≡ journal.end → next.format ≡ journal.format → next.epoch ≡ journal.epoch
     → IsJournalPrefix journal bodies prefix → IsJournalPrefix next bodies prefix
 same_prefix journal next bodies prefix ends format epoch is = record {
-  known = subst (λ (n : ℕ). IsKnown n next.epoch) (sym format) (subst (λ (n : ℕ). IsKnown journal.format n) (sym epoch) is.known);
-  spells = is.spells ∙ ap (λ (n : ℕ). head_of n journal.epoch ++ opened bodies) (sym format) ∙ ap (λ (n : ℕ). head_of next.format n ++ opened bodies) (sym epoch);
+  known = subst (λ (n : ℕ). IsKnownHead n next.epoch) (sym format) (subst (λ (n : ℕ). IsKnownHead journal.format n) (sym epoch) is.known);
+  spells = is.spells ∙ ap (λ (n : ℕ). encoded_head n journal.epoch ++ opened bodies) (sym format) ∙ ap (λ (n : ℕ). encoded_head next.format n ++ opened bodies) (sym epoch);
   ends = is.ends ∙ sym ends;
   short = is.short;
 }

@@ -1,12 +1,12 @@
 -- What the parts of a renewal leave.
 use Rattle.std.proofs.Common.{◌≡◌, ◌≢◌, inl, inr, ⊎_elim, ℕ, ◌+◌, ◌≤◌, ◌^◌, List, Option, [], ◌∷◌, ◌++◌, length, take, drop, get_or, min, ◌-◌, false, refl, sym, ◌∙◌, ap, subst, arith, append_assoc, length-append, take-append-drop}
 use Rattle.std.proofs.lemmas.List.{drop_at, drop_more, drop-drop, append-nil, length-take-le}
-use Rattle.pod_io.specs.Told.{IfTold}
+use Rattle.pod_io.specs.Visible.{IfVisible}
 use Rattle.pod_disk.specs.Disk.{EachImage, Torn, LeavesOnly, overwritten}
 use Rattle.pod_disk.proofs.Moments.{both, weaker, joined, holds_now}
 use Rattle.pod_disk.proofs.TornWrites.{torn_inside}
 use Rattle.journal_log.specs.Frames.{framed_of}
-use Rattle.journal_log.specs.Heads.{head_of, IsKnown}
+use Rattle.journal_log.specs.Heads.{encoded_head, IsKnownHead}
 use Rattle.journal_log.specs.Gates.{IsFirstGateClosed, IsGated}
 use Rattle.journal_log.specs.Classes.{IsClosedImage}
 use Rattle.journal_log.specs.JournalState.{JournalState}
@@ -15,7 +15,7 @@ use Rattle.journal_log.specs.Renewing.{IsGateChanged, IsBeforeOpening}
 use Rattle.journal_log.specs.FirstGates.{IsFirstGate}
 use Rattle.journal_log.specs.declared.renewal.FirstGate.TheVariants.{Open}
 use Rattle.journal_log.specs.CleanJournal.{IsShort, IsJournalPrefix, IsClean}
-use Rattle.journal_log.specs.Writes.{IsTornFrom, IsOver}
+use Rattle.journal_log.specs.Writes.{IsTornFrom, IsOverwritten}
 use Rattle.journal_log.proofs.Splits.{length_head}
 use Rattle.journal_log.proofs.GateWrites.{one, torn_head, first_closed_behind, torn_self}
 use Rattle.journal_log.proofs.Records.{length_closed, clean_behind}
@@ -44,11 +44,11 @@ pub closed_over : (b : List ℕ) → 17 ≤ length b → IsFirstGateClosed (over
 closed_over b long = (take 16 b, length-take-le 16 b (omega (arith, long)), (drop 17 b, append_assoc (take 16 b) (0 ∷ []) (drop 17 b)))
 
 -- what a write that is on the disk makes of what the disk held
-pub over_told : (images : List ℕ → Type 0) (content : Option (List ℕ)) (at : ℕ) (bytes : List ℕ) (P Q : List ℕ → Type 0) → IfTold content P → ((b : List ℕ) → P b → Q (overwritten at bytes b))
-    → EachImage images (IsOver content at bytes) → EachImage images Q
-over_told images content at bytes P Q told makes over c now =
+pub over_visible : (images : List ℕ → Type 0) (content : Option (List ℕ)) (at : ℕ) (bytes : List ℕ) (P Q : List ℕ → Type 0) → IfVisible content P → ((b : List ℕ) → P b → Q (overwritten at bytes b))
+    → EachImage images (IsOverwritten content at bytes) → EachImage images Q
+over_visible images content at bytes P Q visible makes over c now =
     let from = over c now in
-    subst Q (sym from.2) (makes from.0 (told from.0 from.1))
+    subst Q (sym from.2) (makes from.0 (visible from.0 from.1))
 
 -- a longer write may leave what a shorter one and then another leave
 drop_same : (k n : ℕ) (x y : List ℕ) → k ≤ n → drop k x ≡ drop k y → drop n x ≡ drop n y
@@ -162,10 +162,10 @@ module _ {D : Type 0} (image : D → List ℕ → Type 0) (moment : D → ℕ) (
       torn_more old mid new 17 count all counts_now within (begun_torn old mid first all le one_run) two_run
 
   -- the same from a disk that can't leave anything: nothing is left at any moment of the torn write
-  pub nothing_told : (old mid new : D) (all : ℕ) → ((c : List ℕ) → left_since old (moment old) c → image old c) → OnlyReads image moment left_since old mid
+  pub nothing_visible : (old mid new : D) (all : ℕ) → ((c : List ℕ) → left_since old (moment old) c → image old c) → OnlyReads image moment left_since old mid
       → EachImage (image mid) (λ _. ⊥) → LeavesOnly moment left_since mid new (IsTornFrom (image mid) 0 all)
       → LeavesOnly moment left_since old new (IsBeforeOpening (image old))
-  nothing_told old mid new all only_now reads none second =
+  nothing_visible old mid new all only_now reads none second =
       both image moment left_since old mid new (image old) (IsTornFrom (image mid) 0 all) (IsBeforeOpening (image old))
       (λ c was. inl was) (λ c (m, here, step). absurd (none m here))
       (reads_run image moment left_since old mid only_now reads) second
@@ -184,28 +184,28 @@ module _ {D : Type 0} (image : D → List ℕ → Type 0) (moment : D → ℕ) (
       weaker image moment left_since old mid (image old) _ (λ c was. (c, was, torn_self c 0 all)) (reads_run image moment left_since old mid only_now reads)
 
 -- a head alone is the prefix of a journal without records
-pub head_is_prefix : (journal : JournalState) → IsKnown journal.format journal.epoch → journal.end ≡ 16 → IsJournalPrefix journal [] (head_of journal.format journal.epoch)
+pub head_is_prefix : (journal : JournalState) → IsKnownHead journal.format journal.epoch → journal.end ≡ 16 → IsJournalPrefix journal [] (encoded_head journal.format journal.epoch)
 head_is_prefix journal known ends = record {
   known = known;
-  spells = sym (append-nil (head_of journal.format journal.epoch));
+  spells = sym (append-nil (encoded_head journal.format journal.epoch));
   ends = length_head journal.format journal.epoch ∙ sym ends;
   short = λ k d lt. absurd (omega (arith, lt));
 }
 
-pub known_2 : (epoch : ℕ) → epoch ≤ 2 ^ 63 → IsKnown 2 epoch
+pub known_2 : (epoch : ℕ) → epoch ≤ 2 ^ 63 → IsKnownHead 2 epoch
 known_2 epoch most = record { either = inr refl; most = most; old = λ is. absurd (omega (arith, is)) }
 
 -- with its gate open the journal clean behind the first record
-pub clean_first : (images : List ℕ → Type 0) (next : JournalState) (epoch : ℕ) (body : List ℕ) → epoch ≤ 2 ^ 63 → IsShort body → EachImage images (IsGated (head_of 2 epoch) 1 (framed_of body))
+pub clean_first : (images : List ℕ → Type 0) (next : JournalState) (epoch : ℕ) (body : List ℕ) → epoch ≤ 2 ^ 63 → IsShort body → EachImage images (IsGated (encoded_head 2 epoch) 1 (framed_of body))
     → next.format ≡ 2 → next.epoch ≡ epoch → next.end ≡ 16 + length (framed_of body) → next.doubt ≡ false → IsClean images next (body ∷ [])
 clean_first images next epoch body most short gated format is_epoch ends certain =
     let before : JournalState = record { end = 16; doubt = false; format = 2; epoch = epoch } in
-    clean_behind before [] (head_of 2 epoch) (head_is_prefix before (known_2 epoch most) refl) images next body short gated format is_epoch ends certain
+    clean_behind before [] (encoded_head 2 epoch) (head_is_prefix before (known_2 epoch most) refl) images next body short gated format is_epoch ends certain
 
 -- a head and a closed gate, written to the beginning of a disk
-pub closed_from : (content : Option (List ℕ)) (epoch : ℕ) (bytes c : List ℕ) → epoch ≤ 2 ^ 63 → bytes ≡ head_of 2 epoch ++ 0 ∷ [] → IsOver content 0 bytes c → IsClosedImage c
+pub closed_from : (content : Option (List ℕ)) (epoch : ℕ) (bytes c : List ℕ) → epoch ≤ 2 ^ 63 → bytes ≡ encoded_head 2 epoch ++ 0 ∷ [] → IsOverwritten content 0 bytes c → IsClosedImage c
 closed_from content epoch bytes c most is over =
-    let begun = begins (head_of 2 epoch) bytes over.0 0 is in record {
+    let begun = begins (encoded_head 2 epoch) bytes over.0 0 is in record {
       format = 2;
       epoch = epoch;
       known = known_2 epoch most;

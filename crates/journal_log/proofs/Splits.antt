@@ -4,7 +4,7 @@ use Rattle.std.proofs.lemmas.List.{take_at, drop_at}
 use Rattle.std.proofs.lemmas.Nat.{from_be_bytes-to_be_bytes_8}
 use Rattle.std.specs.Int.{to_be_bytes, from_be_bytes, w64}
 use Rattle.journal_log.specs.Frames.{sized}
-use Rattle.journal_log.specs.Heads.{head_of, IsKnown}
+use Rattle.journal_log.specs.Heads.{encoded_head, IsKnownHead}
 
 pub first_is : (a b : ℕ) (xs ys : List ℕ) → a ∷ xs ≡ b ∷ ys → a ≡ b
 first_is a b xs ys is = search rules
@@ -37,16 +37,16 @@ sized_are a b xs ys short_a short_b is =
     let both = parts_are (to_be_bytes w64 (length a)) (to_be_bytes w64 (length b)) (a ++ xs) (b ++ ys) (length_be (length a) ∙ sym (length_be (length b))) apart in
     parts_are a b xs ys (number_is (length a) (length b) short_a short_b both.0) both.1
 
-pub length_head : (format epoch : ℕ) → length (head_of format epoch) ≡ 16
-unfolding head_of
+pub length_head : (format epoch : ℕ) → length (encoded_head format epoch) ≡ 16
+unfolding encoded_head
 length_head format epoch = omega (arith, length-append (80 ∷ 79 ∷ 68 ∷ 74 ∷ 82 ∷ 78 ∷ 76 ∷ (48 + format) ∷ []) (to_be_bytes w64 epoch), length_be epoch)
 
 -- a head says its format and its epoch
-pub heads_are : (format format_2 epoch epoch_2 : ℕ) (xs ys : List ℕ) → IsKnown format epoch → IsKnown format_2 epoch_2
-    → head_of format epoch ++ xs ≡ head_of format_2 epoch_2 ++ ys → (format ≡ format_2) × (epoch ≡ epoch_2) × (xs ≡ ys)
-unfolding head_of
+pub heads_are : (format format_2 epoch epoch_2 : ℕ) (xs ys : List ℕ) → IsKnownHead format epoch → IsKnownHead format_2 epoch_2
+    → encoded_head format epoch ++ xs ≡ encoded_head format_2 epoch_2 ++ ys → (format ≡ format_2) × (epoch ≡ epoch_2) × (xs ≡ ys)
+unfolding encoded_head
 heads_are format format_2 epoch epoch_2 xs ys known known_2 is =
-    let whole = parts_are (head_of format epoch) (head_of format_2 epoch_2) xs ys (length_head format epoch ∙ sym (length_head format_2 epoch_2)) is in
+    let whole = parts_are (encoded_head format epoch) (encoded_head format_2 epoch_2) xs ys (length_head format epoch ∙ sym (length_head format_2 epoch_2)) is in
     let both = parts_are (80 ∷ 79 ∷ 68 ∷ 74 ∷ 82 ∷ 78 ∷ 76 ∷ (48 + format) ∷ []) (80 ∷ 79 ∷ 68 ∷ 74 ∷ 82 ∷ 78 ∷ 76 ∷ (48 + format_2) ∷ []) (to_be_bytes w64 epoch) (to_be_bytes w64 epoch_2) refl whole.0 in
     let digit : 48 + format ≡ 48 + format_2 = ap last_digit both.0 in
     (omega (arith, digit), number_is epoch epoch_2 (omega (arith, known.most)) (omega (arith, known_2.most)) both.1, whole.1)

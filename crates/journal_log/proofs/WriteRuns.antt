@@ -3,7 +3,7 @@ use Rattle.std.proofs.Common.{◌≡◌, ◌≤◌, ℕ, List, Option, Some, Non
 use Rattle.std.specs.Option.{option_map}
 use Rattle.pod_disk.specs.Disk.{EachImage, Torn, Unchanged, Passes, LeavesOnly, overwritten}
 use Rattle.pod_disk.proofs.Moments.{call, joined, weaker, holds_now}
-use Rattle.journal_log.specs.Writes.{IsTornFrom, IsOver}
+use Rattle.journal_log.specs.Writes.{IsTornFrom, IsOverwritten}
 use Rattle.journal_log.proofs.GateWrites.{torn_self}
 
 module _ {D : Type 0} (image : D → List ℕ → Type 0) (moment : D → ℕ) (left_since : D → ℕ → List ℕ → Type 0) where
@@ -38,14 +38,14 @@ none_is is = search rules
 
 -- after a write and a sync each image is what the disk held, with the bytes
 pub over_from : (images : List ℕ → Type 0) (at : ℕ) (bytes : List ℕ) (old mid new : Option (List ℕ)) → mid ≡ option_map (overwritten at bytes) old → new ≡ mid
-    → EachImage images (λ c. new ≡ Some c) → EachImage images (IsOver old at bytes)
+    → EachImage images (λ c. new ≡ Some c) → EachImage images (IsOverwritten old at bytes)
 over_from images at bytes None mid new written same durable c now = absurd (none_is (sym (durable c now) ∙ same ∙ written))
 over_from images at bytes (Some b) mid new written same durable c now = (b, refl, some_is (sym (durable c now) ∙ same ∙ written))
 
 -- what the whole write makes of what each image had
 pub over_run : {D : Type 0} (content : D → Option (List ℕ)) (image : D → List ℕ → Type 0) (old new : D) (at : ℕ) (bytes : List ℕ) (P Q : List ℕ → Type 0)
     → ((b : List ℕ) → content old ≡ Some b → image old b) → ((b : List ℕ) → P b → Q (overwritten at bytes b)) → EachImage (image old) P
-    → EachImage (image new) (IsOver (content old) at bytes) → EachImage (image new) Q
+    → EachImage (image new) (IsOverwritten (content old) at bytes) → EachImage (image new) Q
 over_run content image old new at bytes P Q reads_image makes was over c now =
     let from = over c now in
     subst Q (sym from.2) (makes from.0 (was from.0 (reads_image from.0 from.1)))

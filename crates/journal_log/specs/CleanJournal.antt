@@ -1,8 +1,9 @@
 -- A journal on a disk with these images.
-use Rattle.std.specs.Prelude.{◌≡◌, ◌⊎◌, ◌<◌, ◌-◌, ◌^◌, ℕ, List, ◌++◌, length, take, drop, All, true, false}
+use Rattle.std.specs.Prelude.{◌≡◌, ◌⊎◌, ◌<◌, ◌-◌, ◌^◌, ℕ, List, ◌++◌, length, take, drop, All, true}
+use Rattle.std.specs.Prelude.{false}
 use Rattle.pod_disk.specs.Disk.{EachImage}
 use Rattle.journal_log.specs.Frames.{framed_of, opened}
-use Rattle.journal_log.specs.Heads.{head_of, IsKnown}
+use Rattle.journal_log.specs.Heads.{encoded_head, IsKnownHead}
 use Rattle.journal_log.specs.Gates.{IsClosed, IsOpening}
 use Rattle.journal_log.specs.JournalState.{JournalState}
 
@@ -18,8 +19,8 @@ IsShort body = length body < 2 ^ 64
 -- open gates
 pub record IsJournalPrefix (journal : JournalState) (bodies : List (List ℕ))
     (prefix : List ℕ) : Type 0 where
-  pub known : IsKnown journal.format journal.epoch
-  pub spells : prefix ≡ head_of journal.format journal.epoch ++ opened bodies
+  pub known : IsKnownHead journal.format journal.epoch
+  pub spells : prefix ≡ encoded_head journal.format journal.epoch ++ opened bodies
   pub ends : length prefix ≡ journal.end
   pub short : All IsShort bodies
 

@@ -20,8 +20,8 @@ opened [] = []
 opened (body ∷ others) = (1 ∷ sized body) ++ opened others
 
 -- they begin with a gate 0, whatever follows
-abbrev pub IsEnd : List ℕ → Type 0
-IsEnd bytes = (rest : List ℕ) × (bytes ≡ 0 ∷ rest)
+abbrev pub BeginsWithClosedGate : List ℕ → Type 0
+BeginsWithClosedGate bytes = (rest : List ℕ) × (bytes ≡ 0 ∷ rest)
 
 -- They begin with an open gate, and after it a whole record: its length, this body, the next gate.
 -- Where the gate is another byte than 1, the next gate is 0. From the next gate on, the bytes have
@@ -38,7 +38,8 @@ pub record IsFrame (body : List ℕ) (Behind : List ℕ → Type 0) (bytes : Lis
 
 -- the gate that they begin with has no whole frame: there is no gate, or its record isn't whole
 abbrev pub IsBroken : List ℕ → Type 0
-IsBroken bytes = (IsEnd bytes → ⊥) × ((body : List ℕ) → IsFrame body (λ _. Unit {0}) bytes → ⊥)
+IsBroken bytes =
+    (BeginsWithClosedGate bytes → ⊥) × ((body : List ℕ) → IsFrame body (λ _. Unit {0}) bytes → ⊥)
 
 -- whole frames of these records, one after the other, and then bytes that have Last
 abbrev pub FramesTo : (List ℕ → Type 0) → List (List ℕ) → List ℕ → Type 0

@@ -8,17 +8,17 @@ abbrev pub mark_of : ℕ → List ℕ
 mark_of format = 80 ∷ 79 ∷ 68 ∷ 74 ∷ 82 ∷ 78 ∷ 76 ∷ (48 + format) ∷ []
 
 -- the mark, and the epoch as eight bytes, the greatest first
-unfoldable pub head_of : ℕ → ℕ → List ℕ
-head_of format epoch = mark_of format ++ to_be_bytes w64 epoch
+unfoldable pub encoded_head : ℕ → ℕ → List ℕ
+encoded_head format epoch = mark_of format ++ to_be_bytes w64 epoch
 
 -- Format 1 or 2, and an epoch of at most 2^63. A journal of format 1 has a lesser one, so that
 -- there is one after it.
-pub record IsKnown (format epoch : ℕ) : Type 0 where
+pub record IsKnownHead (format epoch : ℕ) : Type 0 where
   pub either : (format ≡ 1) ⊎ (format ≡ 2)
   pub most : epoch ≤ EPOCH_LIMIT
   pub old : format ≡ 1 → epoch < EPOCH_LIMIT
 
 -- the bytes don't begin with a right head
 abbrev pub NoHead : List ℕ → Type 0
-NoHead bytes = (format epoch : ℕ) (rest : List ℕ) → IsKnown format epoch
-    → bytes ≡ head_of format epoch ++ rest → ⊥
+NoHead bytes = (format epoch : ℕ) (rest : List ℕ) → IsKnownHead format epoch
+    → bytes ≡ encoded_head format epoch ++ rest → ⊥

@@ -1,16 +1,16 @@
 -- What a crash image of one disk stands for.
 use Rattle.std.specs.Prelude.{◌≡◌, ◌≢◌, ◌⊎◌, ◌+◌, ℕ, List, [], ◌∷◌, ◌++◌}
 use Rattle.std.specs.List.{sum_by}
-use Rattle.journal_log.specs.Frames.{frame_len, IsEnd, IsBroken, FramesTo}
-use Rattle.journal_log.specs.Heads.{head_of, IsKnown, NoHead}
+use Rattle.journal_log.specs.Frames.{frame_len, BeginsWithClosedGate, IsBroken, FramesTo}
+use Rattle.journal_log.specs.Heads.{encoded_head, IsKnownHead, NoHead}
 
 -- The image is a journal of this format and epoch, and these are its records: a right head, and
 -- from the first gate on the frames of the records up to a gate 0.
 pub record Stands (format epoch : ℕ) (bodies : List (List ℕ)) (image : List ℕ) : Type 0 where
-  pub known : IsKnown format epoch
+  pub known : IsKnownHead format epoch
   pub rest : List ℕ
-  pub spells : image ≡ head_of format epoch ++ rest
-  pub frames : FramesTo IsEnd bodies rest
+  pub spells : image ≡ encoded_head format epoch ++ rest
+  pub frames : FramesTo BeginsWithClosedGate bodies rest
 
 -- it stands for these records, with one more or without it
 abbrev pub IsEither : ℕ → ℕ → List (List ℕ) → List ℕ → List ℕ → Type 0
@@ -28,9 +28,9 @@ pub record HasNoFrame (at : ℕ) (image : List ℕ) : Type 0 where
   pub format : ℕ
   pub epoch : ℕ
   pub bodies : List (List ℕ)
-  pub known : IsKnown format epoch
+  pub known : IsKnownHead format epoch
   pub rest : List ℕ
-  pub spells : image ≡ head_of format epoch ++ rest
+  pub spells : image ≡ encoded_head format epoch ++ rest
   pub frames : FramesTo IsBroken bodies rest
   pub place : at ≡ 16 + sum_by frame_len bodies
 

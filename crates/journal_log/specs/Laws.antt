@@ -1,7 +1,7 @@
 -- That an image is read in one way.
 use Rattle.std.specs.Prelude.{◌≡◌, ◌⊎◌, ◌<◌, ◌≤◌, ◌^◌, ℕ, List, [], ◌∷◌, length}
 use Rattle.journal_log.specs.Classes.{HasClass}
-use Rattle.journal_log.specs.Renewing.{IsNew}
+use Rattle.journal_log.specs.Renewing.{IsNewJournal}
 use Rattle.journal_log.specs.declared.class.DiskClass.{DiskClass}
 use Rattle.journal_log.specs.declared.class.DiskClass.TheVariants.{Closed, Open}
 use Rattle.journal_log.specs.Images.{Stands, IsDamaged}
@@ -33,5 +33,5 @@ HasSomeClass = (image : List ℕ) → (class : DiskClass) × HasClass class imag
 -- and stands for that record alone.
 abbrev pub NewIsClosedOrOpen : Type 0
 NewIsClosedOrOpen = (epoch : ℕ) (body image : List ℕ) → epoch ≤ 2 ^ 63 → length body < 2 ^ 64
-    → IsNew epoch body image
+    → IsNewJournal epoch body image
     → HasClass Closed image ⊎ (HasClass (Open epoch) image × Stands 2 epoch (body ∷ []) image)

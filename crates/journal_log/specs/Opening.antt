@@ -1,7 +1,7 @@
 -- What a crash leaves while a journal is opened.
 use Rattle.std.specs.Prelude.{◌≢◌, ◌⊎◌, ℕ, List, [], ◌∷◌, ◌++◌}
 use Rattle.journal_log.specs.Frames.{framed_of, opened}
-use Rattle.journal_log.specs.Heads.{head_of}
+use Rattle.journal_log.specs.Heads.{encoded_head}
 use Rattle.journal_log.specs.Gates.{IsGated}
 use Rattle.journal_log.specs.Images.{Stands, IsEither}
 
@@ -17,7 +17,7 @@ pub record IsNormalizing (images : List ℕ → Type 0) (image : List ℕ) : Typ
   pub body : List ℕ
   pub gate : ℕ
   pub torn : (gate ≢ 0) × (gate ≢ 1)
-  pub gated : IsGated (head_of format epoch ++ opened bodies) gate (framed_of body) from
+  pub gated : IsGated (encoded_head format epoch ++ opened bodies) gate (framed_of body) from
   pub stood : Stands format epoch (bodies ++ body ∷ []) from
   pub stands : IsEither format epoch bodies body image
 

@@ -1,6 +1,6 @@
 -- Runs of calls that only read.
 use Rattle.std.specs.Prelude.{◌≡◌, ◌≤◌, ℕ, List, Option, take, drop, length}
-use Rattle.pod_io.specs.Told.{IfTold}
+use Rattle.pod_io.specs.Visible.{IfVisible}
 use Rattle.pod_disk.specs.Disk.{EachImage}
 use Rattle.journal_log.specs.declared.window.Window.{Window}
 
@@ -21,4 +21,4 @@ pub record WindowShows (window : Window) (disk : List ℕ) : Type 0 where
 pub record ReadKeeps (old new : Option (List ℕ)) (before after : Window) : Type 0 where
   pub content : new ≡ old
   pub size : after.size ≡ before.size
-  pub shown : IfTold new (WindowShows after)
+  pub shown : IfVisible new (WindowShows after)

@@ -1,7 +1,7 @@
 -- What a crash leaves while a journal is begun anew on a disk that has been used.
 use Rattle.std.specs.Prelude.{◌≡◌, ◌⊎◌, ℕ, List, ◌∷◌, ◌++◌, length}
 use Rattle.journal_log.specs.Frames.{framed_of}
-use Rattle.journal_log.specs.Heads.{head_of}
+use Rattle.journal_log.specs.Heads.{encoded_head}
 use Rattle.journal_log.specs.Gates.{IsFirstGateClosed, IsOpening}
 
 -- the same bytes but for the first gate, which may be another
@@ -26,9 +26,10 @@ abbrev pub IsBeforeOpening : (List ℕ → Type 0) → List ℕ → Type 0
 IsBeforeOpening images image = images image ⊎ (IsClosing images image ⊎ IsFirstGateClosed image)
 
 -- the new head, any first gate, and after it the new record with a closed gate
-abbrev pub IsNew : ℕ → List ℕ → List ℕ → Type 0
-IsNew epoch body image = IsOpening (head_of 2 epoch) (framed_of body) image
+abbrev pub IsNewJournal : ℕ → List ℕ → List ℕ → Type 0
+IsNewJournal epoch body image = IsOpening (encoded_head 2 epoch) (framed_of body) image
 
 -- at any moment: as before the first gate is opened, or new
 abbrev pub IsWhileRenewed : (List ℕ → Type 0) → ℕ → List ℕ → List ℕ → Type 0
-IsWhileRenewed images epoch body image = IsBeforeOpening images image ⊎ IsNew epoch body image
+IsWhileRenewed images epoch body image =
+    IsBeforeOpening images image ⊎ IsNewJournal epoch body image

@@ -1,7 +1,7 @@
 -- What a reader finds at a gate.
 use Rattle.std.specs.Prelude.{◌≡◌, ◌≢◌, ◌⊎◌, ◌+◌, ◌≤◌, ℕ, List, ◌∷◌, ◌++◌, length, drop}
 use Rattle.std.specs.Int.{to_be_bytes, w64}
-use Rattle.journal_log.specs.Frames.{sized, IsEnd, IsBroken}
+use Rattle.journal_log.specs.Frames.{sized, BeginsWithClosedGate, IsBroken}
 use Rattle.journal_log.specs.declared.scan.Start.{Start}
 use Rattle.journal_log.specs.declared.scan.Start.TheVariants as start
 use Rattle.journal_log.specs.declared.scan.Frame.{Frame}
@@ -13,7 +13,7 @@ IsByteAt at bytes byte = drop at bytes ≡ byte ∷ drop (at + 1) bytes
 
 -- what the gate and the eight bytes after it say
 abbrev pub IsStart : Start → List ℕ → Type 0
-IsStart start.End bytes = IsEnd bytes
+IsStart start.End bytes = BeginsWithClosedGate bytes
 IsStart (start.Open gate len) bytes = bytes ≡ gate ∷ (to_be_bytes w64 len ++ drop 9 bytes)
 IsStart start.Broken bytes = IsBroken bytes
 
@@ -32,7 +32,7 @@ pub record IsRecord (gate : ℕ) (body : List ℕ) (bytes : List ℕ) : Type 0 w
 
 -- what the gate and its record say
 abbrev pub IsSeen : Frame → List ℕ → Type 0
-IsSeen frame.End bytes = IsEnd bytes
+IsSeen frame.End bytes = BeginsWithClosedGate bytes
 IsSeen (frame.Record gate body) bytes = IsRecord gate body bytes
 IsSeen frame.Broken bytes = IsBroken bytes
 

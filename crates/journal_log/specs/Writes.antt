@@ -8,6 +8,6 @@ abbrev pub IsTornFrom : (List ℕ → Type 0) → ℕ → ℕ → List ℕ → T
 IsTornFrom images at count image = (from : List ℕ) × images from × Torn at count from image
 
 -- what the disk held, with these bytes at this offset
-abbrev pub IsOver : Option (List ℕ) → ℕ → List ℕ → List ℕ → Type 0
-IsOver content at bytes image = (was : List ℕ) × (content ≡ Some was)
+abbrev pub IsOverwritten : Option (List ℕ) → ℕ → List ℕ → List ℕ → Type 0
+IsOverwritten content at bytes image = (was : List ℕ) × (content ≡ Some was)
     × (image ≡ overwritten at bytes was)

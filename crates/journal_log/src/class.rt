@@ -1,8 +1,8 @@
 //! What a disk of a store is, by its length, its head and its first gate.
 
 ghost use Rattle.std.specs.Prelude.{◌≡◌, List, ℕ, Some, length, take, IfOk, OnOk};
-ghost use Rattle.pod_io.specs.Counts.{Counts};
-ghost use Rattle.pod_io.specs.Told.{IfTold};
+ghost use Rattle.pod_io.specs.Counts.{CountsFaults};
+ghost use Rattle.pod_io.specs.Visible.{IfVisible};
 ghost use Rattle.pod_disk.specs.Disk.{EachImage, LeavesOnly};
 ghost use Rattle.journal_log.specs.Classes.{HasClass};
 ghost use Rattle.journal_log.specs.Reading.{OnlyReads};
@@ -43,9 +43,9 @@ impl Journal {
         ensures durable { OnOk result
             (EachImage (D.image disk.new) (λ c. D.content disk.new ≡ Some c)) }
         ensures content { OnOk result (D.content disk.new ≡ D.content disk.old) }
-        ensures class { IfOk result (λ class. IfTold (D.content disk.old) (HasClass class)) }
+        ensures class { IfOk result (λ class. IfVisible (D.content disk.old) (HasClass class)) }
         ensures each { IfOk result (λ class. EachImage (D.image disk.new) (HasClass class)) }
-        ensures faults { Counts result (D.faults disk.old) (D.faults disk.new) }
+        ensures faults { CountsFaults result (D.faults disk.old) (D.faults disk.new) }
     {
         Ok(class_at(disk)?)
     }
@@ -57,8 +57,8 @@ fn class_at<D: Disk>(disk: &mut D) -> Result<DiskClass, Failed>
     ensures durable { OnOk result
         (EachImage (D.image disk.new) (λ c. D.content disk.new ≡ Some c)) }
     ensures content { OnOk result (D.content disk.new ≡ D.content disk.old) }
-    ensures class { IfOk result (λ class. IfTold (D.content disk.old) (HasClass class)) }
-    ensures faults { Counts result (D.faults disk.old) (D.faults disk.new) }
+    ensures class { IfOk result (λ class. IfVisible (D.content disk.old) (HasClass class)) }
+    ensures faults { CountsFaults result (D.faults disk.old) (D.faults disk.new) }
 {
     let size = synced_len(disk)?;
     if size == 0 {

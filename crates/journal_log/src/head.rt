@@ -1,8 +1,9 @@
 //! The head of a journal: its format and its epoch in sixteen bytes.
 
-ghost use Rattle.std.specs.Prelude.{◌≡◌, ◌≢◌, ◌⊎◌, ◌≤◌, ◌<◌, ◌^◌, ◌++◌, ◌∷◌, [], List, ℕ, length, IfSome, IfNone, IsTrue};
+ghost use Rattle.std.specs.Prelude.{◌≡◌, ◌≢◌, ◌⊎◌, ◌≤◌, ◌<◌, ◌^◌, ◌++◌, ◌∷◌, [], List, ℕ, length};
+ghost use Rattle.std.specs.Prelude.{IfSome, IfNone, IsTrue};
 ghost use Rattle.std.specs.Int.{to_be_bytes, w64};
-ghost use Rattle.journal_log.specs.Heads.{mark_of, head_of, IsKnown, NoHead};
+ghost use Rattle.journal_log.specs.Heads.{mark_of, encoded_head, IsKnownHead, NoHead};
 
 /// What a right head has: the format, 1 or 2, and the epoch, at most [`EPOCH_LIMIT`].
 #[derive(Clone, Copy, Debug, PartialEq, Eq)]
@@ -18,8 +19,8 @@ impl Head {
     /// The right head that the bytes begin with.
     pub fn read(bytes: &[u8]) -> Option<Head>
         ensures found { IfSome result (λ head. (rest : List ℕ)
-            × (bytes.now ≡ head_of head.format head.epoch ++ rest)) }
-        ensures known { IfSome result (λ head. IsKnown head.format head.epoch) }
+            × (bytes.now ≡ encoded_head head.format head.epoch ++ rest)) }
+        ensures known { IfSome result (λ head. IsKnownHead head.format head.epoch) }
         ensures none { IfNone result (NoHead bytes.now) }
     {
         if bytes.len() < 16 {
@@ -52,8 +53,8 @@ fn format_of(mark: &[u8]) -> Option<u8>
 // Whether a right head has them.
 fn is_known(format: u8, epoch: u64) -> bool
     requires { (format ≡ 1) ⊎ (format ≡ 2) }
-    ensures yes { IsTrue result → IsKnown format epoch }
-    ensures no { IsKnown format epoch → IsTrue result }
+    ensures yes { IsTrue result → IsKnownHead format epoch }
+    ensures no { IsKnownHead format epoch → IsTrue result }
 {
     if format == 1 {
         epoch < EPOCH_LIMIT
@@ -74,7 +75,7 @@ pub fn number(bytes: &[u8]) -> u64
 
 /// The head of a journal of format 2 and this epoch.
 pub fn head_bytes(epoch: u64) -> [u8; 16]
-    ensures { result ≡ head_of 2 epoch }
+    ensures { result ≡ encoded_head 2 epoch }
 {
     let e = epoch.to_be_bytes();
     [
@@ -85,7 +86,7 @@ pub fn head_bytes(epoch: u64) -> [u8; 16]
 
 /// The same head, and this first gate.
 pub fn head_and_gate(epoch: u64, gate: u8) -> [u8; 17]
-    ensures { result ≡ head_of 2 epoch ++ gate ∷ [] }
+    ensures { result ≡ encoded_head 2 epoch ++ gate ∷ [] }
 {
     let e = epoch.to_be_bytes();
     [

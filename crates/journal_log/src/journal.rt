@@ -1,9 +1,10 @@
 //! A journal: its position on its disk, and the calls that add and repair.
 
-ghost use Rattle.std.specs.Prelude.{◌≡◌, ◌≢◌, ◌⊎◌, ◌+◌, ◌<◌, ◌≤◌, ◌^◌, ◌++◌, ◌∷◌, [], List, ℕ, length, OnOk, OnErr, true, false};
-ghost use Rattle.pod_io.specs.Counts.{Counts};
+ghost use Rattle.std.specs.Prelude.{◌≡◌, ◌≢◌, ◌⊎◌, ◌+◌, ◌<◌, ◌≤◌, ◌^◌, ◌++◌, ◌∷◌, [], List, ℕ};
+ghost use Rattle.std.specs.Prelude.{length, OnOk, OnErr, true, false};
+ghost use Rattle.pod_io.specs.Counts.{CountsFaults};
 ghost use Rattle.pod_disk.specs.Disk.{LeavesOnly};
-ghost use Rattle.journal_log.specs.Heads.{IsKnown};
+ghost use Rattle.journal_log.specs.Heads.{IsKnownHead};
 ghost use Rattle.journal_log.specs.Walking.{state_at};
 ghost use Rattle.journal_log.specs.Images.{IsEither};
 ghost use Rattle.journal_log.specs.CleanJournal.{IsClean, IsInDoubt, IsCleanOrInDoubt};
@@ -32,19 +33,19 @@ pub struct Journal {
 impl Model for Journal {
     ghost use Rattle.std.specs.Prelude.{◌<◌, ◌^◌};
     ghost use Rattle.journal_log.specs.JournalState.{JournalState};
-    ghost use Rattle.journal_log.specs.Heads.{IsKnown};
+    ghost use Rattle.journal_log.specs.Heads.{IsKnownHead};
 
     ghost Value = { JournalState };
 
     ghost view = { λ j. record { end = j.end; doubt = j.doubt; format = j.format; epoch = j.epoch } };
 
-    ghost invariant = { λ j. (j.end < 2 ^ 63) × IsKnown j.format j.epoch };
+    ghost invariant = { λ j. (j.end < 2 ^ 63) × IsKnownHead j.format j.epoch };
 }
 
 impl Journal {
     // The journal with this head whose last gate, at this offset, is closed.
     pub(crate) fn new_clean(head: Head, end: u64) -> Journal
-        requires known { IsKnown head.format head.epoch }
+        requires known { IsKnownHead head.format head.epoch }
         requires room { end < 2 ^ 63 }
         ensures { result ≡ state_at head end }
     {
@@ -107,7 +108,7 @@ impl Journal {
         ensures fault { OnErr result ((bodies : List (List ℕ))
             → IsClean (D.image disk.old) self.old bodies
             → IsCleanOrInDoubt (D.image disk.new) self.new bodies framed.now) }
-        ensures faults { Counts result (D.faults disk.old) (D.faults disk.new) }
+        ensures faults { CountsFaults result (D.faults disk.old) (D.faults disk.new) }
     {
         write_through(disk, self.end + 1, framed.bytes())?;
         self.doubt = true;
@@ -134,7 +135,7 @@ impl Journal {
         ensures fault { OnErr result ((bodies : List (List ℕ)) (body : List ℕ)
             → IsInDoubt (D.image disk.old) self.old bodies body
             → IsInDoubt (D.image disk.new) self.new bodies body) }
-        ensures faults { Counts result (D.faults disk.old) (D.faults disk.new) }
+        ensures faults { CountsFaults result (D.faults disk.old) (D.faults disk.new) }
     {
         write_through(disk, self.end, &[0])?;
         self.doubt = false;

@@ -4,7 +4,8 @@ ghost use Rattle.std.specs.Prelude.{List, ℕ};
 ghost use Rattle.pod_disk.specs.Disk.{EachImage};
 ghost use Rattle.journal_log.specs.Images.{Stands, IsEither};
 ghost use Rattle.journal_log.specs.CleanJournal.{IsClean, IsInDoubt};
-ghost use Rattle.journal_log.specs.Laws.{StandsOnce, DamagedOnce, StandsOrDamaged, OneClass, HasSomeClass, NewIsClosedOrOpen};
+ghost use Rattle.journal_log.specs.Laws.{StandsOnce, DamagedOnce, StandsOrDamaged, OneClass};
+ghost use Rattle.journal_log.specs.Laws.{HasSomeClass, NewIsClosedOrOpen};
 
 use crate::journal::Journal;
 use pod_disk::Disk;

@@ -1,10 +1,11 @@
 //! Opening a journal: reading its records and mending a torn last gate.
 
-ghost use Rattle.std.specs.Prelude.{◌≡◌, ◌≤◌, ◌<◌, ◌^◌, ◌++◌, ℕ, drop, length, IfOk, IfErr, IfSome, IfNone, OnOk, Some};
-ghost use Rattle.pod_io.specs.Counts.{Counts};
-ghost use Rattle.pod_io.specs.Told.{IfTold};
+ghost use Rattle.std.specs.Prelude.{◌≡◌, ◌≤◌, ◌<◌, ◌^◌, ◌++◌, ℕ, drop, length, IfOk, IfErr, IfSome};
+ghost use Rattle.std.specs.Prelude.{IfNone, OnOk, Some};
+ghost use Rattle.pod_io.specs.Counts.{CountsFaults};
+ghost use Rattle.pod_io.specs.Visible.{IfVisible};
 ghost use Rattle.pod_disk.specs.Disk.{EachImage, LeavesOnly};
-ghost use Rattle.journal_log.specs.Heads.{head_of, IsKnown, NoHead};
+ghost use Rattle.journal_log.specs.Heads.{encoded_head, IsKnownHead, NoHead};
 ghost use Rattle.journal_log.specs.Images.{Stands};
 ghost use Rattle.journal_log.specs.CleanJournal.{IsClean};
 ghost use Rattle.journal_log.specs.Reading.{OnlyReads, WindowShows, ReadKeeps};
@@ -41,7 +42,7 @@ impl Journal {
             (IsWhileOpened (D.image disk.old)) }
         ensures clean { IfOk result (λ opened. IsClean (D.image disk.new) opened.0 opened.1.items) }
         ensures records { IfOk result
-            (λ opened. IfTold (D.content disk.old)
+            (λ opened. IfVisible (D.content disk.old)
             (Stands opened.0.format opened.0.epoch opened.1.items)) }
         ensures no_fewer { D.faults disk.old ≤ D.faults disk.new }
         ensures cause { IfErr result
@@ -59,9 +60,9 @@ pub fn synced_len<D: Disk>(disk: &mut D) -> Result<u64, Failed>
     ensures durable { OnOk result
         (EachImage (D.image disk.new) (λ c. D.content disk.new ≡ Some c)) }
     ensures content { OnOk result (D.content disk.new ≡ D.content disk.old) }
-    ensures len { IfOk result (λ size. IfTold (D.content disk.old) (λ b. length b ≡ size)) }
+    ensures len { IfOk result (λ size. IfVisible (D.content disk.old) (λ b. length b ≡ size)) }
     ensures below { IfOk result (λ size. size < 2 ^ 63) }
-    ensures faults { Counts result (D.faults disk.old) (D.faults disk.new) }
+    ensures faults { CountsFaults result (D.faults disk.old) (D.faults disk.new) }
 {
     disk.sync()?;
     disk.len()
@@ -69,18 +70,19 @@ pub fn synced_len<D: Disk>(disk: &mut D) -> Result<u64, Failed>
 
 // The right head at the prefix of a disk.
 fn head_at<D: Disk>(window: &mut Window, disk: &mut D) -> Result<Option<Head>, Failed>
-    requires { IfTold (D.content disk.old) (WindowShows window.old) }
+    requires { IfVisible (D.content disk.old) (WindowShows window.old) }
     ensures only_reads { OnlyReads D.image D.moment D.left_since disk.old disk.new }
     ensures kept { OnOk result
         (ReadKeeps (D.content disk.old) (D.content disk.new) window.old window.new) }
     ensures found { IfOk result
         (λ found. IfSome found
-        (λ head. IfTold (D.content disk.old)
-        (λ b. b ≡ head_of head.format head.epoch ++ drop 16 b))) }
-    ensures known { IfOk result (λ found. IfSome found (λ head. IsKnown head.format head.epoch)) }
+        (λ head. IfVisible (D.content disk.old)
+        (λ b. b ≡ encoded_head head.format head.epoch ++ drop 16 b))) }
+    ensures known { IfOk result
+        (λ found. IfSome found (λ head. IsKnownHead head.format head.epoch)) }
     ensures size { IfOk result (λ found. IfSome found (λ _. 16 ≤ window.old.size)) }
-    ensures none { IfOk result (λ found. IfNone found (IfTold (D.content disk.old) NoHead)) }
-    ensures faults { Counts result (D.faults disk.old) (D.faults disk.new) }
+    ensures none { IfOk result (λ found. IfNone found (IfVisible (D.content disk.old) NoHead)) }
+    ensures faults { CountsFaults result (D.faults disk.old) (D.faults disk.new) }
 {
     if window.size < 16 {
         return Ok(None);
@@ -98,7 +100,7 @@ fn read_from<D: Disk>(
     side: Side,
 ) -> Result<Found, OpenFault>
     requires small { size < 2 ^ 63 }
-    requires size { IfTold (D.content disk.old) (λ b. length b ≡ size) }
+    requires size { IfVisible (D.content disk.old) (λ b. length b ≡ size) }
     ensures only_reads { OnlyReads D.image D.moment D.left_since disk.old disk.new }
     ensures content { OnOk result (D.content disk.new ≡ D.content disk.old) }
     ensures found { IfOk result (IsFound (D.content disk.old)) }
@@ -143,7 +145,7 @@ fn normalize_gate<D: Disk>(disk: &mut D, found: &Found) -> Result<(), Failed>
     ensures clean { OnOk result
         (IsClean (D.image disk.new)
         (state_at found.now.head found.now.end) found.now.records.items) }
-    ensures faults { Counts result (D.faults disk.old) (D.faults disk.new) }
+    ensures faults { CountsFaults result (D.faults disk.old) (D.faults disk.new) }
 {
     match found.torn_gate {
         Some(at) => write_through(disk, at, &[1]),

@@ -1,18 +1,19 @@
 //! A journal begun anew on a disk that may have been used, and one begun on an empty disk.
 
-ghost use Rattle.std.specs.Prelude.{◌≡◌, ◌≤◌, ◌<◌, ◌+◌, ◌^◌, ◌∷◌, [], List, ℕ, length, IfOk, IfErr, OnOk, IsErrOf, Some};
-ghost use Rattle.pod_io.specs.Counts.{Counts};
-ghost use Rattle.pod_io.specs.Told.{IfTold};
+ghost use Rattle.std.specs.Prelude.{◌≡◌, ◌≤◌, ◌<◌, ◌+◌, ◌^◌, ◌∷◌, [], List, ℕ, length, IfOk, IfErr};
+ghost use Rattle.std.specs.Prelude.{OnOk, IsErrOf, Some};
+ghost use Rattle.pod_io.specs.Counts.{CountsFaults};
+ghost use Rattle.pod_io.specs.Visible.{IfVisible};
 ghost use Rattle.pod_disk.specs.Disk.{EachImage, LeavesOnly};
 ghost use Rattle.journal_log.specs.Frames.{framed_of};
-ghost use Rattle.journal_log.specs.Heads.{head_of};
+ghost use Rattle.journal_log.specs.Heads.{encoded_head};
 ghost use Rattle.journal_log.specs.Gates.{IsFirstGateClosed, IsGated};
 ghost use Rattle.journal_log.specs.Classes.{HasClass};
 ghost use Rattle.journal_log.specs.CleanJournal.{IsClean};
 ghost use Rattle.journal_log.specs.Reading.{OnlyReads};
 ghost use Rattle.journal_log.specs.Writes.{IsTornFrom};
 ghost use Rattle.journal_log.specs.FirstGates.{IsFirstGate};
-ghost use Rattle.journal_log.specs.Renewing.{IsBeforeOpening, IsNew, IsWhileRenewed};
+ghost use Rattle.journal_log.specs.Renewing.{IsBeforeOpening, IsNewJournal, IsWhileRenewed};
 
 use crate::class::DiskClass;
 use crate::fault::{DiskFault, RenewFault};
@@ -42,13 +43,13 @@ impl Journal {
     /// this first record: head and an open gate in one write, the record with its gate in the next,
     /// and a sync. A crash inside this call may leave anything.
     pub fn init<D: Disk>(disk: &mut D, epoch: u64, first: &Framed) -> Result<Journal, DiskFault>
-        requires empty { IfTold (D.content disk.old) (λ b. b ≡ []) }
+        requires empty { IfVisible (D.content disk.old) (λ b. b ≡ []) }
         requires most { epoch ≤ 2 ^ 63 }
         ensures clean { IfOk result
             (λ journal. IsClean (D.image disk.new) journal (first.now ∷ [])) }
         ensures format { IfOk result (λ journal. journal.format ≡ 2) }
         ensures epoch { IfOk result (λ journal. journal.epoch ≡ epoch) }
-        ensures faults { Counts result (D.faults disk.old) (D.faults disk.new) }
+        ensures faults { CountsFaults result (D.faults disk.old) (D.faults disk.new) }
     {
         let framed = first.bytes();
         write_anew(disk, epoch, 1, framed)?;
@@ -60,10 +61,10 @@ impl Journal {
     /// an empty disk, and syncs. Such a disk has no records. A crash inside this call may leave
     /// anything.
     pub fn init_closed<D: Disk>(disk: &mut D, epoch: u64) -> Result<(), DiskFault>
-        requires empty { IfTold (D.content disk.old) (λ b. b ≡ []) }
+        requires empty { IfVisible (D.content disk.old) (λ b. b ≡ []) }
         requires most { epoch ≤ 2 ^ 63 }
         ensures closed { OnOk result (EachImage (D.image disk.new) (HasClass DiskClass.Closed)) }
-        ensures faults { Counts result (D.faults disk.old) (D.faults disk.new) }
+        ensures faults { CountsFaults result (D.faults disk.old) (D.faults disk.new) }
     {
         write_through(disk, 0, &head_and_gate(epoch, 0))?;
         Ok(())
@@ -86,10 +87,10 @@ impl Journal {
     /// the first gate may then hold any byte, and [`shut`](Journal::shut) closes it.
     pub fn renew<D: Disk>(disk: &mut D, epoch: u64, first: &Framed) -> Result<Journal, RenewFault>
         requires { epoch ≤ 2 ^ 63 }
-        ensures moments { IfTold (D.content disk.old) (λ b. 17 ≤ length b)
+        ensures moments { IfVisible (D.content disk.old) (λ b. 17 ≤ length b)
             → LeavesOnly D.moment D.left_since disk.old disk.new
             (IsWhileRenewed (D.image disk.old) epoch first.now) }
-        ensures short { IfTold (D.content disk.old) (λ b. length b < 17
+        ensures short { IfVisible (D.content disk.old) (λ b. length b < 17
             → LeavesOnly D.moment D.left_since disk.old disk.new
             (IsTornFrom (D.image disk.old) 0 (17 + length (framed_of first.now)))) }
         ensures clean { IfOk result
@@ -97,12 +98,12 @@ impl Journal {
         ensures format { IfOk result (λ journal. journal.format ≡ 2) }
         ensures epoch { IfOk result (λ journal. journal.epoch ≡ epoch) }
         ensures closed { IsErrOf result RenewFault.Closed
-            → IfTold (D.content disk.old) (λ b. 17 ≤ length b)
+            → IfVisible (D.content disk.old) (λ b. 17 ≤ length b)
             → LeavesOnly D.moment D.left_since disk.old disk.new
             (IsBeforeOpening (D.image disk.old)) }
         ensures in_doubt { IsErrOf result RenewFault.InDoubt
-            → EachImage (D.image disk.new) (IsNew epoch first.now) }
-        ensures faults { Counts result (D.faults disk.old) (D.faults disk.new) }
+            → EachImage (D.image disk.new) (IsNewJournal epoch first.now) }
+        ensures faults { CountsFaults result (D.faults disk.old) (D.faults disk.new) }
     {
         let framed = first.bytes();
         match prepare(disk, epoch, framed) {
@@ -122,14 +123,14 @@ impl Journal {
     /// the gate was in doubt after [`renew`](Journal::renew), it stays the new journal with any
     /// first gate.
     pub fn shut<D: Disk>(disk: &mut D) -> Result<(), DiskFault>
-        requires { IfTold (D.content disk.old) (λ b. 17 ≤ length b) }
+        requires { IfVisible (D.content disk.old) (λ b. 17 ≤ length b) }
         ensures moments { LeavesOnly D.moment D.left_since disk.old disk.new
             (IsTornFrom (D.image disk.old) 16 1) }
         ensures in_doubt { (epoch : ℕ) (body : List ℕ)
-            → EachImage (D.image disk.old) (IsNew epoch body)
-            → LeavesOnly D.moment D.left_since disk.old disk.new (IsNew epoch body) }
+            → EachImage (D.image disk.old) (IsNewJournal epoch body)
+            → LeavesOnly D.moment D.left_since disk.old disk.new (IsNewJournal epoch body) }
         ensures shut { OnOk result (EachImage (D.image disk.new) IsFirstGateClosed) }
-        ensures faults { Counts result (D.faults disk.old) (D.faults disk.new) }
+        ensures faults { CountsFaults result (D.faults disk.old) (D.faults disk.new) }
     {
         close(disk)?;
         Ok(())
@@ -138,15 +139,15 @@ impl Journal {
 
 // The first three parts: head, closed gate and record, all on the disk.
 fn prepare<D: Disk>(disk: &mut D, epoch: u64, framed: &[u8]) -> Result<(), Failed>
-    ensures moments { IfTold (D.content disk.old) (λ b. 17 ≤ length b)
+    ensures moments { IfVisible (D.content disk.old) (λ b. 17 ≤ length b)
         → LeavesOnly D.moment D.left_since disk.old disk.new (IsBeforeOpening (D.image disk.old)) }
-    ensures short { IfTold (D.content disk.old) (λ b. length b < 17
+    ensures short { IfVisible (D.content disk.old) (λ b. length b < 17
         → LeavesOnly D.moment D.left_since disk.old disk.new
         (IsTornFrom (D.image disk.old) 0 (17 + length framed.now))) }
     ensures prepared { OnOk result
-        (EachImage (D.image disk.new) (IsGated (head_of 2 epoch) 0 framed.now)) }
+        (EachImage (D.image disk.new) (IsGated (encoded_head 2 epoch) 0 framed.now)) }
     ensures room { OnOk result (17 + length framed.now < 2 ^ 63) }
-    ensures faults { Counts result (D.faults disk.old) (D.faults disk.new) }
+    ensures faults { CountsFaults result (D.faults disk.old) (D.faults disk.new) }
 {
     match first_gate(disk)? {
         FirstGate::Missing => write_anew(disk, epoch, 0, framed),
@@ -161,8 +162,8 @@ fn first_gate<D: Disk>(disk: &mut D) -> Result<FirstGate, Failed>
     ensures durable { OnOk result
         (EachImage (D.image disk.new) (λ c. D.content disk.new ≡ Some c)) }
     ensures content { OnOk result (D.content disk.new ≡ D.content disk.old) }
-    ensures is { IfOk result (λ gate. IfTold (D.content disk.new) (IsFirstGate gate)) }
-    ensures faults { Counts result (D.faults disk.old) (D.faults disk.new) }
+    ensures is { IfOk result (λ gate. IfVisible (D.content disk.new) (IsFirstGate gate)) }
+    ensures faults { CountsFaults result (D.faults disk.old) (D.faults disk.new) }
 {
     if synced_len(disk)? < 17 {
         return Ok(FirstGate::Missing);
@@ -178,11 +179,11 @@ fn first_gate<D: Disk>(disk: &mut D) -> Result<FirstGate, Failed>
 
 // The second part.
 fn close<D: Disk>(disk: &mut D) -> Result<(), Failed>
-    requires { IfTold (D.content disk.old) (λ b. 17 ≤ length b) }
+    requires { IfVisible (D.content disk.old) (λ b. 17 ≤ length b) }
     ensures moments { LeavesOnly D.moment D.left_since disk.old disk.new
         (IsTornFrom (D.image disk.old) 16 1) }
     ensures shut { OnOk result (EachImage (D.image disk.new) IsFirstGateClosed) }
-    ensures faults { Counts result (D.faults disk.old) (D.faults disk.new) }
+    ensures faults { CountsFaults result (D.faults disk.old) (D.faults disk.new) }
 {
     write_through(disk, FIRST_GATE, &[0])
 }
@@ -193,9 +194,9 @@ fn close_and_write<D: Disk>(disk: &mut D, epoch: u64, framed: &[u8]) -> Result<(
     ensures moments { LeavesOnly D.moment D.left_since disk.old disk.new
         (IsBeforeOpening (D.image disk.old)) }
     ensures written { OnOk result
-        (EachImage (D.image disk.new) (IsGated (head_of 2 epoch) 0 framed.now)) }
+        (EachImage (D.image disk.new) (IsGated (encoded_head 2 epoch) 0 framed.now)) }
     ensures room { OnOk result (17 + length framed.now < 2 ^ 63) }
-    ensures faults { Counts result (D.faults disk.old) (D.faults disk.new) }
+    ensures faults { CountsFaults result (D.faults disk.old) (D.faults disk.new) }
 {
     close(disk)?;
     write_record(disk, epoch, framed)
@@ -207,9 +208,9 @@ fn write_record<D: Disk>(disk: &mut D, epoch: u64, framed: &[u8]) -> Result<(), 
     requires { EachImage (D.image disk.old) IsFirstGateClosed }
     ensures moments { LeavesOnly D.moment D.left_since disk.old disk.new IsFirstGateClosed }
     ensures written { OnOk result
-        (EachImage (D.image disk.new) (IsGated (head_of 2 epoch) 0 framed.now)) }
+        (EachImage (D.image disk.new) (IsGated (encoded_head 2 epoch) 0 framed.now)) }
     ensures room { OnOk result (17 + length framed.now < 2 ^ 63) }
-    ensures faults { Counts result (D.faults disk.old) (D.faults disk.new) }
+    ensures faults { CountsFaults result (D.faults disk.old) (D.faults disk.new) }
 {
     write(disk, 0, &head_bytes(epoch))?;
     write_through(disk, FIRST_GATE + 1, framed)
@@ -221,9 +222,9 @@ fn write_anew<D: Disk>(disk: &mut D, epoch: u64, gate: u8, framed: &[u8]) -> Res
     ensures torn { LeavesOnly D.moment D.left_since disk.old disk.new
         (IsTornFrom (D.image disk.old) 0 (17 + length framed.now)) }
     ensures written { OnOk result
-        (EachImage (D.image disk.new) (IsGated (head_of 2 epoch) gate framed.now)) }
+        (EachImage (D.image disk.new) (IsGated (encoded_head 2 epoch) gate framed.now)) }
     ensures room { OnOk result (17 + length framed.now < 2 ^ 63) }
-    ensures faults { Counts result (D.faults disk.old) (D.faults disk.new) }
+    ensures faults { CountsFaults result (D.faults disk.old) (D.faults disk.new) }
 {
     write(disk, 0, &head_and_gate(epoch, gate))?;
     write_through(disk, FIRST_GATE + 1, framed)

@@ -1,9 +1,10 @@
 //! Reads a gate and its record.
 
-ghost use Rattle.std.specs.Prelude.{◌≡◌, ◌≢◌, ◌+◌, ◌≤◌, ◌<◌, ◌^◌, ◌++◌, ◌∷◌, List, ℕ, length, take, drop, IfOk, IfErr, OnOk};
+ghost use Rattle.std.specs.Prelude.{◌≡◌, ◌≢◌, ◌+◌, ◌≤◌, ◌<◌, ◌^◌, ◌++◌, ◌∷◌, List, ℕ, length, take};
+ghost use Rattle.std.specs.Prelude.{drop, IfOk, IfErr, OnOk};
 ghost use Rattle.std.specs.Int.{to_be_bytes, w64};
-ghost use Rattle.pod_io.specs.Counts.{Counts};
-ghost use Rattle.pod_io.specs.Told.{IfTold};
+ghost use Rattle.pod_io.specs.Counts.{CountsFaults};
+ghost use Rattle.pod_io.specs.Visible.{IfVisible};
 ghost use Rattle.journal_log.specs.Reading.{OnlyReads, WindowShows, ReadKeeps};
 ghost use Rattle.journal_log.specs.Scanning.{IsByteAt, IsStart, StartFits, IsSeen, FrameFits};
 ghost use Rattle.journal_log.specs.Causes.{IsOfReading};
@@ -38,12 +39,12 @@ pub enum Start {
 // The byte at this offset.
 fn byte_at<D: Disk>(window: &mut Window, disk: &mut D, at: u64) -> Result<u8, Failed>
     requires within { at < window.old.size }
-    requires shown { IfTold (D.content disk.old) (WindowShows window.old) }
+    requires shown { IfVisible (D.content disk.old) (WindowShows window.old) }
     ensures only_reads { OnlyReads D.image D.moment D.left_since disk.old disk.new }
     ensures kept { OnOk result
         (ReadKeeps (D.content disk.old) (D.content disk.new) window.old window.new) }
-    ensures byte { IfOk result (λ byte. IfTold (D.content disk.old) (λ b. IsByteAt at b byte)) }
-    ensures faults { Counts result (D.faults disk.old) (D.faults disk.new) }
+    ensures byte { IfOk result (λ byte. IfVisible (D.content disk.old) (λ b. IsByteAt at b byte)) }
+    ensures faults { CountsFaults result (D.faults disk.old) (D.faults disk.new) }
 {
     let mut byte = [0u8; 1];
     window.read(disk, at, &mut byte)?;
@@ -53,14 +54,14 @@ fn byte_at<D: Disk>(window: &mut Window, disk: &mut D, at: u64) -> Result<u8, Fa
 // The number that the eight bytes from this offset on spell.
 fn number_at<D: Disk>(window: &mut Window, disk: &mut D, at: u64) -> Result<u64, Failed>
     requires within { at + 8 ≤ window.old.size }
-    requires shown { IfTold (D.content disk.old) (WindowShows window.old) }
+    requires shown { IfVisible (D.content disk.old) (WindowShows window.old) }
     ensures only_reads { OnlyReads D.image D.moment D.left_since disk.old disk.new }
     ensures kept { OnOk result
         (ReadKeeps (D.content disk.old) (D.content disk.new) window.old window.new) }
     ensures small { IfOk result (λ n. n < 2 ^ 64) }
     ensures number { IfOk result
-        (λ n. IfTold (D.content disk.old) (λ b. to_be_bytes w64 n ≡ take 8 (drop at b))) }
-    ensures faults { Counts result (D.faults disk.old) (D.faults disk.new) }
+        (λ n. IfVisible (D.content disk.old) (λ b. to_be_bytes w64 n ≡ take 8 (drop at b))) }
+    ensures faults { CountsFaults result (D.faults disk.old) (D.faults disk.new) }
 {
     let mut bytes = [0u8; 8];
     window.read(disk, at, &mut bytes)?;
@@ -71,14 +72,14 @@ fn number_at<D: Disk>(window: &mut Window, disk: &mut D, at: u64) -> Result<u64,
 fn start_at<D: Disk>(window: &mut Window, disk: &mut D, at: u64) -> Result<Start, Failed>
     requires within { at ≤ window.old.size }
     requires small { window.old.size < 2 ^ 63 }
-    requires shown { IfTold (D.content disk.old) (WindowShows window.old) }
+    requires shown { IfVisible (D.content disk.old) (WindowShows window.old) }
     ensures only_reads { OnlyReads D.image D.moment D.left_since disk.old disk.new }
     ensures kept { OnOk result
         (ReadKeeps (D.content disk.old) (D.content disk.new) window.old window.new) }
     ensures is { IfOk result
-        (λ start. IfTold (D.content disk.old) (λ b. IsStart start (drop at b))) }
+        (λ start. IfVisible (D.content disk.old) (λ b. IsStart start (drop at b))) }
     ensures fits { IfOk result (StartFits at window.old.size) }
-    ensures faults { Counts result (D.faults disk.old) (D.faults disk.new) }
+    ensures faults { CountsFaults result (D.faults disk.old) (D.faults disk.new) }
 {
     if at == window.size {
         return Ok(Start::Broken);
@@ -106,13 +107,13 @@ fn body_at<D: Disk>(
     len: u64,
 ) -> Result<Bytes, OpenFault>
     requires within { at + len ≤ window.old.size }
-    requires shown { IfTold (D.content disk.old) (WindowShows window.old) }
+    requires shown { IfVisible (D.content disk.old) (WindowShows window.old) }
     ensures only_reads { OnlyReads D.image D.moment D.left_since disk.old disk.new }
     ensures kept { OnOk result
         (ReadKeeps (D.content disk.old) (D.content disk.new) window.old window.new) }
     ensures len { IfOk result (λ body. length body ≡ len) }
     ensures body { IfOk result
-        (λ body. IfTold (D.content disk.old) (λ b. body ≡ take len (drop at b))) }
+        (λ body. IfVisible (D.content disk.old) (λ b. body ≡ take len (drop at b))) }
     ensures no_fewer { D.faults disk.old ≤ D.faults disk.new }
     ensures cause { IfErr result (IsOfReading (D.faults disk.old) (D.faults disk.new)) }
 {
@@ -136,14 +137,14 @@ fn record_at<D: Disk>(
     requires is_open { gate ≢ 0 }
     requires within { at + len + 10 ≤ window.old.size }
     requires small { window.old.size < 2 ^ 63 }
-    requires shown { IfTold (D.content disk.old) (WindowShows window.old) }
-    requires start { IfTold (D.content disk.old)
+    requires shown { IfVisible (D.content disk.old) (WindowShows window.old) }
+    requires start { IfVisible (D.content disk.old)
         (λ b. drop at b ≡ gate ∷ (to_be_bytes w64 len ++ drop 9 (drop at b))) }
     ensures only_reads { OnlyReads D.image D.moment D.left_since disk.old disk.new }
     ensures kept { OnOk result
         (ReadKeeps (D.content disk.old) (D.content disk.new) window.old window.new) }
     ensures is { IfOk result
-        (λ frame. IfTold (D.content disk.old) (λ b. IsSeen frame (drop at b))) }
+        (λ frame. IfVisible (D.content disk.old) (λ b. IsSeen frame (drop at b))) }
     ensures fits { IfOk result (FrameFits at window.old.size) }
     ensures no_fewer { D.faults disk.old ≤ D.faults disk.new }
     ensures cause { IfErr result (IsOfReading (D.faults disk.old) (D.faults disk.new)) }
@@ -168,12 +169,12 @@ pub fn frame_at<D: Disk>(
 ) -> Result<Frame, OpenFault>
     requires within { at ≤ window.old.size }
     requires small { window.old.size < 2 ^ 63 }
-    requires shown { IfTold (D.content disk.old) (WindowShows window.old) }
+    requires shown { IfVisible (D.content disk.old) (WindowShows window.old) }
     ensures only_reads { OnlyReads D.image D.moment D.left_since disk.old disk.new }
     ensures kept { OnOk result
         (ReadKeeps (D.content disk.old) (D.content disk.new) window.old window.new) }
     ensures is { IfOk result
-        (λ frame. IfTold (D.content disk.old) (λ b. IsSeen frame (drop at b))) }
+        (λ frame. IfVisible (D.content disk.old) (λ b. IsSeen frame (drop at b))) }
     ensures fits { IfOk result (FrameFits at window.old.size) }
     ensures no_fewer { D.faults disk.old ≤ D.faults disk.new }
     ensures cause { IfErr result (IsOfReading (D.faults disk.old) (D.faults disk.new)) }

@@ -1,8 +1,9 @@
 //! Goes from gate to gate, and keeps the records.
 
-ghost use Rattle.std.specs.Prelude.{◌≡◌, ◌≢◌, ◌+◌, ◌≤◌, ◌<◌, ◌^◌, ◌++◌, ◌∷◌, [], ℕ, length, drop, IfOk, IfErr, OnOk};
-ghost use Rattle.pod_io.specs.Told.{IfTold};
-ghost use Rattle.journal_log.specs.Heads.{head_of, IsKnown};
+ghost use Rattle.std.specs.Prelude.{◌≡◌, ◌≢◌, ◌+◌, ◌≤◌, ◌<◌, ◌^◌, ◌++◌, ◌∷◌, [], ℕ, length, drop};
+ghost use Rattle.std.specs.Prelude.{IfOk, IfErr, OnOk};
+ghost use Rattle.pod_io.specs.Visible.{IfVisible};
+ghost use Rattle.journal_log.specs.Heads.{encoded_head, IsKnownHead};
 ghost use Rattle.journal_log.specs.Reading.{OnlyReads, WindowShows, ReadKeeps};
 ghost use Rattle.journal_log.specs.Walking.{IsWalked};
 ghost use Rattle.journal_log.specs.Causes.{IsOfReading};
@@ -52,12 +53,12 @@ pub fn read_records<D: Disk>(
     disk: &mut D,
     head: Head,
 ) -> Result<Walk, OpenFault>
-    requires known { IsKnown head.format head.epoch }
-    requires head { IfTold (D.content disk.old)
-        (λ b. b ≡ head_of head.format head.epoch ++ drop 16 b) }
+    requires known { IsKnownHead head.format head.epoch }
+    requires head { IfVisible (D.content disk.old)
+        (λ b. b ≡ encoded_head head.format head.epoch ++ drop 16 b) }
     requires size { 16 ≤ window.old.size }
     requires small { window.old.size < 2 ^ 63 }
-    requires shown { IfTold (D.content disk.old) (WindowShows window.old) }
+    requires shown { IfVisible (D.content disk.old) (WindowShows window.old) }
     ensures only_reads { OnlyReads D.image D.moment D.left_since disk.old disk.new }
     ensures content { OnOk result (D.content disk.new ≡ D.content disk.old) }
     ensures is { IfOk result (IsWalked (D.content disk.old)) }

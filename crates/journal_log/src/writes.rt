@@ -2,36 +2,36 @@
 
 ghost use Rattle.std.specs.Prelude.{◌≡◌, ◌+◌, ◌<◌, ◌≤◌, ◌^◌, length, OnOk};
 ghost use Rattle.std.specs.Option.{option_map};
-ghost use Rattle.pod_io.specs.Counts.{Counts};
-ghost use Rattle.pod_io.specs.Told.{IfTold};
+ghost use Rattle.pod_io.specs.Counts.{CountsFaults};
+ghost use Rattle.pod_io.specs.Visible.{IfVisible};
 ghost use Rattle.pod_disk.specs.Disk.{EachImage, overwritten, LeavesOnly};
-ghost use Rattle.journal_log.specs.Writes.{IsTornFrom, IsOver};
+ghost use Rattle.journal_log.specs.Writes.{IsTornFrom, IsOverwritten};
 
 use pod_disk::Disk;
 use pod_io::Failed;
 
 /// Writes bytes. They may not be on the disk yet.
 pub fn write<D: Disk>(disk: &mut D, at: u64, bytes: &[u8]) -> Result<(), Failed>
-    requires { IfTold (D.content disk.old) (λ b. at ≤ length b) }
+    requires { IfVisible (D.content disk.old) (λ b. at ≤ length b) }
     ensures torn { LeavesOnly D.moment D.left_since disk.old disk.new
         (IsTornFrom (D.image disk.old) at (length bytes.now)) }
     ensures content { OnOk result
         (D.content disk.new ≡ option_map (overwritten at bytes.now) (D.content disk.old)) }
     ensures room { OnOk result (at + length bytes.now < 2 ^ 63) }
-    ensures faults { Counts result (D.faults disk.old) (D.faults disk.new) }
+    ensures faults { CountsFaults result (D.faults disk.old) (D.faults disk.new) }
 {
     disk.write_at(at, bytes)
 }
 
 /// Writes bytes, and waits until all is on the disk.
 pub fn write_through<D: Disk>(disk: &mut D, at: u64, bytes: &[u8]) -> Result<(), Failed>
-    requires { IfTold (D.content disk.old) (λ b. at ≤ length b) }
+    requires { IfVisible (D.content disk.old) (λ b. at ≤ length b) }
     ensures torn { LeavesOnly D.moment D.left_since disk.old disk.new
         (IsTornFrom (D.image disk.old) at (length bytes.now)) }
     ensures written { OnOk result
-        (EachImage (D.image disk.new) (IsOver (D.content disk.old) at bytes.now)) }
+        (EachImage (D.image disk.new) (IsOverwritten (D.content disk.old) at bytes.now)) }
     ensures room { OnOk result (at + length bytes.now < 2 ^ 63) }
-    ensures faults { Counts result (D.faults disk.old) (D.faults disk.new) }
+    ensures faults { CountsFaults result (D.faults disk.old) (D.faults disk.new) }
 {
     write(disk, at, bytes)?;
     disk.sync()

@@ -2,12 +2,12 @@
 use Rattle.std.proofs.Common.{◌≡◌, ◌⊎◌, inl, inr, ⊎_elim, ℕ, ◌+◌, ◌<◌, ◌≤◌, ◌^◌, List, [], ◌∷◌, ◌++◌, length, refl, sym, ◌∙◌, ap, subst, arith, length-append}
 use Rattle.pod_disk.specs.Disk.{EachImage}
 use Rattle.journal_log.specs.Frames.{sized, framed_of}
-use Rattle.journal_log.specs.Heads.{head_of}
+use Rattle.journal_log.specs.Heads.{encoded_head}
 use Rattle.journal_log.specs.Gates.{IsFirstGateClosed}
 use Rattle.journal_log.specs.Images.{Stands, IsEither}
 use Rattle.journal_log.specs.Classes.{HasClass}
 use Rattle.journal_log.specs.CleanJournal.{IsShort}
-use Rattle.journal_log.specs.Renewing.{IsGateChanged, IsBeforeOpening, IsNew, IsWhileRenewed}
+use Rattle.journal_log.specs.Renewing.{IsGateChanged, IsBeforeOpening, IsNewJournal, IsWhileRenewed}
 use Rattle.journal_log.specs.declared.class.DiskClass.{DiskClass}
 use Rattle.journal_log.specs.declared.class.DiskClass.TheVariants.{Empty, Short, Torn, Closed, Wrong, Open}
 use Rattle.journal_log.specs.declared.fault.Side.{Side}
@@ -24,7 +24,7 @@ use Rattle.journal_pair.proofs.Classing.{code, one_epoch, other_class}
 -- a closed first gate
 closed_not_open : (c : List ℕ) (epoch : ℕ) → IsFirstGateClosed c → HasClass (Open epoch) c → ⊥
 closed_not_open c epoch (head, whole, closed) is_open =
-    let parts = parts_are head (head_of is_open.format epoch) (0 ∷ closed.0) (is_open.gate ∷ is_open.rest) (whole ∙ sym (length_head is_open.format epoch)) (sym closed.1 ∙ is_open.spells) in
+    let parts = parts_are head (encoded_head is_open.format epoch) (0 ∷ closed.0) (is_open.gate ∷ is_open.rest) (whole ∙ sym (length_head is_open.format epoch)) (sym closed.1 ∙ is_open.spells) in
     is_open.is_open (sym (first_is 0 is_open.gate closed.0 is_open.rest parts.1))
 
 pub closed_passed : (side : Side) (epoch : ℕ) (c : List ℕ) → IsFirstGateClosed c → IsPassedOver side epoch c
@@ -37,7 +37,7 @@ pub closed_long : (c : List ℕ) → IsFirstGateClosed c → 17 ≤ length c
 closed_long c (head, whole, closed) = omega (arith, whole, length_closed head c closed)
 
 pub closed_class : (c : List ℕ) → HasClass Closed c → IsFirstGateClosed c
-closed_class c has = (head_of has.format has.epoch, length_head has.format has.epoch, has.closed)
+closed_class c has = (encoded_head has.format has.epoch, length_head has.format has.epoch, has.closed)
 
 -- a lesser epoch
 taken_before : (side : Side) (epoch beside : ℕ) → beside < epoch → IsTakenBefore side epoch beside
@@ -51,11 +51,11 @@ open_passed side epoch beside c less has = record {
 }
 
 pub open_long : (epoch : ℕ) (c : List ℕ) → HasClass (Open epoch) c → 17 ≤ length c
-open_long epoch c has = omega (arith, length_head has.format epoch, ap length has.spells, length-append (head_of has.format epoch) (has.gate ∷ has.rest))
+open_long epoch c has = omega (arith, length_head has.format epoch, ap length has.spells, length-append (encoded_head has.format epoch) (has.gate ∷ has.rest))
 
 -- a new journal is as long, whatever its first gate
-pub new_long : (epoch : ℕ) (body c : List ℕ) → IsNew epoch body c → 17 ≤ length c
-new_long epoch body c new = omega (arith, length_head 2 epoch, length_opening (head_of 2 epoch) (framed_of body) c new)
+pub new_long : (epoch : ℕ) (body c : List ℕ) → IsNewJournal epoch body c → 17 ≤ length c
+new_long epoch body c new = omega (arith, length_head 2 epoch, length_opening (encoded_head 2 epoch) (framed_of body) c new)
 
 -- another first gate after the same head, where it wasn't 0
 long_changed : (from c : List ℕ) → IsGateChanged from c → (17 ≤ length from) × (17 ≤ length c)
@@ -78,9 +78,9 @@ changed_passed side epoch from c passed open_gate changed =
     let class = some_class_lem from in
     let was = open_was side epoch from class.0 class.1 (long_changed from c changed).0 open_gate passed in
     let is_open = was.1 in
-    let parts = parts_are changed.head (head_of is_open.format was.0) (changed.before ∷ changed.rest) (is_open.gate ∷ is_open.rest)
+    let parts = parts_are changed.head (encoded_head is_open.format was.0) (changed.before ∷ changed.rest) (is_open.gate ∷ is_open.rest)
         (changed.whole ∙ sym (length_head is_open.format was.0)) (sym changed.was ∙ is_open.spells) in
-    let spells : c ≡ head_of is_open.format was.0 ++ (changed.after ∷ changed.rest) = changed.is ∙ ap (λ (l : List ℕ). l ++ (changed.after ∷ changed.rest)) parts.0 in record {
+    let spells : c ≡ encoded_head is_open.format was.0 ++ (changed.after ∷ changed.rest) = changed.is ∙ ap (λ (l : List ℕ). l ++ (changed.after ∷ changed.rest)) parts.0 in record {
       not_wrong = λ wrong. wrong.wrong is_open.format was.0 (changed.after ∷ changed.rest) is_open.known spells;
       older = λ beside now.
           let heads = heads_are is_open.format now.format was.0 beside (changed.after ∷ changed.rest) (now.gate ∷ now.rest) is_open.known now.known (sym spells ∙ now.spells) in
@@ -107,7 +107,7 @@ stands_open format epoch body others c stands = record {
   gate = stands.frames.gate;
   rest = sized body ++ (stands.frames.next ∷ stands.frames.rest);
   is_open = stands.frames.is_open;
-  spells = stands.spells ∙ ap (λ (l : List ℕ). head_of format epoch ++ l) stands.frames.spells;
+  spells = stands.spells ∙ ap (λ (l : List ℕ). encoded_head format epoch ++ l) stands.frames.spells;
 }
 
 pub stands_none : (format epoch : ℕ) (c : List ℕ) → Stands format epoch [] c → HasClass Closed c
@@ -115,7 +115,7 @@ stands_none format epoch c stands = record {
   format = format;
   epoch = epoch;
   known = stands.known;
-  closed = (stands.frames.0, stands.spells ∙ ap (λ (l : List ℕ). head_of format epoch ++ l) stands.frames.1);
+  closed = (stands.frames.0, stands.spells ∙ ap (λ (l : List ℕ). encoded_head format epoch ++ l) stands.frames.1);
 }
 
 pub snapshot_open : (len format epoch : ℕ) (bodies : List (List ℕ)) (c : List ℕ) → HasSnapshot len bodies → Stands format epoch bodies c → HasClass (Open epoch) c

@@ -1,12 +1,12 @@
 -- What a checkpoint leaves.
 use Rattle.std.proofs.Common.{◌≡◌, inr, ⊎_elim, ℕ, ◌+◌, ◌<◌, ◌≤◌, ◌^◌, List, Option, Some, length, sym, ◌∙◌, ap, subst, arith}
-use Rattle.pod_io.specs.Told.{IfTold}
+use Rattle.pod_io.specs.Visible.{IfVisible}
 use Rattle.pod_disk.specs.Disk.{EachImage, LeavesOnly}
 use Rattle.pod_disk.proofs.Moments.{weaker, holds_now}
 use Rattle.journal_log.specs.Classes.{HasClass}
 use Rattle.journal_log.specs.CleanJournal.{IsClean}
 use Rattle.journal_log.specs.JournalState.{JournalState}
-use Rattle.journal_log.specs.Renewing.{IsBeforeOpening, IsNew, IsWhileRenewed}
+use Rattle.journal_log.specs.Renewing.{IsBeforeOpening, IsNewJournal, IsWhileRenewed}
 use Rattle.journal_log.specs.declared.class.DiskClass.TheVariants.{Open}
 use Rattle.journal_log.specs.declared.fault.Side.{Side}
 use Rattle.journal_pair.specs.Sides.{active_of, other_of, opposite_of}
@@ -26,19 +26,19 @@ module _ {D : Type 0} (content : D → Option (List ℕ)) (image : D → List �
     (counts_now : (disk : D) (t : ℕ) (c : List ℕ) → t ≤ moment disk → image disk c → left_since disk t c)
     (only_now : (disk : D) (c : List ℕ) → left_since disk (moment disk) c → image disk c)
     (first second first_new second_new : D) (now : PairState) (side : Side) (is_side : side ≡ now.active) where
-  told_long : IsLongBeside image first second now → IfTold (content (other_of side first second)) (λ b. 17 ≤ length b)
-  told_long long b told = long b (subst (λ (s : Side). image (other_of s first second) b) is_side (reads_image (other_of side first second) b told))
+  visible_long : IsLongBeside image first second now → IfVisible (content (other_of side first second)) (λ b. 17 ≤ length b)
+  visible_long long b visible = long b (subst (λ (s : Side). image (other_of s first second) b) is_side (reads_image (other_of side first second) b visible))
 
   kept_active : active_of side first_new second_new ≡ active_of side first second → active_of now.active first_new second_new ≡ active_of now.active first second
   kept_active same = subst (λ (s : Side). active_of s first_new second_new ≡ active_of s first second) is_side same
 
   module _ (epoch : ℕ) (is_epoch : epoch ≡ now.journal.epoch) where
     module _ (body : List ℕ) (passed : IsPassedBeside image first second now) (long : IsLongBeside image first second now)
-        (run : IfTold (content (other_of side first second)) (λ b. 17 ≤ length b) → LeavesOnly moment left_since (other_of side first second) (other_of side first_new second_new) (IsWhileRenewed (image (other_of side first second)) (epoch + 1) body)) where
+        (run : IfVisible (content (other_of side first second)) (λ b. 17 ≤ length b) → LeavesOnly moment left_since (other_of side first second) (other_of side first_new second_new) (IsWhileRenewed (image (other_of side first second)) (epoch + 1) body)) where
       -- the disk beside is passed over, or holds the new journal
       pub renew_moments : LeavesOnly moment left_since (other_of now.active first second) (other_of now.active first_new second_new) (IsWhileCheckpointed now.active now.journal.epoch body)
       renew_moments =
-          let here = subst (λ (s : Side). LeavesOnly moment left_since (other_of s first second) (other_of s first_new second_new) (IsWhileRenewed (image (other_of s first second)) (epoch + 1) body)) is_side (run (told_long long)) in
+          let here = subst (λ (s : Side). LeavesOnly moment left_since (other_of s first second) (other_of s first_new second_new) (IsWhileRenewed (image (other_of s first second)) (epoch + 1) body)) is_side (run (visible_long long)) in
           let there = subst (λ (e : ℕ). LeavesOnly moment left_since (other_of now.active first second) (other_of now.active first_new second_new) (IsWhileRenewed (image (other_of now.active first second)) (e + 1) body)) is_epoch here in
           weaker image moment left_since _ _ _ _ (λ c is. while_passed (image (other_of now.active first second)) now.active now.journal.epoch passed long body c is) there
 
@@ -49,10 +49,10 @@ module _ {D : Type 0} (content : D → Option (List ℕ)) (image : D → List �
 
     -- after a fault before the first gate was opened
     pub closed_left : IsPassedBeside image first second now → IsLongBeside image first second now
-        → (IfTold (content (other_of side first second)) (λ b. 17 ≤ length b) → LeavesOnly moment left_since (other_of side first second) (other_of side first_new second_new) (IsBeforeOpening (image (other_of side first second))))
+        → (IfVisible (content (other_of side first second)) (λ b. 17 ≤ length b) → LeavesOnly moment left_since (other_of side first second) (other_of side first_new second_new) (IsBeforeOpening (image (other_of side first second))))
         → EachImage (image (other_of now.active first_new second_new)) (λ c. IsPassedOver now.active now.journal.epoch c × (17 ≤ length c))
     closed_left passed long run c here =
-        let there = subst (λ (s : Side). LeavesOnly moment left_since (other_of s first second) (other_of s first_new second_new) (IsBeforeOpening (image (other_of s first second)))) is_side (run (told_long long)) in
+        let there = subst (λ (s : Side). LeavesOnly moment left_since (other_of s first second) (other_of s first_new second_new) (IsBeforeOpening (image (other_of s first second)))) is_side (run (visible_long long)) in
         before_passed (image (other_of now.active first second)) now.active now.journal.epoch passed long c
         (holds_now image moment left_since (other_of now.active first second) (other_of now.active first_new second_new) _ (counts_now _) there c here)
 

@@ -1,6 +1,6 @@
 -- Opening: from the classes of two disks to what is opened.
 use Rattle.std.proofs.Common.{◌≡◌, ◌⊎◌, inl, inr, ⊎_elim, ℕ, ◌+◌, ◌<◌, ◌≤◌, ◌^◌, List, Option, Some, [], ◌∷◌, length, refl, sym, ◌∙◌, ap, subst, arith}
-use Rattle.pod_io.specs.Told.{IfTold}
+use Rattle.pod_io.specs.Visible.{IfVisible}
 use Rattle.pod_disk.specs.Disk.{EachImage, LeavesOnly}
 use Rattle.pod_disk.proofs.Moments.{both, weaker}
 use Rattle.journal_log.specs.Classes.{HasClass}
@@ -19,18 +19,18 @@ use Rattle.journal_pair.specs.Stores.{IsPassedOver, IsTaken, StoreStands, IsStor
 use Rattle.journal_pair.specs.PairState.{PairState}
 use Rattle.journal_pair.specs.PairJournal.{IsPassedBeside}
 use Rattle.journal_pair.specs.PairMoments.{LeavesPairs, IsWhileStoreOpened}
-use Rattle.journal_pair.specs.Causes.{IfBothTold, HasStoreCause}
+use Rattle.journal_pair.specs.Causes.{IfBothVisible, HasStoreCause}
 use Rattle.journal_pair.specs.Choices.{IsChosenBy}
 use Rattle.journal_pair.specs.declared.choice.Choice.TheVariants as choice
 use Rattle.journal_pair.proofs.Classing.{code, one_epoch, other_class, passed_of, taken_of, damaged_of, empty_of}
 use Rattle.journal_pair.proofs.Beside.{stands_open, stands_none}
 
 module _ {D : Type 0} (content : D → Option (List ℕ)) (first second : D) where
-  told_active : (side : Side) (c d : List ℕ) → content first ≡ Some c → content second ≡ Some d → content (active_of side first second) ≡ Some (active_of side c d)
-  told_active First c d one other = one
-  told_active Second c d one other = other
+  visible_active : (side : Side) (c d : List ℕ) → content first ≡ Some c → content second ≡ Some d → content (active_of side first second) ≡ Some (active_of side c d)
+  visible_active First c d one other = one
+  visible_active Second c d one other = other
 
--- the journal that is read is the one that the classes told of
+-- the journal that is read is the one that the classes visible of
 never : (format epoch opened : ℕ) (bodies : List (List ℕ)) (image : List ℕ) → Stands format epoch bodies image → HasClass (class.Open opened) image → ((epoch ≡ opened → ⊥) ⊎ (bodies ≡ [])) → ⊥
 never format epoch opened [] image stands is_open either = other_class class.Closed (class.Open opened) image (λ is. omega (arith, is)) (stands_none format epoch image stands) is_open
 never format epoch opened (body ∷ others) image stands is_open (inl differs) = differs (one_epoch epoch opened image (stands_open format epoch body others image stands) is_open)
@@ -38,22 +38,22 @@ never format epoch opened (body ∷ others) image stands is_open (inr none) = om
 
 module _ {D : Type 0} (content : D → Option (List ℕ)) (image : D → List ℕ → Type 0) (faults : D → ℕ) (first second : D) (side : Side) (epoch : ℕ)
     (chosen : IsChosenBy (content first) (content second) (image first) (image second) (choice.Take side epoch)) where
-  pub both_taken : IfBothTold (content first) (content second) (IsTaken side epoch)
-  both_taken c told d told_2 = taken_of side chosen.a chosen.b c d (chosen.first_told c told) (chosen.second_told d told_2) epoch chosen.chosen
+  pub both_taken : IfBothVisible (content first) (content second) (IsTaken side epoch)
+  both_taken c visible d shown_2 = taken_of side chosen.a chosen.b c d (chosen.first_visible c visible) (chosen.second_visible d shown_2) epoch chosen.chosen
 
   -- a fault of the journal is one of the store
   pub store_cause : (first_new second_new : D) (fault : OpenFault)
       → HasCause (content (active_of side first second)) side (faults (active_of side first second)) (faults (active_of side first_new second_new)) fault
       → HasStoreCause (content first) (content second) (faults first) (faults first_new) (faults second) (faults second_new) fault
-  store_cause first_new second_new Empty cause = λ c told d told_2.
-      let here = cause (active_of side c d) (told_active content first second side c d told told_2) in
-      let is_open = (both_taken c told d told_2).is_open in
+  store_cause first_new second_new Empty cause = λ c visible d shown_2.
+      let here = cause (active_of side c d) (visible_active content first second side c d visible shown_2) in
+      let is_open = (both_taken c visible d shown_2).is_open in
       absurd (other_class class.Empty (class.Open epoch) (active_of side c d) (λ is. omega (arith, is)) here is_open)
-  store_cause first_new second_new (Damaged on at) cause = λ c told d told_2.
+  store_cause first_new second_new (Damaged on at) cause = λ c visible d shown_2.
       subst (λ (s : Side). IsStoreDamaged s at c d) (sym cause.0) (inr (inl (record {
         epoch = epoch;
-        taken = both_taken c told d told_2;
-        damaged = cause.1 (active_of side c d) (told_active content first second side c d told told_2);
+        taken = both_taken c visible d shown_2;
+        damaged = cause.1 (active_of side c d) (visible_active content first second side c d visible shown_2);
       })))
   store_cause first_new second_new DiskFault cause = on_side side cause
     where
@@ -77,36 +77,36 @@ module _ {D : Type 0} (content : D → Option (List ℕ)) (image : D → List �
       subst (λ (s : Side). IsPassedOver s pair.journal.epoch c) (sym is_side) (subst (λ (e : ℕ). IsPassedOver side e c) (sym is_epoch) passed)
 
   -- and the store stands for the records that were read
-  pub opened_stands : (journal : JournalState) (pair : PairState) (bodies : List (List ℕ)) → IfTold (content (active_of side first second)) (Stands journal.format journal.epoch bodies)
+  pub opened_stands : (journal : JournalState) (pair : PairState) (bodies : List (List ℕ)) → IfVisible (content (active_of side first second)) (Stands journal.format journal.epoch bodies)
       → pair.active ≡ side → pair.journal ≡ journal → journal.epoch ≡ epoch
-      → IfBothTold (content first) (content second) (StoreStands pair.active pair.journal.format pair.journal.epoch bodies)
-  opened_stands journal pair bodies told is_side is_journal is_epoch c told_1 d told_2 =
+      → IfBothVisible (content first) (content second) (StoreStands pair.active pair.journal.format pair.journal.epoch bodies)
+  opened_stands journal pair bodies visible is_side is_journal is_epoch c shown d shown_2 =
       subst (λ (s : Side). StoreStands s pair.journal.format pair.journal.epoch bodies c d) (sym is_side)
       (subst (λ (j : JournalState). StoreStands side j.format j.epoch bodies c d) (sym is_journal) (record {
-        taken = subst (λ (e : ℕ). IsTaken side e c d) (sym is_epoch) (both_taken c told_1 d told_2);
-        stands = told (active_of side c d) (told_active content first second side c d told_1 told_2);
+        taken = subst (λ (e : ℕ). IsTaken side e c d) (sym is_epoch) (both_taken c shown d shown_2);
+        stands = visible (active_of side c d) (visible_active content first second side c d shown shown_2);
       }))
 
   -- other bytes than those that were classified are never read
-  pub never_other : (journal : JournalState) (bodies : List (List ℕ)) → IfTold (content (active_of side first second)) (Stands journal.format journal.epoch bodies)
-      → ((journal.epoch ≡ epoch → ⊥) ⊎ (bodies ≡ [])) → IfBothTold (content first) (content second) (IsStoreDamaged side 0)
-  never_other journal bodies told either c told_1 d told_2 =
-      absurd (never journal.format journal.epoch epoch bodies (active_of side c d) (told (active_of side c d) (told_active content first second side c d told_1 told_2)) (both_taken c told_1 d told_2).is_open either)
+  pub never_other : (journal : JournalState) (bodies : List (List ℕ)) → IfVisible (content (active_of side first second)) (Stands journal.format journal.epoch bodies)
+      → ((journal.epoch ≡ epoch → ⊥) ⊎ (bodies ≡ [])) → IfBothVisible (content first) (content second) (IsStoreDamaged side 0)
+  never_other journal bodies visible either c shown d shown_2 =
+      absurd (never journal.format journal.epoch epoch bodies (active_of side c d) (visible (active_of side c d) (visible_active content first second side c d shown shown_2)) (both_taken c shown d shown_2).is_open either)
 
 -- what was chosen where nothing is taken
-pub chosen_damaged : (one other : Option (List ℕ)) (images images_2 : List ℕ → Type 0) (side : Side) (at : ℕ) → IsChosenBy one other images images_2 (choice.Damaged side at) → IfBothTold one other (IsStoreDamaged side at)
-chosen_damaged one other images images_2 side at chosen c told d told_2 = damaged_of side chosen.a chosen.b c d (chosen.first_told c told) (chosen.second_told d told_2) at chosen.chosen
+pub chosen_damaged : (one other : Option (List ℕ)) (images images_2 : List ℕ → Type 0) (side : Side) (at : ℕ) → IsChosenBy one other images images_2 (choice.Damaged side at) → IfBothVisible one other (IsStoreDamaged side at)
+chosen_damaged one other images images_2 side at chosen c visible d shown_2 = damaged_of side chosen.a chosen.b c d (chosen.first_visible c visible) (chosen.second_visible d shown_2) at chosen.chosen
 
-pub chosen_empty : (one other : Option (List ℕ)) (images images_2 : List ℕ → Type 0) → IsChosenBy one other images images_2 choice.Empty → IfBothTold one other IsStoreEmpty
-chosen_empty one other images images_2 chosen c told d told_2 = empty_of chosen.a chosen.b c d (chosen.first_told c told) (chosen.second_told d told_2) chosen.chosen
+pub chosen_empty : (one other : Option (List ℕ)) (images images_2 : List ℕ → Type 0) → IsChosenBy one other images images_2 choice.Empty → IfBothVisible one other IsStoreEmpty
+chosen_empty one other images images_2 chosen c visible d shown_2 = empty_of chosen.a chosen.b c d (chosen.first_visible c visible) (chosen.second_visible d shown_2) chosen.chosen
 
 -- a cause after calls that only counted is one from before them
 pub cause_before : (one one_old other other_old : Option (List ℕ)) (a a_old a_new b b_old b_new : ℕ) (fault : OpenFault) → one ≡ one_old → other ≡ other_old → a_old ≤ a → b_old ≤ b
     → HasStoreCause one other a a_new b b_new fault → HasStoreCause one_old other_old a_old a_new b_old b_new fault
 cause_before one one_old other other_old a a_old a_new b b_old b_new Empty same same_2 le le_2 cause =
-    subst (λ (o : Option (List ℕ)). IfBothTold o other_old IsStoreEmpty) same (subst (λ (o : Option (List ℕ)). IfBothTold one o IsStoreEmpty) same_2 cause)
+    subst (λ (o : Option (List ℕ)). IfBothVisible o other_old IsStoreEmpty) same (subst (λ (o : Option (List ℕ)). IfBothVisible one o IsStoreEmpty) same_2 cause)
 cause_before one one_old other other_old a a_old a_new b b_old b_new (Damaged side at) same same_2 le le_2 cause =
-    subst (λ (o : Option (List ℕ)). IfBothTold o other_old (IsStoreDamaged side at)) same (subst (λ (o : Option (List ℕ)). IfBothTold one o (IsStoreDamaged side at)) same_2 cause)
+    subst (λ (o : Option (List ℕ)). IfBothVisible o other_old (IsStoreDamaged side at)) same (subst (λ (o : Option (List ℕ)). IfBothVisible one o (IsStoreDamaged side at)) same_2 cause)
 cause_before one one_old other other_old a a_old a_new b b_old b_new DiskFault same same_2 le le_2 cause =
     ⊎_elim (λ rose. inl (λ below. omega (arith, le, rose below))) (λ rose. inr (λ below. omega (arith, le_2, rose below))) cause
 cause_before one one_old other other_old a a_old a_new b b_old b_new NoMemory same same_2 le le_2 cause = tt

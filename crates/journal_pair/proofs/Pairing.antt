@@ -1,6 +1,6 @@
 -- A pair that is clean or in doubt, and what its disks stand for.
 use Rattle.std.proofs.Common.{◌≡◌, ◌⊎◌, inl, inr, ⊎_elim, ℕ, ◌+◌, ◌<◌, ◌≤◌, ◌^◌, List, [], ◌∷◌, ◌++◌, length, true, false, refl, sym, ◌∙◌, ap, subst, arith}
-use Rattle.pod_io.specs.Told.{IfTold}
+use Rattle.pod_io.specs.Visible.{IfVisible}
 use Rattle.pod_disk.specs.Disk.{EachImage, LeavesOnly}
 use Rattle.journal_log.specs.Images.{Stands, IsEither}
 use Rattle.journal_log.specs.JournalState.{JournalState}

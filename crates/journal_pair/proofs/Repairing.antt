@@ -1,9 +1,9 @@
 -- What a repair leaves.
 use Rattle.std.proofs.Common.{◌≡◌, ◌⊎◌, inl, inr, ⊎_elim, ℕ, ◌+◌, ◌<◌, ◌≤◌, ◌^◌, List, Option, Some, length, true, false, sym, ◌∙◌, ap, subst, arith}
-use Rattle.pod_io.specs.Told.{IfTold}
+use Rattle.pod_io.specs.Visible.{IfVisible}
 use Rattle.pod_disk.specs.Disk.{EachImage, LeavesOnly}
 use Rattle.pod_disk.proofs.Moments.{weaker, holds_now}
-use Rattle.journal_log.specs.Renewing.{IsNew}
+use Rattle.journal_log.specs.Renewing.{IsNewJournal}
 use Rattle.journal_pair.specs.Sides.{active_of, other_of}
 use Rattle.journal_pair.specs.Stores.{StoreStandsBoth}
 use Rattle.journal_pair.specs.PairState.{PairState}
@@ -30,11 +30,11 @@ module _ {D : Type 0} (content : D → Option (List ℕ)) (image : D → List �
   of_append bodies body is (inl append) = append
   of_append bodies body is (inr checkpoint) = absurd (true_is_false (sym checkpoint.doubtful ∙ is))
 
-  pub long_beside : (bodies : List (List ℕ)) (body : List ℕ) → IsCheckpointInDoubt image first second pair bodies body → IfTold (content (other_of pair.active first second)) (λ b. 17 ≤ length b)
-  long_beside bodies body doubt b told = new_long (pair.journal.epoch + 1) body b (doubt.new b (reads_image (other_of pair.active first second) b told))
+  pub long_beside : (bodies : List (List ℕ)) (body : List ℕ) → IsCheckpointInDoubt image first second pair bodies body → IfVisible (content (other_of pair.active first second)) (λ b. 17 ≤ length b)
+  long_beside bodies body doubt b visible = new_long (pair.journal.epoch + 1) body b (doubt.new b (reads_image (other_of pair.active first second) b visible))
 
   module _ (first_new second_new : D) (bodies : List (List ℕ)) (body : List ℕ) (doubt : IsCheckpointInDoubt image first second pair bodies body)
-      (run : LeavesOnly moment left_since (other_of pair.active first second) (other_of pair.active first_new second_new) (IsNew (pair.journal.epoch + 1) body))
+      (run : LeavesOnly moment left_since (other_of pair.active first second) (other_of pair.active first_new second_new) (IsNewJournal (pair.journal.epoch + 1) body))
       (same : active_of pair.active first_new second_new ≡ active_of pair.active first second) where
     -- while the first gate of a checkpoint is closed
     pub shut_pairs : LeavesPairs moment left_since first second first_new second_new (StoreStandsBoth pair.active pair.journal.format pair.journal.epoch bodies body)

@@ -1,6 +1,6 @@
 -- Which of two disks is taken, by their classes.
 use Rattle.std.specs.Prelude.{◌≡◌, ◌⊎◌, ℕ, List, Option}
-use Rattle.pod_io.specs.Told.{IfTold}
+use Rattle.pod_io.specs.Visible.{IfVisible}
 use Rattle.pod_disk.specs.Disk.{EachImage}
 use Rattle.journal_log.specs.Classes.{HasClass}
 use Rattle.journal_log.specs.declared.class.DiskClass.{DiskClass}
@@ -29,21 +29,24 @@ IsBesideClass Second a = a ≡ class.Empty
 
 -- the disk on this side is wrong, the first before the second
 abbrev pub IsWrongClass : Side → ℕ → DiskClass → DiskClass → Type 0
-IsWrongClass side at a b = (active_of side a b ≡ class.Wrong) × (side ≡ Second → a ≡ class.Wrong → ⊥) × (at ≡ 0)
+IsWrongClass side at a b = (active_of side a b ≡ class.Wrong)
+    × (side ≡ Second → a ≡ class.Wrong → ⊥) × (at ≡ 0)
 
 -- what is chosen of two disks of these classes
 abbrev pub IsChosen : Choice → DiskClass → DiskClass → Type 0
-IsChosen (Take side epoch) a b = (active_of side a b ≡ class.Open epoch) × IsPassedClass side epoch (other_of side a b)
+IsChosen (Take side epoch) a b = (active_of side a b ≡ class.Open epoch)
+    × IsPassedClass side epoch (other_of side a b)
 IsChosen (Damaged side at) a b = IsWrongClass side at a b
     ⊎ (IsUnopenedClass at (active_of side a b) × IsBesideClass side (other_of side a b))
 IsChosen Empty a b = (a ≡ class.Empty) × (b ≡ class.Empty)
 
 -- it was chosen by the classes of these contents, which all these crash images have too
-pub record IsChosenBy (first_content second_content : Option (List ℕ)) (first second : List ℕ → Type 0) (choice : Choice) : Type 0 where
+pub record IsChosenBy (first_content second_content : Option (List ℕ))
+    (first second : List ℕ → Type 0) (choice : Choice) : Type 0 where
   pub a : DiskClass
   pub b : DiskClass
   pub chosen : IsChosen choice a b
-  pub first_told : IfTold first_content (HasClass a)
-  pub second_told : IfTold second_content (HasClass b)
+  pub first_visible : IfVisible first_content (HasClass a)
+  pub second_visible : IfVisible second_content (HasClass b)
   pub first_each : EachImage first (HasClass a)
   pub second_each : EachImage second (HasClass b)

@@ -3,7 +3,7 @@ use Rattle.std.specs.Prelude.{◌≡◌, ◌⊎◌, ◌<◌, ◌≤◌, ◌+◌,
 use Rattle.pod_disk.specs.Disk.{EachImage}
 use Rattle.journal_log.specs.Frames.{framed_of}
 use Rattle.journal_log.specs.CleanJournal.{IsShort, IsClean, IsInDoubt}
-use Rattle.journal_log.specs.Renewing.{IsNew}
+use Rattle.journal_log.specs.Renewing.{IsNewJournal}
 use Rattle.journal_pair.specs.Sides.{active_of, other_of}
 use Rattle.journal_pair.specs.Stores.{IsPassedOver}
 use Rattle.journal_pair.specs.PairState.{PairState}
@@ -35,7 +35,8 @@ module _ {D : Type 0} (image : D → List ℕ → Type 0) (first second : D) (pa
     pub old : HasSnapshot pair.snapshot bodies
     pub most : pair.journal.epoch < 2 ^ 63
     pub short : IsShort snapshot
-    pub new : EachImage (image (other_of pair.active first second)) (IsNew (pair.journal.epoch + 1) snapshot)
+    pub new : EachImage (image (other_of pair.active first second))
+        (IsNewJournal (pair.journal.epoch + 1) snapshot)
     pub doubtful : pair.checkpoint ≡ true
 
   -- one of the two gates is in doubt
@@ -44,7 +45,8 @@ module _ {D : Type 0} (image : D → List ℕ → Type 0) (first second : D) (pa
 
   -- Each crash image of the disk beside the active journal is passed over.
   abbrev pub IsPassedBeside : Type 0
-  IsPassedBeside = EachImage (image (other_of pair.active first second)) (IsPassedOver pair.active pair.journal.epoch)
+  IsPassedBeside = EachImage (image (other_of pair.active first second))
+      (IsPassedOver pair.active pair.journal.epoch)
 
   -- and has the place of a first gate
   abbrev pub IsLongBeside : Type 0

@@ -2,7 +2,8 @@
 use Rattle.std.specs.Prelude.{◌≡◌, ◌⊎◌, ◌<◌, ◌≤◌, ◌+◌, ℕ, List, [], ◌∷◌, ◌++◌}
 use Rattle.journal_log.specs.Classes.{HasClass}
 use Rattle.journal_log.specs.Images.{Stands, IsDamaged}
-use Rattle.journal_log.specs.declared.class.DiskClass.TheVariants.{Empty, Short, Torn, Closed, Wrong, Open}
+use Rattle.journal_log.specs.declared.class.DiskClass.TheVariants.{Empty, Short, Torn, Closed}
+use Rattle.journal_log.specs.declared.class.DiskClass.TheVariants.{Wrong, Open}
 use Rattle.journal_log.specs.declared.fault.Side.{Side}
 use Rattle.journal_log.specs.declared.fault.Side.TheVariants.{First, Second}
 use Rattle.journal_pair.specs.Sides.{active_of, other_of, opposite_of}
@@ -25,7 +26,8 @@ pub record IsTaken (side : Side) (epoch : ℕ) (first second : List ℕ) : Type 
   pub beside : IsPassedOver side epoch (other_of side first second)
 
 -- The store stands for the records of the journal that is taken, which is on this side.
-pub record StoreStands (side : Side) (format epoch : ℕ) (bodies : List (List ℕ)) (first second : List ℕ) : Type 0 where
+pub record StoreStands (side : Side) (format epoch : ℕ) (bodies : List (List ℕ))
+    (first second : List ℕ) : Type 0 where
   pub taken : IsTaken side epoch first second
   pub stands : Stands format epoch bodies (active_of side first second)
 
@@ -66,7 +68,8 @@ IsUnopened at image = (HasClass Closed image × (at ≡ 16))
 -- beside the first disk the second has no journal and isn't wrong; beside the second the first is
 -- empty
 abbrev pub IsBesideUnopened : Side → List ℕ → Type 0
-IsBesideUnopened First second = (HasClass Wrong second → ⊥) × ((epoch : ℕ) → HasClass (Open epoch) second → ⊥)
+IsBesideUnopened First second = (HasClass Wrong second → ⊥)
+    × ((epoch : ℕ) → HasClass (Open epoch) second → ⊥)
 IsBesideUnopened Second first = HasClass Empty first
 
 -- No disk is open or wrong, and the one on this side is the first that isn't empty.

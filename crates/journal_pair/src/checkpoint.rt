@@ -1,10 +1,12 @@
 //! Checkpoints: a new journal with one snapshot on the other disk.
 
-ghost use Rattle.std.specs.Prelude.{◌≡◌, ◌⊎◌, ◌+◌, ◌<◌, ◌^◌, ◌∷◌, [], List, ℕ, IsOk, OnOk, OnErr, false};
+ghost use Rattle.std.specs.Prelude.{◌≡◌, ◌⊎◌, ◌+◌, ◌<◌, ◌^◌, ◌∷◌, [], List, ℕ, IsOk, OnOk, OnErr};
+ghost use Rattle.std.specs.Prelude.{false};
 ghost use Rattle.pod_disk.specs.Disk.{LeavesOnly};
 ghost use Rattle.journal_pair.specs.Sides.{active_of, other_of, opposite_of};
 ghost use Rattle.journal_pair.specs.Stores.{StoreStandsBoth};
-ghost use Rattle.journal_pair.specs.PairJournal.{IsPairClean, IsCheckpointInDoubt, IsPassedBeside, IsLongBeside};
+ghost use Rattle.journal_pair.specs.PairJournal.{IsPairClean, IsCheckpointInDoubt, IsPassedBeside};
+ghost use Rattle.journal_pair.specs.PairJournal.{IsLongBeside};
 ghost use Rattle.journal_pair.specs.PairMoments.{LeavesPairs, IsWhileCheckpointed};
 ghost use Rattle.journal_pair.specs.Causes.{PairCounts};
 

@@ -2,9 +2,11 @@
 
 ghost use Rattle.std.specs.Prelude.{List, ℕ};
 ghost use Rattle.journal_pair.specs.Stores.{StoreStands, StoreStandsEither, StoreStandsBoth};
-ghost use Rattle.journal_pair.specs.PairJournal.{IsPairClean, IsAppendInDoubt, IsCheckpointInDoubt, IsPassedBeside};
+ghost use Rattle.journal_pair.specs.PairJournal.{IsPairClean, IsAppendInDoubt, IsCheckpointInDoubt};
+ghost use Rattle.journal_pair.specs.PairJournal.{IsPassedBeside};
 ghost use Rattle.journal_pair.specs.PairMoments.{EachPair};
-ghost use Rattle.journal_pair.specs.PairLaws.{StoreStandsOnce, StoreDamagedOnce, StoreStandsOrDamaged, StoreEmptyOnly};
+ghost use Rattle.journal_pair.specs.PairLaws.{StoreStandsOnce, StoreDamagedOnce};
+ghost use Rattle.journal_pair.specs.PairLaws.{StoreStandsOrDamaged, StoreEmptyOnly};
 
 use crate::pair::Pair;
 use pod_disk::Disk;

@@ -1,12 +1,13 @@
 //! Calls of a journal on one of two disks, which a side names.
 
-ghost use Rattle.std.specs.Prelude.{◌≡◌, ◌≤◌, ◌<◌, ◌+◌, ◌^◌, ◌++◌, ◌∷◌, [], List, ℕ, length, IfOk, OnOk, OnErr, IsErrOf};
-ghost use Rattle.pod_io.specs.Told.{IfTold};
+ghost use Rattle.std.specs.Prelude.{◌≡◌, ◌≤◌, ◌<◌, ◌+◌, ◌^◌, ◌++◌, ◌∷◌, [], List, ℕ, length, IfOk};
+ghost use Rattle.std.specs.Prelude.{OnOk, OnErr, IsErrOf};
+ghost use Rattle.pod_io.specs.Visible.{IfVisible};
 ghost use Rattle.pod_disk.specs.Disk.{EachImage, LeavesOnly};
 ghost use Rattle.journal_log.specs.Gates.{IsFirstGateClosed};
 ghost use Rattle.journal_log.specs.Images.{IsEither};
 ghost use Rattle.journal_log.specs.CleanJournal.{IsClean, IsInDoubt, IsCleanOrInDoubt};
-ghost use Rattle.journal_log.specs.Renewing.{IsBeforeOpening, IsNew, IsWhileRenewed};
+ghost use Rattle.journal_log.specs.Renewing.{IsBeforeOpening, IsNewJournal, IsWhileRenewed};
 ghost use Rattle.journal_pair.specs.Sides.{active_of, other_of, opposite_of};
 ghost use Rattle.journal_pair.specs.Causes.{PairCounts};
 
@@ -99,7 +100,8 @@ pub fn renew_beside<D: Disk>(
     snapshot: &Framed,
 ) -> Result<Journal, RenewFault>
     requires { epoch ≤ 2 ^ 63 }
-    ensures moments { IfTold (D.content (other_of side first.old second.old)) (λ b. 17 ≤ length b)
+    ensures moments { IfVisible (D.content (other_of side first.old second.old))
+        (λ b. 17 ≤ length b)
         → LeavesOnly D.moment D.left_since
         (other_of side first.old second.old) (other_of side first.new second.new)
         (IsWhileRenewed (D.image (other_of side first.old second.old)) epoch snapshot.now) }
@@ -109,12 +111,13 @@ pub fn renew_beside<D: Disk>(
     ensures format { IfOk result (λ journal. journal.format ≡ 2) }
     ensures epoch { IfOk result (λ journal. journal.epoch ≡ epoch) }
     ensures closed { IsErrOf result RenewFault.Closed
-        → IfTold (D.content (other_of side first.old second.old)) (λ b. 17 ≤ length b)
+        → IfVisible (D.content (other_of side first.old second.old)) (λ b. 17 ≤ length b)
         → LeavesOnly D.moment D.left_since
         (other_of side first.old second.old) (other_of side first.new second.new)
         (IsBeforeOpening (D.image (other_of side first.old second.old))) }
     ensures in_doubt { IsErrOf result RenewFault.InDoubt
-        → EachImage (D.image (other_of side first.new second.new)) (IsNew epoch snapshot.now) }
+        → EachImage (D.image (other_of side first.new second.new))
+        (IsNewJournal epoch snapshot.now) }
     ensures faults { PairCounts result (D.faults first.old) (D.faults first.new)
         (D.faults second.old) (D.faults second.new) }
 {
@@ -126,12 +129,12 @@ pub fn renew_beside<D: Disk>(
 
 /// Closes the first gate of the disk beside this side.
 pub fn shut_beside<D: Disk>(side: Side, first: &mut D, second: &mut D) -> Result<(), DiskFault>
-    requires { IfTold (D.content (other_of side first.old second.old)) (λ b. 17 ≤ length b) }
+    requires { IfVisible (D.content (other_of side first.old second.old)) (λ b. 17 ≤ length b) }
     ensures in_doubt { (epoch : ℕ) (body : List ℕ)
-        → EachImage (D.image (other_of side first.old second.old)) (IsNew epoch body)
+        → EachImage (D.image (other_of side first.old second.old)) (IsNewJournal epoch body)
         → LeavesOnly D.moment D.left_since
         (other_of side first.old second.old) (other_of side first.new second.new)
-        (IsNew epoch body) }
+        (IsNewJournal epoch body) }
     ensures active { active_of side first.new second.new ≡ active_of side first.old second.old }
     ensures shut { OnOk result
         (EachImage (D.image (other_of side first.new second.new)) IsFirstGateClosed) }

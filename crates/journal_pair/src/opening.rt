@@ -1,7 +1,7 @@
 //! Opening a store: which of its disks is taken, and the records of its journal.
 
 ghost use Rattle.std.specs.Prelude.{◌≡◌, ◌≤◌, ◌⊎◌, [], length, IfOk, IfErr, IfSome, IfNone, false};
-ghost use Rattle.pod_io.specs.Told.{IfTold};
+ghost use Rattle.pod_io.specs.Visible.{IfVisible};
 ghost use Rattle.pod_disk.specs.Disk.{LeavesOnly};
 ghost use Rattle.journal_log.specs.Frames.{framed_of};
 ghost use Rattle.journal_log.specs.Images.{Stands};
@@ -13,7 +13,7 @@ ghost use Rattle.journal_pair.specs.Stores.{StoreStands};
 ghost use Rattle.journal_pair.specs.PairJournal.{HasSnapshot, IsPairClean, IsPassedBeside};
 ghost use Rattle.journal_pair.specs.PairMoments.{LeavesPairs, IsWhileStoreOpened};
 ghost use Rattle.journal_pair.specs.Choices.{IsChosenBy};
-ghost use Rattle.journal_pair.specs.Causes.{IfBothTold, HasStoreCause};
+ghost use Rattle.journal_pair.specs.Causes.{IfBothVisible, HasStoreCause};
 
 use crate::choice::{Choice, choose_disk};
 use crate::pair::Pair;
@@ -54,7 +54,7 @@ impl Pair {
         ensures passed { IfOk result
             (λ opened. IsPassedBeside D.image first.new second.new opened.0) }
         ensures records { IfOk result
-            (λ opened. IfBothTold (D.content first.old) (D.content second.old)
+            (λ opened. IfBothVisible (D.content first.old) (D.content second.old)
             (StoreStands opened.0.active opened.0.journal.format opened.0.journal.epoch
             opened.1.items)) }
         ensures no_fewer_first { D.faults first.old ≤ D.faults first.new }
@@ -92,7 +92,7 @@ fn open_choice<D: Disk>(
     ensures passed { IfOk result
         (λ opened. IsPassedBeside D.image first.new second.new opened.0) }
     ensures records { IfOk result
-        (λ opened. IfBothTold (D.content first.old) (D.content second.old)
+        (λ opened. IfBothVisible (D.content first.old) (D.content second.old)
         (StoreStands opened.0.active opened.0.journal.format opened.0.journal.epoch
         opened.1.items)) }
     ensures no_fewer_first { D.faults first.old ≤ D.faults first.new }
@@ -128,7 +128,7 @@ fn open_on<D: Disk>(
     ensures passed { IfOk result
         (λ opened. IsPassedBeside D.image first.new second.new opened.0) }
     ensures records { IfOk result
-        (λ opened. IfBothTold (D.content first.old) (D.content second.old)
+        (λ opened. IfBothVisible (D.content first.old) (D.content second.old)
         (StoreStands opened.0.active opened.0.journal.format opened.0.journal.epoch
         opened.1.items)) }
     ensures no_fewer_first { D.faults first.old ≤ D.faults first.new }
@@ -160,7 +160,7 @@ fn open_journal<D: Disk>(
     ensures clean { IfOk result (λ opened.
         IsClean (D.image (active_of side first.new second.new)) opened.0 opened.1.items) }
     ensures records { IfOk result (λ opened.
-        IfTold (D.content (active_of side first.old second.old))
+        IfVisible (D.content (active_of side first.old second.old))
         (Stands opened.0.format opened.0.epoch opened.1.items)) }
     ensures no_fewer_first { D.faults first.old ≤ D.faults first.new }
     ensures no_fewer_second { D.faults second.old ≤ D.faults second.new }

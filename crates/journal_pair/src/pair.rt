@@ -1,14 +1,16 @@
 //! A pair: the active journal, the side that it is on, and the calls that add and repair.
 
-ghost use Rattle.std.specs.Prelude.{◌≡◌, ◌⊎◌, ◌+◌, ◌≤◌, ◌^◌, ◌++◌, ◌∷◌, [], ◌||◌, List, ℕ, length, IfOk, OnOk, OnErr, IsTrue, true, false};
-ghost use Rattle.pod_io.specs.Told.{IfTold};
+ghost use Rattle.std.specs.Prelude.{◌≡◌, ◌⊎◌, ◌+◌, ◌≤◌, ◌^◌, ◌++◌, ◌∷◌, [], ◌||◌, List, ℕ, length};
+ghost use Rattle.std.specs.Prelude.{IfOk, OnOk, OnErr, IsTrue, true, false};
+ghost use Rattle.pod_io.specs.Visible.{IfVisible};
 ghost use Rattle.pod_disk.specs.Disk.{LeavesOnly};
 ghost use Rattle.journal_log.specs.Images.{IsEither};
-ghost use Rattle.journal_log.specs.Renewing.{IsNew};
+ghost use Rattle.journal_log.specs.Renewing.{IsNewJournal};
 ghost use Rattle.journal_pair.specs.Sides.{active_of, other_of};
 ghost use Rattle.journal_pair.specs.Stores.{StoreStandsEither, StoreStandsBoth};
 ghost use Rattle.journal_pair.specs.PairState.{IsDue, len_of};
-ghost use Rattle.journal_pair.specs.PairJournal.{IsPairClean, IsAppendInDoubt, IsCheckpointInDoubt, IsPairInDoubt, IsPassedBeside, IsLongBeside};
+ghost use Rattle.journal_pair.specs.PairJournal.{IsPairClean, IsAppendInDoubt, IsCheckpointInDoubt};
+ghost use Rattle.journal_pair.specs.PairJournal.{IsPairInDoubt, IsPassedBeside, IsLongBeside};
 ghost use Rattle.journal_pair.specs.PairMoments.{LeavesPairs};
 ghost use Rattle.journal_pair.specs.Causes.{PairCounts};
 
@@ -41,7 +43,12 @@ impl Model for Pair {
 
     ghost Value = { PairState };
 
-    ghost view = { λ p. record { active = p.active; journal = p.journal; snapshot = p.snapshot; checkpoint = p.checkpoint } };
+    ghost view = { λ p. record {
+        active = p.active;
+        journal = p.journal;
+        snapshot = p.snapshot;
+        checkpoint = p.checkpoint;
+    } };
 }
 
 impl Pair {
@@ -53,8 +60,8 @@ impl Pair {
         second: &mut D,
         snapshot: &Framed,
     ) -> Result<Pair, DiskFault>
-        requires first_empty { IfTold (D.content first.old) (λ b. b ≡ []) }
-        requires second_empty { IfTold (D.content second.old) (λ b. b ≡ []) }
+        requires first_empty { IfVisible (D.content first.old) (λ b. b ≡ []) }
+        requires second_empty { IfVisible (D.content second.old) (λ b. b ≡ []) }
         ensures clean { IfOk result
             (λ pair. IsPairClean D.image first.new second.new pair (snapshot.now ∷ [])) }
         ensures passed { IfOk result (λ pair. IsPassedBeside D.image first.new second.new pair) }
@@ -197,7 +204,7 @@ impl Pair {
             → LeavesOnly D.moment D.left_since
             (other_of self.old.active first.old second.old)
             (other_of self.old.active first.new second.new)
-            (IsNew (self.old.journal.epoch + 1) body) }
+            (IsNewJournal (self.old.journal.epoch + 1) body) }
         ensures append_pairs { (bodies : List (List ℕ)) (body : List ℕ)
             → IsAppendInDoubt D.image first.old second.old self.old bodies body
             → IsPassedBeside D.image first.old second.old self.old

@@ -1,7 +1,7 @@
 -- How what holds at each moment goes on from call to call.
 use Rattle.std.proofs.Common.{◌≡◌, ◌≤◌, inl, inr, ⊎_elim, ℕ, List, Option, Some, None, refl, sym, ◌∙◌, subst, rules, arith}
 use Rattle.std.specs.Option.{option_map}
-use Rattle.pod_io.specs.Told.{IfTold}
+use Rattle.pod_io.specs.Visible.{IfVisible}
 use Rattle.pod_disk.specs.Disk.{EachImage, Passes, LeavesOnly}
 
 module _ {D : Type 0} (image : D → List ℕ → Type 0) (moment : D → ℕ) (left_since : D → ℕ → List ℕ → Type 0) where
@@ -71,24 +71,24 @@ none_is is = search rules
 some_is : {X : Type 0} {x y : X} → Some x ≡ Some y → x ≡ y
 some_is is = search rules
 
-told_from : (f : List ℕ → List ℕ) (o p : Option (List ℕ)) (b : List ℕ) → p ≡ option_map f o → p ≡ Some b → (a : List ℕ) × (o ≡ Some a) × (f a ≡ b)
-told_from f None p b is told = absurd (none_is (sym told ∙ is))
-told_from f (Some a) p b is told = (a, refl, some_is (sym is ∙ told))
+visible_from : (f : List ℕ → List ℕ) (o p : Option (List ℕ)) (b : List ℕ) → p ≡ option_map f o → p ≡ Some b → (a : List ℕ) × (o ≡ Some a) × (f a ≡ b)
+visible_from f None p b is visible = absurd (none_is (sym visible ∙ is))
+visible_from f (Some a) p b is visible = (a, refl, some_is (sym is ∙ visible))
 
 module _ {D : Type 0} (content : D → Option (List ℕ)) (image : D → List ℕ → Type 0) (reads_image : (disk : D) (b : List ℕ) → content disk ≡ Some b → image disk b) where
   -- what a call makes of the content, where each image had P
   pub reads : (f : List ℕ → List ℕ) (old new : D) (P Q : List ℕ → Type 0)
-      → content new ≡ option_map f (content old) → ((a : List ℕ) → P a → Q (f a)) → EachImage (image old) P → IfTold (content new) Q
-  reads f old new P Q is leads was b told =
-      let from = told_from f (content old) (content new) b is told in
+      → content new ≡ option_map f (content old) → ((a : List ℕ) → P a → Q (f a)) → EachImage (image old) P → IfVisible (content new) Q
+  reads f old new P Q is leads was b visible =
+      let from = visible_from f (content old) (content new) b is visible in
       subst Q from.2 (leads from.0 (was from.0 (reads_image old from.0 from.1)))
 
   -- after a sync each image is what reads give
-  pub synced : (old new : D) (Q : List ℕ → Type 0) → content new ≡ content old → ((c : List ℕ) → image new c → content new ≡ Some c) → IfTold (content old) Q → EachImage (image new) Q
+  pub synced : (old new : D) (Q : List ℕ → Type 0) → content new ≡ content old → ((c : List ℕ) → image new c → content new ≡ Some c) → IfVisible (content old) Q → EachImage (image new) Q
   synced old new Q same durable reads c now = reads c (sym same ∙ durable c now)
 
 -- what a call makes of what reads give, whatever the images are
-pub reads_on : (f : List ℕ → List ℕ) (old new : Option (List ℕ)) (P Q : List ℕ → Type 0) → new ≡ option_map f old → ((a : List ℕ) → P a → Q (f a)) → IfTold old P → IfTold new Q
-reads_on f old new P Q is leads was b told =
-    let from = told_from f old new b is told in
+pub reads_on : (f : List ℕ → List ℕ) (old new : Option (List ℕ)) (P Q : List ℕ → Type 0) → new ≡ option_map f old → ((a : List ℕ) → P a → Q (f a)) → IfVisible old P → IfVisible new Q
+reads_on f old new P Q is leads was b visible =
+    let from = visible_from f old new b is visible in
     subst Q from.2 (leads from.0 (was from.0 from.1))

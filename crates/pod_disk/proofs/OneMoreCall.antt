@@ -3,7 +3,7 @@ use Rattle.std.proofs.Common.{◌≡◌, ◌⊎◌, inl, inr, ⊎_elim, ℕ, ◌
 use Rattle.std.proofs.lemmas.List.{take_all, take-append-le}
 use Rattle.std.proofs.lemmas.Bool.{cases_lt}
 use Rattle.pod_disk.specs.Disk.{Passes}
-use Rattle.pod_disk.specs.NotedCalls.{DiskState, noted_as, done_by, content_after, Step, left_by, images_after, content_at, content_of, told_content, CrashImageAt, IsCrashImage, MayLeave, moment_of, LeftSince, MakesCall, LeavesContent}
+use Rattle.pod_disk.specs.NotedCalls.{DiskState, noted_as, done_by, content_after, Step, left_by, images_after, content_at, content_of, visible_content, CrashImageAt, IsCrashImage, MayLeave, moment_of, LeftSince, MakesCall, LeavesContent}
 use Rattle.pod_disk.specs.Laws.{no_step, content_is_image}
 use Rattle.pod_disk.specs.declared.call.Call.{Call}
 use Rattle.pod_disk.specs.declared.call.NotedCall.{NotedCall}
@@ -97,7 +97,7 @@ module _ (old new : DiskState) where
   content_failed call first (inr kept) = ap (λ (b : List ℕ). content_at b new.noted) first ∙ ap (content_at old.first) kept
 
   -- after a sync that succeeded the content is the only image
-  durable_after : new.first ≡ old.first → Adds Sync true → (c : List ℕ) → MayLeave new c → told_content new ≡ Some c
+  durable_after : new.first ≡ old.first → Adds Sync true → (c : List ℕ) → MayLeave new c → visible_content new ≡ Some c
   durable_after first is c image = ap Some (content_added Sync true first is ∙ sym (image_added Sync true c first is image))
 
   settles : (call : Call) → new.first ≡ old.first → Adds call true → LeavesContent call new

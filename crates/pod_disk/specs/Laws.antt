@@ -1,10 +1,15 @@
 -- The laws of a disk, for one in memory.
-use Rattle.std.specs.Prelude.{◌≡◌, ◌⊎◌, ◌<◌, ◌≤◌, ◌+◌, ◌-◌, if◌then◌else◌, ℕ, Bool, true, false, min, List, [], ◌∷◌, ◌++◌, length, take, drop, Some, None, refl}
-use Rattle.std.proofs.Common.{inl, inr, ⊎_elim, append_assoc, sym, ◌∙◌, ap, subst, arith, rules, length-append}
-use Rattle.std.proofs.lemmas.List.{take_all, drop_all, take_at, drop_at, length-take, length-drop, take-take}
+use Rattle.std.specs.Prelude.{◌≡◌, ◌⊎◌, ◌<◌, ◌≤◌, ◌+◌, ◌-◌, if◌then◌else◌, ℕ, Bool, true, false}
+use Rattle.std.specs.Prelude.{min, List, [], ◌∷◌, ◌++◌, length, take, drop, Some, None, refl}
+use Rattle.std.proofs.Common.{inl, inr, ⊎_elim, append_assoc, sym, ◌∙◌, ap, subst, arith, rules}
+use Rattle.std.proofs.Common.{length-append}
+use Rattle.std.proofs.lemmas.List.{take_all, drop_all, take_at, drop_at, length-take, length-drop}
+use Rattle.std.proofs.lemmas.List.{take-take}
 use Rattle.std.proofs.lemmas.Bool.{cases_lt}
 use Rattle.pod_disk.specs.Disk.{overwritten, Torn, TornCut}
-use Rattle.pod_disk.specs.NotedCalls.{DiskState, done_by, content_after, Step, left_by, images_after, content_at, told_content, CrashImageAt, IsCrashImage, MayLeave, moment_of, LeftSince}
+use Rattle.pod_disk.specs.NotedCalls.{DiskState, done_by, content_after, Step, left_by}
+use Rattle.pod_disk.specs.NotedCalls.{images_after, content_at, visible_content, CrashImageAt}
+use Rattle.pod_disk.specs.NotedCalls.{IsCrashImage, MayLeave, moment_of, LeftSince}
 use Rattle.pod_disk.specs.declared.call.Call.{Call}
 use Rattle.pod_disk.specs.declared.call.NotedCall.{NotedCall}
 use Rattle.pod_disk.specs.declared.call.Call.TheVariants.{Length, Read, Write, Cut as Shorten, Sync}
@@ -91,7 +96,8 @@ whole_is_cut len b = record {
 }
 
 pub same_is_cut : (len : ℕ) (b : List ℕ) → TornCut len b b
-same_is_cut len b = record { no_shorter = omega arith; no_longer = omega arith; below = least len b }
+same_is_cut len b =
+    record { no_shorter = omega arith; no_longer = omega arith; below = least len b }
 
 -- so is a cut to a length between the two, with any bytes past the lesser
 pub between_is_cut : (len most : ℕ) (b : List ℕ) → len ≤ most → TornCut len b (take most b)
@@ -142,10 +148,11 @@ some_is : {x y : List ℕ} → Some x ≡ Some y → x ≡ y
 some_is is = search rules
 
 -- what reads give is one of the images
-pub told_is_image : (disk : DiskState) (b : List ℕ) → told_content disk ≡ Some b → MayLeave disk b
-told_is_image disk b is = subst (MayLeave disk) (some_is is)
+pub visible_is_image : (disk : DiskState) (b : List ℕ) → visible_content disk ≡ Some b
+    → MayLeave disk b
+visible_is_image disk b is = subst (MayLeave disk) (some_is is)
     (content_is_image disk.first (λ d. d ≡ disk.first) disk.noted refl)
 
 -- a disk that tells nothing tells no content
-pub none_told : (b : List ℕ) → None ≡ Some b → ⊥
-none_told b is = search rules
+pub none_visible : (b : List ℕ) → None ≡ Some b → ⊥
+none_visible b is = search rules

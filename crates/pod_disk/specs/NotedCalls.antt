@@ -1,5 +1,6 @@
 -- What a disk in memory keeps, and what its content and its images are by the record of its calls.
-use Rattle.std.specs.Prelude.{◌≡◌, ◌⊎◌, ◌≤◌, if◌then◌else◌, ◌&&◌, ℕ, Bool, true, false, List, [], ◌∷◌, ◌++◌, length, take, Option, Some, Result, IsErr, OnOk, OnErr}
+use Rattle.std.specs.Prelude.{◌≡◌, ◌⊎◌, ◌≤◌, if◌then◌else◌, ◌&&◌, ℕ, Bool, true, false, List, []}
+use Rattle.std.specs.Prelude.{◌∷◌, ◌++◌, length, take, Option, Some, Result, IsErr, OnOk, OnErr}
 use Rattle.pod_io.specs.Memory.{Script, next_call, NextFails}
 use Rattle.pod_disk.specs.Disk.{overwritten, Torn, TornCut, Unchanged}
 use Rattle.pod_disk.specs.declared.call.Call.{Call}
@@ -82,8 +83,8 @@ WasCrashImage first calls t c = (k : ℕ) × (t ≤ k) × (k ≤ length calls)
 abbrev pub content_of : DiskState → List ℕ
 content_of disk = content_at disk.first disk.noted
 
-abbrev pub told_content : DiskState → Option (List ℕ)
-told_content disk = Some (content_of disk)
+abbrev pub visible_content : DiskState → Option (List ℕ)
+visible_content disk = Some (content_of disk)
 
 abbrev pub MayLeave : DiskState → List ℕ → Type 0
 MayLeave disk = IsCrashImage disk.first disk.noted
@@ -108,7 +109,7 @@ pub record MakesCall {T E : Type 0} (call : Call) (result : Result T E)
 
 -- after a sync that succeeded a crash leaves what reads give
 abbrev pub LeavesContent : Call → DiskState → Type 0
-LeavesContent Sync disk = (c : List ℕ) → MayLeave disk c → told_content disk ≡ Some c
+LeavesContent Sync disk = (c : List ℕ) → MayLeave disk c → visible_content disk ≡ Some c
 LeavesContent Length disk = Unit {0}
 LeavesContent (Read at count) disk = Unit {0}
 LeavesContent (Write at bytes) disk = Unit {0}

@@ -2,7 +2,8 @@
 
 ghost use Rattle.std.specs.Prelude.{◌≡◌, ◌≤◌, ℕ, List, length, OnOk, IfOk};
 ghost use Rattle.pod_disk.specs.Disk.{Torn, TornCut};
-ghost use Rattle.pod_disk.specs.NotedCalls.{Step, synced, content_after, images_after, content_at, CrashImageAt, IsCrashImage};
+ghost use Rattle.pod_disk.specs.NotedCalls.{Step, synced, content_after, images_after, content_at};
+ghost use Rattle.pod_disk.specs.NotedCalls.{CrashImageAt, IsCrashImage};
 
 use crate::call::{Call, NotedCall};
 use crate::write::{perform, put};

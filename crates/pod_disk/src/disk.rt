@@ -1,9 +1,10 @@
 //! The contract of a disk: what its calls give, and what a crash may leave.
 
-ghost use Rattle.std.specs.Prelude.{◌≡◌, ◌+◌, ◌<◌, ◌≤◌, ℕ, List, Option, Some, is_some, length, take, drop, OnOk, IfOk};
+ghost use Rattle.std.specs.Prelude.{◌≡◌, ◌+◌, ◌<◌, ◌≤◌, ℕ, List, Option, Some, is_some, length};
+ghost use Rattle.std.specs.Prelude.{take, drop, OnOk, IfOk};
 ghost use Rattle.std.specs.Option.{option_map};
-ghost use Rattle.pod_io.specs.Counts.{Counts};
-ghost use Rattle.pod_io.specs.Told.{IfTold};
+ghost use Rattle.pod_io.specs.Counts.{CountsFaults};
+ghost use Rattle.pod_io.specs.Visible.{IfVisible};
 ghost use Rattle.pod_disk.specs.declared.disk.TheConstants.{LENGTH_LIMIT};
 ghost use Rattle.pod_disk.specs.Disk.{overwritten, Torn, TornCut, Unchanged, Passes};
 
@@ -47,45 +48,45 @@ pub trait Disk: Drop {
 
     /// How many bytes the disk holds.
     fn len(&mut self) -> Result<u64, Failed>
-        ensures len { IfOk result (λ n. IfTold (content self.old) (λ b. n ≡ length b)) }
+        ensures len { IfOk result (λ n. IfVisible (content self.old) (λ b. n ≡ length b)) }
         ensures below { IfOk result (λ n. n < LENGTH_LIMIT) }
         ensures content { OnOk result (content self.new ≡ content self.old) }
-        ensures told { is_some (content self.new) ≡ is_some (content self.old) }
+        ensures visible { is_some (content self.new) ≡ is_some (content self.old) }
         ensures passes { Passes image moment left_since Unchanged self.old self.new }
-        ensures faults { Counts result (faults self.old) (faults self.new) };
+        ensures faults { CountsFaults result (faults self.old) (faults self.new) };
 
     /// Reads as many bytes as `into` has from the offset `at` on. They lie within the length.
     fn read(&mut self, at: u64, into: &mut [u8]) -> Result<(), Failed>
-        requires { IfTold (content self.old) (λ b. at + length into.old ≤ length b) }
+        requires { IfVisible (content self.old) (λ b. at + length into.old ≤ length b) }
         ensures bytes { OnOk result
-            (IfTold (content self.old) (λ b. into.new ≡ take (length into.old) (drop at b))) }
+            (IfVisible (content self.old) (λ b. into.new ≡ take (length into.old) (drop at b))) }
         ensures content { OnOk result (content self.new ≡ content self.old) }
-        ensures told { is_some (content self.new) ≡ is_some (content self.old) }
+        ensures visible { is_some (content self.new) ≡ is_some (content self.old) }
         ensures passes { Passes image moment left_since Unchanged self.old self.new }
-        ensures faults { Counts result (faults self.old) (faults self.new) };
+        ensures faults { CountsFaults result (faults self.old) (faults self.new) };
 
     /// Writes the bytes over those from the offset `at` on, which is no greater than the length. A
     /// write that would reach 2^63 bytes fails. Until a sync succeeds a crash may leave any bytes
     /// in the range and past the old end.
     fn write_at(&mut self, at: u64, bytes: &[u8]) -> Result<(), Failed>
-        requires { IfTold (content self.old) (λ b. at ≤ length b) }
+        requires { IfVisible (content self.old) (λ b. at ≤ length b) }
         ensures content { OnOk result
             (content self.new ≡ option_map (overwritten at bytes.now) (content self.old)) }
-        ensures told { is_some (content self.new) ≡ is_some (content self.old) }
+        ensures visible { is_some (content self.new) ≡ is_some (content self.old) }
         ensures room { OnOk result (at + length bytes.now < LENGTH_LIMIT) }
         ensures passes { Passes image moment left_since
             (Torn at (length bytes.now)) self.old self.new }
-        ensures faults { Counts result (faults self.old) (faults self.new) };
+        ensures faults { CountsFaults result (faults self.old) (faults self.new) };
 
     /// Cuts the disk to `len` bytes, which is no more than it holds. Until a sync succeeds a crash
     /// may leave any length between.
     fn cut(&mut self, len: u64) -> Result<(), Failed>
-        requires { IfTold (content self.old) (λ b. len ≤ length b) }
+        requires { IfVisible (content self.old) (λ b. len ≤ length b) }
         ensures content { OnOk result
             (content self.new ≡ option_map (take len) (content self.old)) }
-        ensures told { is_some (content self.new) ≡ is_some (content self.old) }
+        ensures visible { is_some (content self.new) ≡ is_some (content self.old) }
         ensures passes { Passes image moment left_since (TornCut len) self.old self.new }
-        ensures faults { Counts result (faults self.old) (faults self.new) };
+        ensures faults { CountsFaults result (faults self.old) (faults self.new) };
 
     /// Waits until all is on the disk: from then on a crash leaves what reads give. Where it fails,
     /// reads may give any of the images.
@@ -93,7 +94,7 @@ pub trait Disk: Drop {
         ensures durable { OnOk result ((c : List ℕ) → image self.new c
             → content self.new ≡ Some c) }
         ensures content { OnOk result (content self.new ≡ content self.old) }
-        ensures told { is_some (content self.new) ≡ is_some (content self.old) }
+        ensures visible { is_some (content self.new) ≡ is_some (content self.old) }
         ensures passes { Passes image moment left_since Unchanged self.old self.new }
-        ensures faults { Counts result (faults self.old) (faults self.new) };
+        ensures faults { CountsFaults result (faults self.old) (faults self.new) };
 }

@@ -2,7 +2,7 @@
 
 ghost use Rattle.std.specs.Prelude.{◌≡◌, ◌≤◌, None};
 ghost use Rattle.pod_base.specs.Counts.{CountIncreased};
-ghost use Rattle.pod_disk.specs.Laws.{none_told};
+ghost use Rattle.pod_disk.specs.Laws.{none_visible};
 
 use crate::disk::{Disk, LENGTH_LIMIT};
 use crate::lazy_file::LazyFile;
@@ -70,7 +70,7 @@ impl<R: Files<File = File> + Drop> Disk for FileDisk<R> {
 
     ghost faults = { λ faults. faults };
 
-    ghost reads_image = { λ _ b told. none_told b told };
+    ghost reads_image = { λ _ b visible. none_visible b visible };
 
     ghost counts_now = { λ _ t c le image. image };
 

@@ -1,14 +1,17 @@
 //! The disk in memory, which notes its calls.
 
-ghost use Rattle.std.specs.Prelude.{◌≡◌, ◌+◌, ◌<◌, ◌≤◌, ◌^◌, ◌∷◌, [], ◌++◌, ℕ, List, Some, is_some, length, take, drop, OnOk, OnErr, IfOk, ◌⊎◌, true, false};
+ghost use Rattle.std.specs.Prelude.{◌≡◌, ◌+◌, ◌<◌, ◌≤◌, ◌^◌, ◌∷◌, [], ◌++◌, ℕ, List, Some, is_some};
+ghost use Rattle.std.specs.Prelude.{length, take, drop, OnOk, OnErr, IfOk, ◌⊎◌, true, false};
 ghost use Rattle.std.specs.Option.{option_map};
 ghost use Rattle.pod_base.specs.Counts.{CountIncreased};
-ghost use Rattle.pod_io.specs.Counts.{Counts};
-ghost use Rattle.pod_io.specs.Told.{IfTold};
+ghost use Rattle.pod_io.specs.Counts.{CountsFaults};
+ghost use Rattle.pod_io.specs.Visible.{IfVisible};
 ghost use Rattle.pod_io.specs.Memory.{next_call};
 ghost use Rattle.pod_disk.specs.declared.disk.TheConstants.{LENGTH_LIMIT};
 ghost use Rattle.pod_disk.specs.Disk.{overwritten, Torn, TornCut, Unchanged, Passes};
-ghost use Rattle.pod_disk.specs.NotedCalls.{noted_as, done_by, content_of, told_content, Step, IsCrashImage, MayLeave, moment_of, LeftSince, MakesCall, LeavesContent};
+ghost use Rattle.pod_disk.specs.NotedCalls.{noted_as, done_by, content_of, visible_content, Step};
+ghost use Rattle.pod_disk.specs.NotedCalls.{IsCrashImage, MayLeave, moment_of, LeftSince};
+ghost use Rattle.pod_disk.specs.NotedCalls.{MakesCall, LeavesContent};
 
 use crate::call::{Call, NotedCall};
 use crate::crash::{Tear, crashed};
@@ -68,7 +71,7 @@ impl MemDisk {
     pub fn new(alloc: Global, bytes: Vec<u8>, failing: Vec<u64>) -> Mem<MemDisk>
         ensures first { IfOk result (λ disk. disk.first ≡ bytes.items) }
         ensures noted { IfOk result (λ disk. disk.noted ≡ []) }
-        ensures content { IfOk result (λ disk. told_content disk ≡ Some bytes.items) }
+        ensures content { IfOk result (λ disk. visible_content disk ≡ Some bytes.items) }
         ensures durable { IfOk result (λ disk. (c : List ℕ) → MayLeave disk c → c ≡ bytes.items) }
         ensures made { IfOk result (λ disk. disk.calls.made ≡ 0) }
         ensures failing { IfOk result (λ disk. disk.calls.failing ≡ failing.items) }
@@ -113,7 +116,7 @@ impl MemDisk {
     // MakesCall a call, unless it is to fail.
     fn attempt(&mut self, call: Call) -> Result<(), Failed>
         ensures makes { MakesCall call result self.old self.new }
-        ensures faults { Counts result self.old.calls.faults self.new.calls.faults }
+        ensures faults { CountsFaults result self.old.calls.faults self.new.calls.faults }
     {
         if self.calls.next_fails() {
             note_failed(&mut self.noted, call);
@@ -131,7 +134,7 @@ impl MemDisk {
     // The same, with what it makes of the content and of the images.
     fn make(&mut self, call: Call) -> Result<(), Failed>
         ensures makes { MakesCall call result self.old self.new }
-        ensures faults { Counts result self.old.calls.faults self.new.calls.faults }
+        ensures faults { CountsFaults result self.old.calls.faults self.new.calls.faults }
         ensures passes { Passes MayLeave moment_of LeftSince (Step call) self.old self.new }
         ensures content { OnOk result (content_of self.new ≡ done_by call (content_of self.old)) }
         ensures kept { OnErr result (content_of self.new ≡ content_of self.old) }
@@ -157,9 +160,9 @@ impl MemDisk {
 }
 
 impl Disk for MemDisk {
-    ghost use Rattle.pod_disk.specs.Laws.{told_is_image, image_now, only_image};
+    ghost use Rattle.pod_disk.specs.Laws.{visible_is_image, image_now, only_image};
 
-    ghost content = { told_content };
+    ghost content = { visible_content };
 
     ghost image = { MayLeave };
 
@@ -169,36 +172,36 @@ impl Disk for MemDisk {
 
     ghost faults = { λ m. m.calls.faults };
 
-    ghost reads_image = { told_is_image };
+    ghost reads_image = { visible_is_image };
 
     ghost counts_now = { image_now };
 
     ghost only_now = { only_image };
 
     fn len(&mut self) -> Result<u64, Failed>
-        ensures len { IfOk result (λ n. IfTold (told_content self.old) (λ b. n ≡ length b)) }
+        ensures len { IfOk result (λ n. IfVisible (visible_content self.old) (λ b. n ≡ length b)) }
         ensures below { IfOk result (λ n. n < LENGTH_LIMIT) }
-        ensures content { OnOk result (told_content self.new ≡ told_content self.old) }
-        ensures told { is_some (told_content self.new) ≡ is_some (told_content self.old) }
+        ensures content { OnOk result (visible_content self.new ≡ visible_content self.old) }
+        ensures visible { is_some (visible_content self.new) ≡ is_some (visible_content self.old) }
         ensures passes { Passes MayLeave moment_of LeftSince Unchanged self.old self.new }
-        ensures faults { Counts result self.old.calls.faults self.new.calls.faults }
+        ensures faults { CountsFaults result self.old.calls.faults self.new.calls.faults }
         ensures makes { MakesCall Call.Length result self.old self.new }
-        ensures kept { told_content self.new ≡ told_content self.old }
+        ensures kept { visible_content self.new ≡ visible_content self.old }
     {
         self.make(Call::Length)?;
         Ok(self.bytes.len() as u64)
     }
 
     fn read(&mut self, at: u64, into: &mut [u8]) -> Result<(), Failed>
-        requires { IfTold (told_content self.old) (λ b. at + length into.old ≤ length b) }
+        requires { IfVisible (visible_content self.old) (λ b. at + length into.old ≤ length b) }
         ensures bytes { OnOk result
-            (IfTold (told_content self.old) (λ b. into.new ≡ take (length into.old) (drop at b))) }
-        ensures content { OnOk result (told_content self.new ≡ told_content self.old) }
-        ensures told { is_some (told_content self.new) ≡ is_some (told_content self.old) }
+            (IfVisible (visible_content self.old) (λ b. into.new ≡ take (length into.old) (drop at b))) }
+        ensures content { OnOk result (visible_content self.new ≡ visible_content self.old) }
+        ensures visible { is_some (visible_content self.new) ≡ is_some (visible_content self.old) }
         ensures passes { Passes MayLeave moment_of LeftSince Unchanged self.old self.new }
-        ensures faults { Counts result self.old.calls.faults self.new.calls.faults }
+        ensures faults { CountsFaults result self.old.calls.faults self.new.calls.faults }
         ensures makes { MakesCall (Call.Read at (length into.old)) result self.old self.new }
-        ensures kept { told_content self.new ≡ told_content self.old }
+        ensures kept { visible_content self.new ≡ visible_content self.old }
     {
         let count = into.len();
         self.make(Call::Read { at, count })?;
@@ -208,17 +211,17 @@ impl Disk for MemDisk {
     }
 
     fn write_at(&mut self, at: u64, bytes: &[u8]) -> Result<(), Failed>
-        requires { IfTold (told_content self.old) (λ b. at ≤ length b) }
+        requires { IfVisible (visible_content self.old) (λ b. at ≤ length b) }
         ensures content { OnOk result
-            (told_content self.new ≡ option_map (overwritten at bytes.now)
-            (told_content self.old)) }
-        ensures told { is_some (told_content self.new) ≡ is_some (told_content self.old) }
+            (visible_content self.new ≡ option_map (overwritten at bytes.now)
+            (visible_content self.old)) }
+        ensures visible { is_some (visible_content self.new) ≡ is_some (visible_content self.old) }
         ensures room { OnOk result (at + length bytes.now < LENGTH_LIMIT) }
         ensures passes { Passes MayLeave moment_of LeftSince
             (Torn at (length bytes.now)) self.old self.new }
-        ensures faults { Counts result self.old.calls.faults self.new.calls.faults }
+        ensures faults { CountsFaults result self.old.calls.faults self.new.calls.faults }
         ensures makes { MakesCall (Call.Write at bytes.now) result self.old self.new }
-        ensures kept { OnErr result (told_content self.new ≡ told_content self.old) }
+        ensures kept { OnErr result (visible_content self.new ≡ visible_content self.old) }
     {
         if at >= LENGTH_LIMIT || bytes.len() as u64 >= LENGTH_LIMIT - at {
             return Err(self.refuse());
@@ -230,27 +233,27 @@ impl Disk for MemDisk {
     }
 
     fn cut(&mut self, len: u64) -> Result<(), Failed>
-        requires { IfTold (told_content self.old) (λ b. len ≤ length b) }
+        requires { IfVisible (visible_content self.old) (λ b. len ≤ length b) }
         ensures content { OnOk result
-            (told_content self.new ≡ option_map (take len) (told_content self.old)) }
-        ensures told { is_some (told_content self.new) ≡ is_some (told_content self.old) }
+            (visible_content self.new ≡ option_map (take len) (visible_content self.old)) }
+        ensures visible { is_some (visible_content self.new) ≡ is_some (visible_content self.old) }
         ensures passes { Passes MayLeave moment_of LeftSince (TornCut len) self.old self.new }
-        ensures faults { Counts result self.old.calls.faults self.new.calls.faults }
+        ensures faults { CountsFaults result self.old.calls.faults self.new.calls.faults }
         ensures makes { MakesCall (Call.Cut len) result self.old self.new }
-        ensures kept { OnErr result (told_content self.new ≡ told_content self.old) }
+        ensures kept { OnErr result (visible_content self.new ≡ visible_content self.old) }
     {
         self.make(Call::Cut { len })
     }
 
     fn sync(&mut self) -> Result<(), Failed>
         ensures durable { OnOk result ((c : List ℕ) → MayLeave self.new c
-            → told_content self.new ≡ Some c) }
-        ensures content { OnOk result (told_content self.new ≡ told_content self.old) }
-        ensures told { is_some (told_content self.new) ≡ is_some (told_content self.old) }
+            → visible_content self.new ≡ Some c) }
+        ensures content { OnOk result (visible_content self.new ≡ visible_content self.old) }
+        ensures visible { is_some (visible_content self.new) ≡ is_some (visible_content self.old) }
         ensures passes { Passes MayLeave moment_of LeftSince Unchanged self.old self.new }
-        ensures faults { Counts result self.old.calls.faults self.new.calls.faults }
+        ensures faults { CountsFaults result self.old.calls.faults self.new.calls.faults }
         ensures makes { MakesCall Call.Sync result self.old self.new }
-        ensures kept { told_content self.new ≡ told_content self.old }
+        ensures kept { visible_content self.new ≡ visible_content self.old }
     {
         self.make(Call::Sync)
     }

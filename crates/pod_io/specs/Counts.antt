@@ -4,7 +4,7 @@ use Rattle.std.specs.Prelude.{Result, IsErr, IfOk, OnOk, OnErr}
 use Rattle.pod_base.specs.Counts.{CountIncreased}
 
 -- a call's count of faults never falls, and it increased where the call failed
-pub record Counts {T E : Type 0} (result : Result T E) (old new : ℕ) : Type 0 where
+pub record CountsFaults {T E : Type 0} (result : Result T E) (old new : ℕ) : Type 0 where
   pub no_fewer : old ≤ new
   pub failed : IsErr result → CountIncreased old new
 

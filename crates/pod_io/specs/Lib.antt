@@ -1,4 +1,4 @@
 -- What public clauses cite, here and in the crates above.
 pub mod Counts
-pub mod Told
+pub mod Visible
 pub mod Memory

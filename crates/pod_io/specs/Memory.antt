@@ -1,5 +1,6 @@
 -- Objects in memory, as contracts see them.
-use Rattle.std.specs.Prelude.{◌≡◌, ℕ, ◌+◌, ◌^◌, ◌-◌, List, min, Contains}
+use Rattle.std.specs.Prelude.{ℕ, List, Contains}
+use Rattle.pod_io.specs.Counts.{next_count}
 
 -- The calls of an object in memory: how many were made, the numbers of those that are to fail, from
 -- 1, and how many failed.
@@ -10,7 +11,7 @@ pub record Script : Type 0 where
 
 -- the number of the next call; it stops at the last number that a count can hold
 abbrev pub next_call : Script → ℕ
-next_call script = min (script.made + 1) (2 ^ 64 - 1)
+next_call script = next_count script.made
 
 -- the next call is to fail
 abbrev pub NextFails : Script → Type 0

@@ -1,6 +1,7 @@
 //! [`Calls`]: the calls of an object in memory.
-ghost use Rattle.std.specs.Prelude.{◌≡◌, ◌+◌, ◌-◌, ◌^◌, ◌≤◌, ◌↔◌, if◌then◌else◌, min, IsTrue};
+ghost use Rattle.std.specs.Prelude.{◌≡◌, ◌≤◌, ◌↔◌, if◌then◌else◌, IsTrue};
 ghost use Rattle.pod_base.specs.Counts.{CountIncreased};
+ghost use Rattle.pod_io.specs.Counts.{next_count};
 ghost use Rattle.pod_io.specs.Memory.{next_call, NextFails};
 
 use std::marker::Model;
@@ -40,7 +41,8 @@ impl Calls {
         ensures fails { IsTrue result ↔ NextFails self.old }
         ensures made { self.new.made ≡ next_call self.old }
         ensures failing { self.new.failing ≡ self.old.failing }
-        ensures faults { self.new.faults ≡ (if result then min (self.old.faults + 1) (2 ^ 64 - 1) else self.old.faults) }
+        ensures faults { self.new.faults
+            ≡ (if result then next_count self.old.faults else self.old.faults) }
         ensures no_fewer { self.old.faults ≤ self.new.faults }
         ensures increased { IsTrue result → CountIncreased self.old.faults self.new.faults }
     {
@@ -56,7 +58,7 @@ impl Calls {
     pub fn count(&mut self)
         ensures made { self.new.made ≡ self.old.made }
         ensures failing { self.new.failing ≡ self.old.failing }
-        ensures faults { self.new.faults ≡ min (self.old.faults + 1) (2 ^ 64 - 1) }
+        ensures faults { self.new.faults ≡ next_count self.old.faults }
         ensures no_fewer { self.old.faults ≤ self.new.faults }
         ensures increased { CountIncreased self.old.faults self.new.faults }
     {

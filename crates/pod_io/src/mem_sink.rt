@@ -1,7 +1,7 @@
 //! [`MemSink`]: a sink in memory.
 ghost use Rattle.std.specs.Prelude.{◌≡◌, ◌<◌, ◌≤◌, [], Some, length, IsErr, IfOk};
-ghost use Rattle.pod_io.specs.Counts.{Counts};
-ghost use Rattle.pod_io.specs.Told.{Appends};
+ghost use Rattle.pod_io.specs.Counts.{CountsFaults};
+ghost use Rattle.pod_io.specs.Visible.{Appends};
 ghost use Rattle.pod_io.specs.Memory.{NextFails};
 
 use crate::calls::Calls;
@@ -64,7 +64,7 @@ impl Sink for MemSink {
         ensures some { IfOk result (λ count. 0 < count) }
         ensures len { IfOk result (λ count. count ≤ length piece.now) }
         ensures taken { Appends result piece.now (Some self.old.taken) (Some self.new.taken) }
-        ensures faults { Counts result self.old.calls.faults self.new.calls.faults }
+        ensures faults { CountsFaults result self.old.calls.faults self.new.calls.faults }
         ensures listed { NextFails self.old.calls → IsErr result }
     {
         if self.calls.next_fails() {

@@ -1,7 +1,7 @@
 //! [`MemSource`]: a source in memory.
 ghost use Rattle.std.specs.Prelude.{◌≡◌, ◌<◌, ◌≤◌, ◌↔◌, Some, length, IsErr, IfOk};
-ghost use Rattle.pod_io.specs.Counts.{Counts, CountsReads, CountsEnds};
-ghost use Rattle.pod_io.specs.Told.{IfTold, IsRead, Consumes};
+ghost use Rattle.pod_io.specs.Counts.{CountsFaults, CountsReads, CountsEnds};
+ghost use Rattle.pod_io.specs.Visible.{IfVisible, IsRead, Consumes};
 ghost use Rattle.pod_io.specs.Memory.{NextFails};
 
 use crate::calls::Calls;
@@ -78,10 +78,10 @@ impl Source for MemSource {
     fn read(&mut self, into: &mut [u8]) -> Result<usize, Failed>
         requires { 0 < length into.old }
         ensures len { IfOk result (λ count. count ≤ length into.old) }
-        ensures bytes { IfOk result (λ count. IfTold (Some self.old.rest)
+        ensures bytes { IfOk result (λ count. IfVisible (Some self.old.rest)
             (λ rest. IsRead rest count into.old into.new)) }
         ensures rest { Consumes result (Some self.old.rest) (Some self.new.rest) }
-        ensures faults { Counts result self.old.calls.faults self.new.calls.faults }
+        ensures faults { CountsFaults result self.old.calls.faults self.new.calls.faults }
         ensures reads { CountsReads result self.old.reads self.new.reads }
         ensures ends { CountsEnds result self.old.ends self.new.ends }
         ensures fails { IsErr result ↔ NextFails self.old.calls }

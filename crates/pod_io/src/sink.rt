@@ -1,7 +1,7 @@
 //! [`Sink`]: where bytes go to.
 ghost use Rattle.std.specs.Prelude.{◌≡◌, ◌<◌, ◌≤◌, ℕ, List, Option, length, IfOk};
-ghost use Rattle.pod_io.specs.Counts.{Counts};
-ghost use Rattle.pod_io.specs.Told.{Appends};
+ghost use Rattle.pod_io.specs.Counts.{CountsFaults};
+ghost use Rattle.pod_io.specs.Visible.{Appends};
 
 use crate::source::Failed;
 
@@ -19,5 +19,5 @@ pub trait Sink {
         ensures some { IfOk result (λ count. 0 < count) }
         ensures len { IfOk result (λ count. count ≤ length piece.now) }
         ensures taken { Appends result piece.now (taken self.old) (taken self.new) }
-        ensures faults { Counts result (faults self.old) (faults self.new) };
+        ensures faults { CountsFaults result (faults self.old) (faults self.new) };
 }

@@ -1,7 +1,7 @@
 //! [`Source`]: where bytes come from.
 ghost use Rattle.std.specs.Prelude.{◌≡◌, ◌<◌, ◌≤◌, ℕ, List, Option, length, IfOk};
-ghost use Rattle.pod_io.specs.Counts.{Counts, CountsReads, CountsEnds};
-ghost use Rattle.pod_io.specs.Told.{IfTold, IsRead, Consumes};
+ghost use Rattle.pod_io.specs.Counts.{CountsFaults, CountsReads, CountsEnds};
+ghost use Rattle.pod_io.specs.Visible.{IfVisible, IsRead, Consumes};
 
 /// A call that failed. The object that was called has counted it.
 #[derive(Clone, Copy, Debug, PartialEq, Eq)]
@@ -28,10 +28,10 @@ pub trait Source {
     fn read(&mut self, into: &mut [u8]) -> Result<usize, Failed>
         requires { 0 < length into.old }
         ensures len { IfOk result (λ count. count ≤ length into.old) }
-        ensures bytes { IfOk result (λ count. IfTold (rest self.old)
+        ensures bytes { IfOk result (λ count. IfVisible (rest self.old)
             (λ rest. IsRead rest count into.old into.new)) }
         ensures rest { Consumes result (rest self.old) (rest self.new) }
-        ensures faults { Counts result (faults self.old) (faults self.new) }
+        ensures faults { CountsFaults result (faults self.old) (faults self.new) }
         ensures reads { CountsReads result (reads self.old) (reads self.new) }
         ensures ends { CountsEnds result (ends self.old) (ends self.new) };
 }

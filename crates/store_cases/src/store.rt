@@ -145,9 +145,10 @@ pub(crate) fn changed(
             let outcomes = changes(alloc, &mut pair, &mut first, &mut second, fields)?;
             let (side, format, epoch) = (pair.active(), pair.format(), pair.epoch());
             let (len, snapshot, due) = (pair.len(), pair.snapshot_len(), pair.due());
+            let active = format!(in alloc; "{side} {format} {epoch} {len} {snapshot} {due}")?;
             let (one, other) = (first.bytes().to_vec(alloc)?, second.bytes().to_vec(alloc)?);
             let then = opened(alloc, one, other)?;
-            Ok(format!(in alloc; "{outcomes}{side} {format} {epoch} {len} {snapshot} {due} {then}")?)
+            Ok(format!(in alloc; "{outcomes}{active} {then}")?)
         }
         Err(fault) => Ok(format!(in alloc; "{fault}")?),
     }
@@ -162,8 +163,8 @@ fn left(alloc: Global, disk: &MemDisk, crashed: bool, count: u64, field: &str) -
 }
 
 /// What a store on disks of these bytes, on which the calls of these numbers fail, is opened as
-/// after a crash of the disk on this side after so many calls, the last of them in the last of these
-/// changes. The other disk holds what it held then.
+/// after a crash of the disk on this side after so many calls, the last of them in the last of
+/// these changes. The other disk holds what it held then.
 pub(crate) fn crashes(
     alloc: Global,
     images: (Vec<u8>, Vec<u8>),

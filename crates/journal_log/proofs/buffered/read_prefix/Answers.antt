@@ -5,7 +5,7 @@ use Rattle.journal_log.proofs.WindowReads.{prefix_is}
 use Rattle.journal_log.proofs.buffered.read_prefix.Goals as goal
 
 pub returns-clause-bytes : goal.returns-clause-bytes
-returns-clause-bytes g c = on_ok_weaker c.read.result (λ read b told.
+returns-clause-bytes g c = on_ok_weaker c.read.result (λ read b visible.
     let len : length (take c.args.len c.args.buffer.now) ≡ c.args.len = length-take-le c.args.len c.args.buffer.now c.requires.room in
-    prefix_is c.read.new.into _ (drop c.args.at b) c.args.len (search rules) (read b told ∙ ap (λ (n : ℕ). take n (drop c.args.at b)) len))
+    prefix_is c.read.new.into _ (drop c.args.at b) c.args.len (search rules) (read b visible ∙ ap (λ (n : ℕ). take n (drop c.args.at b)) len))
     c.read.ensures.bytes

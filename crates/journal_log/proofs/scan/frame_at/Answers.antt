@@ -4,7 +4,7 @@ use Rattle.journal_log.specs.declared.scan.Start.{Start}
 use Rattle.journal_log.proofs.scan.frame_at.Goals as goal
 
 pub returns-in-End-clause-is : goal.returns-in-End-clause-is
-returns-in-End-clause-is g c = λ b told. subst (λ (s : Start). IsStart s (drop c.args.at b)) c.in-End.is (c.in_ok-start_at.ensures.is b told)
+returns-in-End-clause-is g c = λ b visible. subst (λ (s : Start). IsStart s (drop c.args.at b)) c.in-End.is (c.in_ok-start_at.ensures.is b visible)
 
 pub returns-in-Broken-clause-is : goal.returns-in-Broken-clause-is
-returns-in-Broken-clause-is g c = λ b told. subst (λ (s : Start). IsStart s (drop c.args.at b)) c.in-Broken.is (c.in_ok-start_at.ensures.is b told)
+returns-in-Broken-clause-is g c = λ b visible. subst (λ (s : Start). IsStart s (drop c.args.at b)) c.in-Broken.is (c.in_ok-start_at.ensures.is b visible)

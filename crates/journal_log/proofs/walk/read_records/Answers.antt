@@ -23,14 +23,14 @@ returns-in-End-clause-is g c = record {
   known = c.requires.known;
   room = omega (arith, c.loop-records.invariant.within, c.loop-records.invariant.size, c.requires.small);
   gates = whole (g.D.Disk.content c.args.disk.now) c.args.window.now.size c.args.head c.loop-records.records.items c.loop-records.at c.loop-records.invariant.read
-      (λ b told. subst (λ (f : Frame). IsSeen f (drop c.loop-records.at b)) c.in-End.is (c.in_ok-frame_at.ensures.is b (c.loop-records.invariant.content ∙ told)));
+      (λ b visible. subst (λ (f : Frame). IsSeen f (drop c.loop-records.at b)) c.in-End.is (c.in_ok-frame_at.ensures.is b (c.loop-records.invariant.content ∙ visible)));
 }
 
 pub returns-in-Broken-clause-is : goal.returns-in-Broken-clause-is
 returns-in-Broken-clause-is g c =
     broken (g.D.Disk.content c.args.disk.now) c.args.window.now.size c.args.head c.loop-records.records.items c.loop-records.at c.loop-records.invariant.read
-    (λ b told. (c.requires.shown b told).size)
-    (λ b told. subst (λ (f : Frame). IsSeen f (drop c.loop-records.at b)) c.in-Broken.is (c.in_ok-frame_at.ensures.is b (c.loop-records.invariant.content ∙ told)))
+    (λ b visible. (c.requires.shown b visible).size)
+    (λ b visible. subst (λ (f : Frame). IsSeen f (drop c.loop-records.at b)) c.in-Broken.is (c.in_ok-frame_at.ensures.is b (c.loop-records.invariant.content ∙ visible)))
 
 pub returns-then-gate-ne1-clause-is : goal.returns-then-gate-ne1-clause-is
 returns-then-gate-ne1-clause-is g c =
@@ -45,7 +45,7 @@ returns-then-gate-ne1-clause-is g c =
           (torn_gate_found content c.args.window.now.size c.args.head c.loop-records.records.items c.loop-records.at c.loop-records.invariant.read
           c.in-Record.gate c.in-Record.body end fits.0 c.if-gate-ne1.true (omega (arith, fits.1, c.loop-records.invariant.size, c.requires.small))
           (omega (arith, size))
-          (λ b told. subst (λ (f : Frame). IsSeen f (drop c.loop-records.at b)) c.in-Record.is (c.in_ok-frame_at.ensures.is b (c.loop-records.invariant.content ∙ told))));
+          (λ b visible. subst (λ (f : Frame). IsSeen f (drop c.loop-records.at b)) c.in-Record.is (c.in_ok-frame_at.ensures.is b (c.loop-records.invariant.content ∙ visible))));
     }
 
 pub loop-records-preserved : goal.loop-records-preserved
@@ -60,8 +60,8 @@ loop-records-preserved g c =
           (read_more content c.args.window.now.size c.args.head c.loop-records.records.items c.loop-records.at c.loop-records.invariant.read
           c.in-Record.body next (omega (arith, fits.1, c.loop-records.invariant.size, c.requires.small)) (omega (arith, size))
           (omega (arith, size, fits.1, c.loop-records.invariant.size))
-          (λ b told. subst (λ (n : ℕ). IsRecord n c.in-Record.body (drop c.loop-records.at b)) c.if-gate-ne1.false
-          (subst (λ (f : Frame). IsSeen f (drop c.loop-records.at b)) c.in-Record.is (c.in_ok-frame_at.ensures.is b (c.loop-records.invariant.content ∙ told)))));
+          (λ b visible. subst (λ (n : ℕ). IsRecord n c.in-Record.body (drop c.loop-records.at b)) c.if-gate-ne1.false
+          (subst (λ (f : Frame). IsSeen f (drop c.loop-records.at b)) c.in-Record.is (c.in_ok-frame_at.ensures.is b (c.loop-records.invariant.content ∙ visible)))));
       within = omega (arith, size, fits.1, kept.size);
       size = kept.size ∙ c.loop-records.invariant.size;
       shown = kept.shown;

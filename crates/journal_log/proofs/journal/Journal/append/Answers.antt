@@ -11,10 +11,10 @@ use Rattle.journal_log.proofs.Records.{length_closed, length_opening, clean_behi
 use Rattle.journal_log.proofs.journal.Journal.append.Goals as goal
 
 pub write_through-requires : goal.write_through-requires
-write_through-requires g c = λ b told.
+write_through-requires g c = λ b visible.
     let clean = c.requires.1 in
     let ends : c.self.inside.end ≡ c.args.self.now.end = ap (λ (h : JournalState). h.end) c.self.view_is in
-    omega (arith, ends, clean.is_prefix.ends, length_closed clean.prefix b (clean.closed b (g.D.Disk.reads_image _ b told)))
+    omega (arith, ends, clean.is_prefix.ends, length_closed clean.prefix b (clean.closed b (g.D.Disk.reads_image _ b visible)))
 
 pub returns-in_err-write_through-clause-moments : goal.returns-in_err-write_through-clause-moments
 returns-in_err-write_through-clause-moments g c = λ bodies clean.
@@ -29,12 +29,12 @@ returns-in_err-write_through-clause-fault g c = on_err_weaker {P = Unit {0}} c.f
     inl (record { prefix = clean.prefix; is_prefix = clean.is_prefix; closed = first.1; certain = clean.certain })) (search rules)
 
 pub write_through-requires-2 : goal.write_through-requires-2
-write_through-requires-2 g c = λ b told.
+write_through-requires-2 g c = λ b visible.
     let clean = c.requires.1 in
     let ends : length clean.prefix ≡ c.self.inside.end = clean.is_prefix.ends ∙ sym (ap (λ (h : JournalState). h.end) c.self.view_is) in
     let placed = over_run g.D.Disk.content g.D.Disk.image c.args.disk.now c.write_through.new.disk (c.self.inside.end + 1) c.bytes.result.now (IsClosed clean.prefix) (IsGated clean.prefix 0 c.bytes.result.now)
     (g.D.Disk.reads_image _) (λ b closed. written_behind clean.prefix c.bytes.result.now b (c.self.inside.end + 1) (omega (arith, ends)) closed) clean.closed c.in_ok-write_through.ensures.written in
-    omega (arith, ends, length_opening clean.prefix c.bytes.result.now b (0, placed b (g.D.Disk.reads_image _ b told)))
+    omega (arith, ends, length_opening clean.prefix c.bytes.result.now b (0, placed b (g.D.Disk.reads_image _ b visible)))
 
 pub returns-in_err-write_through-2-clause-moments : goal.returns-in_err-write_through-2-clause-moments
 returns-in_err-write_through-2-clause-moments g c = λ bodies clean.

@@ -10,10 +10,10 @@ use Rattle.journal_log.proofs.Records.{length_opening, same_prefix}
 use Rattle.journal_log.proofs.journal.Journal.repair.Goals as goal
 
 pub write_through-requires : goal.write_through-requires
-write_through-requires g c = λ b told.
+write_through-requires g c = λ b visible.
     let doubts = c.requires.2 in
     let ends : c.self.inside.end ≡ c.args.self.now.end = ap (λ (h : JournalState). h.end) c.self.view_is in
-    omega (arith, ends, doubts.is_prefix.ends, length_opening doubts.prefix (framed_of c.requires.1) b (doubts.opening b (g.D.Disk.reads_image _ b told)))
+    omega (arith, ends, doubts.is_prefix.ends, length_opening doubts.prefix (framed_of c.requires.1) b (doubts.opening b (g.D.Disk.reads_image _ b visible)))
 
 pub returns-in_err-write_through-clause-moments : goal.returns-in_err-write_through-clause-moments
 returns-in_err-write_through-clause-moments g c = λ bodies body doubts.

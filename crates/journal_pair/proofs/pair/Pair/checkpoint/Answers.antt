@@ -1,6 +1,6 @@
 use Rattle.std.proofs.Common.{◌+◌, ℕ, List, Err, inl, inr, refl, sym, ◌∙◌, ap, subst, arith}
 use Rattle.pod_disk.specs.Disk.{EachImage}
-use Rattle.journal_log.specs.Renewing.{IsNew}
+use Rattle.journal_log.specs.Renewing.{IsNewJournal}
 use Rattle.journal_pair.specs.Sides.{other_of}
 use Rattle.journal_pair.specs.Stores.{IsPassedOver}
 use Rattle.journal_pair.specs.PairState.{PairState}
@@ -87,7 +87,7 @@ returns-in-Err-InDoubt-clause-fault g c = λ bodies clean.
       old = was.snapshot;
       most = omega (arith, c.epoch-epoch.ensures.epoch, c.epoch-epoch.ensures.most, c.if-epoch.false);
       short = omega (arith, c.len-len.ensures.short);
-      new = subst (λ (e : ℕ). EachImage (g.D.Disk.image (other_of c.self.inside.active c.renew_beside.new.first c.renew_beside.new.second)) (IsNew (e + 1) c.args.snapshot.now))
+      new = subst (λ (e : ℕ). EachImage (g.D.Disk.image (other_of c.self.inside.active c.renew_beside.new.first c.renew_beside.new.second)) (IsNewJournal (e + 1) c.args.snapshot.now))
           c.epoch-epoch.ensures.epoch (c.in-Err-InDoubt.ensures.in_doubt (ap Err c.in-Err-InDoubt.field-0-is));
       doubtful = refl;
     })

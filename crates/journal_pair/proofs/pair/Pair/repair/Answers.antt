@@ -2,7 +2,7 @@ use Rattle.std.proofs.Common.{rules, ◌+◌, inl, inr, refl, sym, ap, subst, Li
 use Rattle.std.proofs.lemmas.Result.{on_ok_weaker, on_err_weaker}
 use Rattle.pod_disk.specs.Disk.{LeavesOnly}
 use Rattle.journal_log.specs.Images.{IsEither}
-use Rattle.journal_log.specs.Renewing.{IsNew}
+use Rattle.journal_log.specs.Renewing.{IsNewJournal}
 use Rattle.journal_pair.specs.Sides.{active_of, other_of}
 use Rattle.journal_pair.specs.Stores.{StoreStandsEither, StoreStandsBoth}
 use Rattle.journal_pair.specs.PairState.{PairState}
@@ -22,7 +22,7 @@ shut_beside-requires g c =
 pub returns-in_err-shut_beside-clause-checkpoint_moments : goal.returns-in_err-shut_beside-clause-checkpoint_moments
 returns-in_err-shut_beside-clause-checkpoint_moments g c = λ bodies body.
     subst (λ (s : PairState). IsCheckpointInDoubt g.D.Disk.image c.args.first.now c.args.second.now s bodies body
-    → LeavesOnly g.D.Disk.moment g.D.Disk.left_since (other_of s.active c.args.first.now c.args.second.now) (other_of s.active c.shut_beside.new.first c.shut_beside.new.second) (IsNew (s.journal.epoch + 1) body))
+    → LeavesOnly g.D.Disk.moment g.D.Disk.left_since (other_of s.active c.args.first.now c.args.second.now) (other_of s.active c.shut_beside.new.first c.shut_beside.new.second) (IsNewJournal (s.journal.epoch + 1) body))
     c.self.view_is (λ doubt. c.shut_beside.ensures.in_doubt _ body doubt.new)
 
 pub returns-in_err-shut_beside-clause-checkpoint_pairs : goal.returns-in_err-shut_beside-clause-checkpoint_pairs
@@ -43,7 +43,7 @@ returns-in_err-shut_beside-clause-fault g c = on_err_weaker {P = Unit {0}} c.fro
 pub returns-then-self-clause-checkpoint_moments : goal.returns-then-self-clause-checkpoint_moments
 returns-then-self-clause-checkpoint_moments g c = λ bodies body.
     subst (λ (s : PairState). IsCheckpointInDoubt g.D.Disk.image c.args.first.now c.args.second.now s bodies body
-    → LeavesOnly g.D.Disk.moment g.D.Disk.left_since (other_of s.active c.args.first.now c.args.second.now) (other_of s.active c.shut_beside.new.first c.shut_beside.new.second) (IsNew (s.journal.epoch + 1) body))
+    → LeavesOnly g.D.Disk.moment g.D.Disk.left_since (other_of s.active c.args.first.now c.args.second.now) (other_of s.active c.shut_beside.new.first c.shut_beside.new.second) (IsNewJournal (s.journal.epoch + 1) body))
     c.self.view_is (λ doubt. c.shut_beside.ensures.in_doubt _ body doubt.new)
 
 pub returns-then-self-clause-checkpoint_pairs : goal.returns-then-self-clause-checkpoint_pairs
