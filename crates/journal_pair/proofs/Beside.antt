@@ -79,7 +79,7 @@ changed_passed side epoch from c passed open_gate changed =
     let was = open_was side epoch from class.0 class.1 (long_changed from c changed).0 open_gate passed in
     let is_open = was.1 in
     let parts = parts_are changed.head (encoded_head is_open.format was.0) (changed.before ∷ changed.rest) (is_open.gate ∷ is_open.rest)
-        (changed.whole ∙ sym (length_head is_open.format was.0)) (sym changed.was ∙ is_open.spells) in
+    (changed.whole ∙ sym (length_head is_open.format was.0)) (sym changed.was ∙ is_open.spells) in
     let spells : c ≡ encoded_head is_open.format was.0 ++ (changed.after ∷ changed.rest) = changed.is ∙ ap (λ (l : List ℕ). l ++ (changed.after ∷ changed.rest)) parts.0 in record {
       not_wrong = λ wrong. wrong.wrong is_open.format was.0 (changed.after ∷ changed.rest) is_open.known spells;
       older = λ beside now.

@@ -44,10 +44,10 @@ impl Model for Pair {
     ghost Value = { PairState };
 
     ghost view = { λ p. record {
-        active = p.active;
-        journal = p.journal;
-        snapshot = p.snapshot;
-        checkpoint = p.checkpoint;
+      active = p.active;
+      journal = p.journal;
+      snapshot = p.snapshot;
+      checkpoint = p.checkpoint;
     } };
 }
 
