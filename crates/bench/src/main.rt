@@ -5,6 +5,7 @@
 #![tactic(auto)]
 
 mod building;
+mod deciding;
 mod joining;
 mod opening;
 mod reading;
@@ -12,6 +13,7 @@ mod serving;
 
 use anyhow::bail;
 use building::build_graph;
+use deciding::decide_access;
 use joining::join_conditions;
 use opening::open_journal;
 use reading::{Looks, read_versions};
@@ -29,6 +31,7 @@ fn number(rt: &HostRuntime, place: usize, other: usize) -> anyhow::Result<usize>
 fn run_small(rt: &HostRuntime, alloc: Global) -> anyhow::Result<()> {
     build_graph(rt, alloc, 1_000, false)?;
     join_conditions(rt, alloc, 1_000, false)?;
+    decide_access(rt, alloc, 40, 100, false)?;
     open_journal(rt, alloc, false)?;
     serve_stream(rt, alloc, 100, 1, false)
 }
@@ -58,6 +61,7 @@ fn main(rt: HostRuntime) -> anyhow::Result<()> {
     };
     let first = number(&rt, 2, 0)?;
     match word.as_str() {
+        "access" => decide_access(&rt, alloc, first, number(&rt, 3, 1)?, true),
         "graph" => build_graph(&rt, alloc, first, true),
         "join" => join_conditions(&rt, alloc, first, true),
         "journal" => open_journal(&rt, alloc, true),
