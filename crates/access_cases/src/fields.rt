@@ -161,7 +161,7 @@ impl Groups for Members {
     }
 }
 
-/// The members of a field: path of the document, group and agent of each, as a graph has its triples.
+/// The members of a field: for each the path of the document, the group and the agent.
 pub fn members_of(alloc: Global, field: &str) -> Mem<Members> {
     let mut list = Vec::new(alloc);
     for row in field.split(';') {

@@ -1,10 +1,10 @@
 //! Runs cases of access lists: reads one from each line of standard input, and prints it with the
 //! result as one more field. The first field of a case is its call.
 //!
-//! The base is `https://pod.example/`. A graph is a field of three words for each triple, and `;` after
-//! each but the last. A word is an IRI: of a path where it begins with `/`, of a vocabulary with one of
-//! the prefixes `rdf:`, `acl:`, `foaf:` and `vcard:`, of a person where it begins with `@`, or written
-//! out. One that begins with `_` is a blank node, and one with `'` a literal.
+//! The base is `https://pod.example/`. A graph is a field of three words for each triple, and `;`
+//! after each but the last. A word is an IRI: of a path where it begins with `/`, of a vocabulary
+//! with one of the prefixes `rdf:`, `acl:`, `foaf:` and `vcard:`, of a person where it begins with
+//! `@`, or written out. One that begins with `_` is a blank node, and one with `'` a literal.
 #![tactic(auto)]
 
 mod decisions;

@@ -20,8 +20,8 @@ fn method(word: &str) -> Method {
     }
 }
 
-/// What a request needs. The letters of its parts are `c` for conditions, `d` for deletions, `i` for
-/// insertions and `t` for preconditions.
+/// What a request needs. The letters of its parts are `c` for conditions, `d` for deletions, `i`
+/// for insertions and `t` for preconditions.
 pub fn needs_of(
     alloc: Global,
     method_word: &str,

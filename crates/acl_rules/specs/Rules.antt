@@ -85,7 +85,7 @@ rule_of base g node = rule_from base node (triples_of node g)
 abbrev pub is_rule_statement : Triple → Bool
 is_rule_statement t = is_of rdf_type t && term_eq t.o (Iri acl_authorization)
 
--- A rule for each node of type `acl:Authorization`, in the order of the triples that say so. A graph
--- is a set, so each node has one such triple.
+-- A rule for each node of type `acl:Authorization`, in the order of the triples that say so. A
+-- graph is a set, so each node has one such triple.
 unfoldable pub rules_of : List ℕ → List Triple → List Rule
 rules_of base g = map (λ t. rule_of base g t.s) (filter is_rule_statement g)

@@ -14,7 +14,7 @@ use rdf_graph::{Graph, Term, Triple};
 use std::alloc::Global;
 
 /// The rules of a graph: one for each node of type `acl:Authorization`, in the order of the graph's
-/// triples, and so are the lists of each rule. A value that is no IRI, an IRI of no path of this base,
+/// triples, as are the lists of each rule. A value that is no IRI, an IRI of no path of this base,
 /// another class and another mode give nothing.
 ///
 /// It goes over the graph once, and then over the triples of each rule, which stand together.

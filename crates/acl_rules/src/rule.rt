@@ -21,7 +21,7 @@ pub enum Subject {
     Group { doc: Option<Path>, iri: Text },
 }
 
-/// A rule: a node of type `acl:Authorization` with its values, each list in the order of the triples.
+/// A rule: a node of type `acl:Authorization` with its values, in the order of its triples.
 #[derive(Debug, Drop)]
 pub struct Rule {
     pub node: Term,

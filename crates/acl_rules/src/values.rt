@@ -3,8 +3,10 @@ ghost use Rattle.std.specs.Prelude.{◌≡◌, IfOk, Option, None, Some};
 ghost use Rattle.std.specs.List.{list_any};
 ghost use Rattle.iri_ref.specs.Characters.{is_hash};
 ghost use Rattle.acl_rules.specs.Documents.{document_of, resource_of};
-ghost use Rattle.acl_rules.specs.Rules.{is_rule_statement, mode_of, class_of, place_of, granted_mode, subject_of};
-ghost use Rattle.acl_rules.specs.declared.rule.Subject.TheVariants.{Agent as AgentSubject, Group as GroupSubject};
+ghost use Rattle.acl_rules.specs.Rules.{is_rule_statement, mode_of, class_of, place_of};
+ghost use Rattle.acl_rules.specs.Rules.{granted_mode, subject_of};
+ghost use Rattle.acl_rules.specs.declared.rule.Subject.TheVariants.{Agent as AgentSubject};
+ghost use Rattle.acl_rules.specs.declared.rule.Subject.TheVariants.{Group as GroupSubject};
 
 use crate::rule::Subject;
 use crate::vocabulary::{
@@ -119,7 +121,8 @@ fn agent_of(alloc: Global, iri: &str) -> Mem<Option<Subject>>
 
 /// The group with this IRI.
 fn group_of(alloc: Global, base: &Iri, iri: &str) -> Mem<Option<Subject>>
-    ensures { IfOk result (λ found. found ≡ Some (GroupSubject (document_of base.now iri.now) iri.now)) }
+    ensures { IfOk result (λ found. found
+        ≡ Some (GroupSubject (document_of base.now iri.now) iri.now)) }
 {
     let doc = document_of(alloc, base, iri)?;
     let iri = Text::of(alloc, iri)?;

@@ -28,7 +28,8 @@ abbrev pub GrantsMode : List Triple → Term → Mode → Type 0
 GrantsMode g node wanted =
     (mode : Mode) × States g node acl_mode (mode_iri mode) × IsTrue (includes mode wanted)
 
--- A group of the node has the agent as a member, by the document of the group, which is one of this pod.
+-- A group of the node has the agent as a member, by the document of the group, which is one of
+-- this pod.
 abbrev pub CoversMember : Membership → List ℕ → List Triple → Term → List ℕ → Type 0
 CoversMember member base g node agent = (group : List ℕ) × (doc : List ℕ)
     × States g node acl_agent_group group × IsUriOf base group doc × IsTrue (member doc group agent)
@@ -40,7 +41,8 @@ Covers member base g node (Known agent) = States g node acl_agent_class foaf_age
     ⊎ (States g node acl_agent_class acl_authenticated_agent
     ⊎ (States g node acl_agent agent ⊎ CoversMember member base g node agent))
 
--- The node is a rule that grants the agent the mode at a path, whose list is the path's own or inherited.
+-- The node is a rule that grants the agent the mode, in the list of the path, which is what is
+-- asked for (own) or is above it (inherited).
 pub record NodeGrants (member : Membership) (base : List ℕ) (g : List Triple) (how : How)
     (at : List ℕ) (agent : Agent) (mode : Mode) (node : Term) : Type 0 where
   pub rule : IsRule g node

@@ -1,5 +1,6 @@
 -- Which modes a request needs, and where. These rights are this project's own.
-use Rattle.std.specs.Prelude.{ℕ, Bool, true, false, ◌&&◌, ◌||◌, not, bytes_eq, if◌then◌else◌, List, [], ◌∷◌, ◌++◌}
+use Rattle.std.specs.Prelude.{ℕ, Bool, true, false, ◌&&◌, ◌||◌, not, bytes_eq, if◌then◌else◌}
+use Rattle.std.specs.Prelude.{List, [], ◌∷◌, ◌++◌}
 use Rattle.std.specs.Prelude.{map, fold, Option, Some, None, unwrap_or}
 use Rattle.std.specs.List.{list_any}
 use Rattle.pod_base.specs.declared.agent.Mode.{Mode}
@@ -42,7 +43,8 @@ resource_needs Delete s = on s.path (Write ∷ []) ++ on_parent (parent_of s.pat
 resource_needs Options s = []
 resource_needs Other s = []
 
--- A request for a description, whose subject it is. A POST of one is refused before access is asked.
+-- A request for a description, judged on its subject. A POST of one is refused before access is
+-- asked, and has the need of its row.
 abbrev pub description_needs : Method → Shape → List ℕ → List Need
 description_needs Get s subject = on subject (Read ∷ [])
 description_needs Head s subject = on subject (Read ∷ [])

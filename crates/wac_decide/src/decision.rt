@@ -1,5 +1,6 @@
 //! [`granted`]: the first rule that grants, and in it the first subject that covers the agent.
-ghost use Rattle.std.specs.Prelude.{◌≡◌, ◌↔◌, ℕ, Bool, List, IsTrue, IfSome, IfNone, All, is_some, false, ◌||◌, ◌<◌, length};
+ghost use Rattle.std.specs.Prelude.{◌≡◌, ◌↔◌, ◌||◌, ◌<◌, ℕ, Bool, List, false, length};
+ghost use Rattle.std.specs.Prelude.{IsTrue, IfSome, IfNone, All, is_some};
 ghost use Rattle.std.specs.List.{position};
 ghost use Rattle.pod_base.specs.declared.agent.Mode.TheVariants.{Read, Write, Append, Control};
 ghost use Rattle.pod_base.specs.EachTo.{EachTo};
@@ -7,7 +8,9 @@ ghost use Rattle.pod_base.specs.declared.agent.Agent.TheVariants.{Known};
 ghost use Rattle.pod_path.specs.Hierarchy.{uri_of, IsUriOf};
 ghost use Rattle.rdf_graph.specs.declared.triple.Triple.{Triple};
 ghost use Rattle.acl_rules.specs.Rules.{rules_of};
-ghost use Rattle.wac_decide.specs.Decision.{covers, is_about, has_mode, has_subject, rule_grants, first_ground, IsFirstGround, granted_modes, allow_modes};
+ghost use Rattle.wac_decide.specs.Decision.{covers, is_about, has_mode, has_subject};
+ghost use Rattle.wac_decide.specs.Decision.{rule_grants, first_ground, IsFirstGround};
+ghost use Rattle.wac_decide.specs.Decision.{granted_modes, allow_modes};
 ghost use Rattle.wac_decide.specs.Grants.{Grants};
 ghost use Rattle.wac_decide.specs.Modes.{includes};
 
@@ -22,9 +25,10 @@ pub struct Ground {
     pub subject: usize,
 }
 
-/// The first rule of a list, and in it the first subject, that grant the agent the mode; none exactly
-/// where nothing grants. `at` is the subject of the list, and `how` says whether the list is the own
-/// one of what is asked for. It takes no memory and goes over the rules once.
+/// The first rule of a list, and in it the first subject, that grant the agent the mode; none
+/// exactly where nothing grants. `at` is the subject of the list; `how` is `Own` where that is what
+/// is asked for, and `Inherited` where the list is that of a container above it. It takes no memory
+/// and goes over the rules once.
 pub fn granted<G: Groups>(
     rules: &Rules,
     how: How,
@@ -33,14 +37,18 @@ pub fn granted<G: Groups>(
     groups: &G,
     mode: Mode,
 ) -> Option<Ground>
-    ensures ground { result ≡ first_ground (G.is_member groups.now) rules.now.list how at.now agent.now mode }
-    ensures first { IfSome result (IsFirstGround (G.is_member groups.now) rules.now.list how at.now agent.now mode) }
-    ensures none { IfNone result (All (λ rule. rule_grants (G.is_member groups.now) how at.now agent.now mode rule ≡ false) rules.now.list) }
+    ensures ground { result ≡ first_ground (G.is_member groups.now) rules.now.list how at.now
+        agent.now mode }
+    ensures first { IfSome result (IsFirstGround (G.is_member groups.now) rules.now.list how at.now
+        agent.now mode) }
+    ensures none { IfNone result (All (λ rule. rule_grants (G.is_member groups.now) how at.now
+        agent.now mode rule ≡ false) rules.now.list) }
 
     // Where the rules are those of a graph, the graph grants.
     ensures grants { (base : List ℕ) (g : List Triple) → rules.now.list ≡ rules_of base g
         → IsUriOf base (uri_of base at.now) at.now
-        → IsTrue (is_some result) ↔ Grants (G.is_member groups.now) base g how at.now agent.now mode }
+        → IsTrue (is_some result)
+        ↔ Grants (G.is_member groups.now) base g how at.now agent.now mode }
 {
     find_ground(rules.list.as_slice(), how, at, agent, groups, mode)
 }
@@ -55,10 +63,12 @@ pub fn granted_modes<G: Groups>(
     agent: &Agent,
     groups: &G,
 ) -> [bool; 4]
-    ensures modes { result ≡ granted_modes (G.is_member groups.now) rules.now.list how at.now agent.now }
+    ensures modes { result
+        ≡ granted_modes (G.is_member groups.now) rules.now.list how at.now agent.now }
     ensures grants { (base : List ℕ) (g : List Triple) → rules.now.list ≡ rules_of base g
         → IsUriOf base (uri_of base at.now) at.now
-        → EachTo (λ mode granted. IsTrue granted ↔ Grants (G.is_member groups.now) base g how at.now agent.now mode)
+        → EachTo (λ mode granted. IsTrue granted
+        ↔ Grants (G.is_member groups.now) base g how at.now agent.now mode)
         allow_modes result }
 {
     find_modes(rules.list.as_slice(), how, at, agent, groups)
@@ -89,7 +99,8 @@ fn position_of_rule<G: Groups>(
     groups: &G,
     mode: Mode,
 ) -> Option<usize>
-    ensures first { result ≡ position (rule_grants (G.is_member groups.now) how at.now agent.now mode) rules.now }
+    ensures first { result
+        ≡ position (rule_grants (G.is_member groups.now) how at.now agent.now mode) rules.now }
     ensures within { IfSome result (λ i. i < length rules.now) }
 {
     rules

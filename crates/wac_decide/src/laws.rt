@@ -1,5 +1,5 @@
-//! What a rule of a graph grants, by its triples: the contract of this function is a law, and it does
-//! nothing.
+//! What a rule of a graph grants, by its triples. The contract of this function is a law, and it
+//! does nothing.
 ghost use Rattle.std.specs.Prelude.{◌≡◌, ◌↔◌, ℕ, List, IsTrue};
 ghost use Rattle.pod_base.specs.declared.agent.Agent.{Agent};
 ghost use Rattle.pod_base.specs.declared.agent.Mode.{Mode};

@@ -10,8 +10,8 @@
 //!
 //! Proved: a decision is positive exactly where the graph of the list has a node that grants
 //! (`granted`, clause `grants`), and its ground is the first rule, and in it the first subject
-//! (`first`). Needs are the table of docs/rules/access.md, row by row (`needs`). The crate stands on
-//! `acl_rules` and `pod_command`.
+//! (`first`). Needs are the table of docs/rules/access.md, row by row (`needs`). The crate stands
+//! on `acl_rules` and `pod_command`.
 #![tactic(auto)]
 
 mod allow;

@@ -4,7 +4,9 @@ ghost use Rattle.std.specs.List.{list_any};
 ghost use Rattle.pod_base.specs.declared.agent.Mode.TheVariants.{Write, Control};
 ghost use Rattle.pod_base.specs.declared.method.Method.TheVariants.{Put, Patch};
 ghost use Rattle.pod_path.specs.Hierarchy.{is_acl, parent_of};
-ghost use Rattle.wac_decide.specs.Needs.{needs_of, resource_needs, description_needs, new_row_needs, patch_modes, tag_modes, with_need, on, on_parent, need_eq, mode_eq};
+ghost use Rattle.wac_decide.specs.Needs.{needs_of, resource_needs, description_needs};
+ghost use Rattle.wac_decide.specs.Needs.{new_row_needs, patch_modes, tag_modes, with_need, on};
+ghost use Rattle.wac_decide.specs.Needs.{on_parent, need_eq, mode_eq};
 
 use pod_base::{List, Mem, Method, Mode, NoMemory};
 use pod_path::Path;
@@ -34,7 +36,8 @@ pub struct Shape {
     pub tags: bool,
 }
 
-/// What a request needs, each need once, where it first stands in the table of docs/rules/access.md.
+/// What a request needs, each need once, where it first stands in the table of
+/// docs/rules/access.md.
 pub fn needs(alloc: Global, shape: &Shape) -> Mem<List<Need>>
     ensures { IfOk result (λ needs. needs.items ≡ needs_of shape.now) }
 {
@@ -54,7 +57,10 @@ pub fn needs(alloc: Global, shape: &Shape) -> Mem<List<Need>>
 
 /// Adds the needs on the subject of an ACL or a description.
 fn add_auxiliary(alloc: Global, needs: &mut List<Need>, shape: &Shape, subject: &Path) -> Mem<()>
-    ensures { OnOk result (needs.new.items ≡ fold with_need needs.old.items (if is_acl shape.now.path then on subject.now (Control ∷ []) else description_needs shape.now.method shape.now subject.now ++ on subject.now (tag_modes shape.now))) }
+    ensures { OnOk result (needs.new.items ≡ fold with_need needs.old.items
+        (if is_acl shape.now.path then on subject.now (Control ∷ [])
+        else description_needs shape.now.method shape.now subject.now
+        ++ on subject.now (tag_modes shape.now))) }
 {
     if shape.path.is_acl() {
         return add(alloc, needs, subject, &[Mode::Control]);
@@ -65,7 +71,8 @@ fn add_auxiliary(alloc: Global, needs: &mut List<Need>, shape: &Shape, subject: 
 
 /// Adds the needs of a request for what is no ACL and no description.
 fn add_resource(alloc: Global, needs: &mut List<Need>, shape: &Shape) -> Mem<()>
-    ensures { OnOk result (needs.new.items ≡ fold with_need needs.old.items (resource_needs shape.now.method shape.now)) }
+    ensures { OnOk result (needs.new.items ≡ fold with_need needs.old.items
+        (resource_needs shape.now.method shape.now)) }
 {
     let path = &shape.path;
     match shape.method {
@@ -80,7 +87,8 @@ fn add_resource(alloc: Global, needs: &mut List<Need>, shape: &Shape) -> Mem<()>
 
 /// Adds the needs of a PUT.
 fn add_put(alloc: Global, needs: &mut List<Need>, shape: &Shape) -> Mem<()>
-    ensures { OnOk result (needs.new.items ≡ fold with_need needs.old.items (resource_needs Put shape.now)) }
+    ensures { OnOk result (needs.new.items ≡ fold with_need needs.old.items
+        (resource_needs Put shape.now)) }
 {
     if shape.exists {
         add(alloc, needs, &shape.path, &[Mode::Write])
@@ -91,7 +99,8 @@ fn add_put(alloc: Global, needs: &mut List<Need>, shape: &Shape) -> Mem<()>
 
 /// Adds the needs of a PATCH.
 fn add_patch(alloc: Global, needs: &mut List<Need>, shape: &Shape) -> Mem<()>
-    ensures { OnOk result (needs.new.items ≡ fold with_need needs.old.items (resource_needs Patch shape.now)) }
+    ensures { OnOk result (needs.new.items ≡ fold with_need needs.old.items
+        (resource_needs Patch shape.now)) }
 {
     add_patch_modes(alloc, needs, shape, &shape.path)?;
     if shape.exists {
@@ -102,7 +111,8 @@ fn add_patch(alloc: Global, needs: &mut List<Need>, shape: &Shape) -> Mem<()>
 
 /// Adds the needs of a DELETE.
 fn add_delete(alloc: Global, needs: &mut List<Need>, path: &Path) -> Mem<()>
-    ensures { OnOk result (needs.new.items ≡ fold with_need needs.old.items (on path.now (Write ∷ []) ++ on_parent (parent_of path.now) (Write ∷ []))) }
+    ensures { OnOk result (needs.new.items ≡ fold with_need needs.old.items
+        (on path.now (Write ∷ []) ++ on_parent (parent_of path.now) (Write ∷ []))) }
 {
     add(alloc, needs, path, &[Mode::Write])?;
     match path.parent(alloc)? {
@@ -113,7 +123,8 @@ fn add_delete(alloc: Global, needs: &mut List<Need>, path: &Path) -> Mem<()>
 
 /// Adds the needs of a new row.
 fn add_new_row(alloc: Global, needs: &mut List<Need>, shape: &Shape) -> Mem<()>
-    ensures { OnOk result (needs.new.items ≡ fold with_need needs.old.items (new_row_needs shape.now)) }
+    ensures { OnOk result (needs.new.items ≡ fold with_need needs.old.items
+        (new_row_needs shape.now)) }
 {
     add(alloc, needs, &shape.path, &[Mode::Append])?;
     add(alloc, needs, &shape.above, &[Mode::Append])
@@ -121,7 +132,8 @@ fn add_new_row(alloc: Global, needs: &mut List<Need>, shape: &Shape) -> Mem<()>
 
 /// Adds the needs of a request for a description, on its subject.
 fn add_description(alloc: Global, needs: &mut List<Need>, shape: &Shape, subject: &Path) -> Mem<()>
-    ensures { OnOk result (needs.new.items ≡ fold with_need needs.old.items (description_needs shape.now.method shape.now subject.now)) }
+    ensures { OnOk result (needs.new.items ≡ fold with_need needs.old.items
+        (description_needs shape.now.method shape.now subject.now)) }
 {
     match shape.method {
         Method::Get | Method::Head => add(alloc, needs, subject, &[Mode::Read]),
@@ -135,7 +147,8 @@ fn add_description(alloc: Global, needs: &mut List<Need>, shape: &Shape, subject
 
 /// Adds what the patch of a request needs on a path.
 fn add_patch_modes(alloc: Global, needs: &mut List<Need>, shape: &Shape, path: &Path) -> Mem<()>
-    ensures { OnOk result (needs.new.items ≡ fold with_need needs.old.items (on path.now (patch_modes shape.now))) }
+    ensures { OnOk result (needs.new.items ≡ fold with_need needs.old.items
+        (on path.now (patch_modes shape.now))) }
 {
     if shape.conditions {
         add(alloc, needs, path, &[Mode::Read])?;
@@ -151,7 +164,8 @@ fn add_patch_modes(alloc: Global, needs: &mut List<Need>, shape: &Shape, path: &
 
 /// Adds what the preconditions of a request need on a path.
 fn add_tags(alloc: Global, needs: &mut List<Need>, shape: &Shape, path: &Path) -> Mem<()>
-    ensures { OnOk result (needs.new.items ≡ fold with_need needs.old.items (on path.now (tag_modes shape.now))) }
+    ensures { OnOk result (needs.new.items ≡ fold with_need needs.old.items
+        (on path.now (tag_modes shape.now))) }
 {
     if shape.tags {
         return add(alloc, needs, path, &[Mode::Read]);
@@ -161,7 +175,8 @@ fn add_tags(alloc: Global, needs: &mut List<Need>, shape: &Shape, path: &Path) -
 
 /// Adds modes on a path, but for those that are there.
 fn add(alloc: Global, needs: &mut List<Need>, path: &Path, modes: &[Mode]) -> Mem<()>
-    ensures { OnOk result (needs.new.items ≡ fold with_need needs.old.items (on path.now modes.now)) }
+    ensures { OnOk result (needs.new.items ≡ fold with_need needs.old.items
+        (on path.now modes.now)) }
 {
     for mode in modes {
         add_one(alloc, needs, path, *mode)?;
@@ -171,7 +186,8 @@ fn add(alloc: Global, needs: &mut List<Need>, path: &Path, modes: &[Mode]) -> Me
 
 /// Adds a mode on a path, unless it is there.
 fn add_one(alloc: Global, needs: &mut List<Need>, path: &Path, mode: Mode) -> Mem<()>
-    ensures { OnOk result (needs.new.items ≡ with_need needs.old.items (record { path = path.now; mode = mode })) }
+    ensures { OnOk result (needs.new.items
+        ≡ with_need needs.old.items (record { path = path.now; mode = mode })) }
 {
     if has_need(needs.as_slice(), path, mode) {
         return Ok(());
@@ -181,7 +197,8 @@ fn add_one(alloc: Global, needs: &mut List<Need>, path: &Path, mode: Mode) -> Me
 
 /// Adds a mode on a path.
 fn push(alloc: Global, needs: &mut List<Need>, path: &Path, mode: Mode) -> Mem<()>
-    ensures { OnOk result (needs.new.items ≡ needs.old.items ++ (record { path = path.now; mode = mode }) ∷ []) }
+    ensures { OnOk result (needs.new.items
+        ≡ needs.old.items ++ (record { path = path.now; mode = mode }) ∷ []) }
 {
     let path = path.copy(alloc)?;
     match needs.push(alloc, Need { path, mode }) {
