@@ -13,7 +13,7 @@ use Rattle.std.proofs.lemmas.List.Kept.{IsStrictlySortedBy-filter}
 use Rattle.rdf_graph.specs.Graph.{IsGraph, IsOrdered}
 use Rattle.rdf_graph.specs.Term.{term_eq}
 use Rattle.rdf_graph.specs.TermLaws.{term_eq_decides}
-use Rattle.rdf_graph.specs.Triple.{Agrees, triple_cmp}
+use Rattle.rdf_graph.specs.Triple.{triple_cmp}
 use Rattle.rdf_graph.specs.TripleLaws.{triple_cmp_total}
 use Rattle.rdf_graph.specs.declared.term.Term.{Term}
 use Rattle.rdf_graph.specs.declared.term.Term.TheVariants.{Iri}
@@ -121,7 +121,7 @@ rules_ordered base g graph =
 -- ---- the walk over the triples of a node
 
 pub walked : (node : Term) (g found : List Triple) → IsOrdered g → IsOrdered found
-    → ((x : Triple) → Contains found x ↔ (Contains g x × Agrees (Some node) None None x)) → found ≡ triples_of node g
+    → ((x : Triple) → Contains found x ↔ (Contains g x × ((x.s ≡ node) × Unit {0} × Unit {0}))) → found ≡ triples_of node g
 walked node g found ordered sorted members =
     one_list triple_cmp_total triple_cmp_exact found (triples_of node g) sorted
     (IsStrictlySortedBy-filter triple_cmp (λ t. term_eq t.s node) g ordered)
