@@ -1,5 +1,5 @@
 -- When an image beside the active journal is passed over.
-use Rattle.std.proofs.Common.{◌≡◌, ◌⊎◌, inl, inr, ⊎_elim, ℕ, ◌+◌, ◌<◌, ◌≤◌, ◌^◌, List, [], ◌∷◌, ◌++◌, length, refl, sym, ◌∙◌, ap, subst, arith, length-append}
+use Rattle.std.proofs.Common.{◌≡◌, inl, inr, ⊎_elim, ℕ, ◌+◌, ◌<◌, ◌≤◌, ◌^◌, List, [], ◌∷◌, ◌++◌, length, refl, sym, ◌∙◌, ap, subst, arith, length-append}
 use Rattle.pod_disk.specs.Disk.{EachImage}
 use Rattle.journal_log.specs.Frames.{sized, framed_of}
 use Rattle.journal_log.specs.Heads.{encoded_head}
@@ -16,10 +16,10 @@ use Rattle.journal_log.proofs.Splits.{first_is, parts_are, length_head, heads_ar
 use Rattle.journal_log.proofs.Records.{length_closed, length_opening}
 use Rattle.journal_log.proofs.Classifying.{some_class_lem, new_lem}
 use Rattle.journal_pair.specs.Sides.{active_of, other_of, opposite_of}
-use Rattle.journal_pair.specs.Stores.{IsTakenBefore, IsPassedOver, IsTaken, StoreStands, StoreStandsEither, StoreStandsBoth}
+use Rattle.journal_pair.specs.Stores.{IsTakenBefore, IsPassedOver, StoreStands, StoreStandsEither, StoreStandsBoth}
 use Rattle.journal_pair.specs.PairJournal.{HasSnapshot}
 use Rattle.journal_pair.specs.PairMoments.{IsWhileCheckpointed}
-use Rattle.journal_pair.proofs.Classing.{code, one_epoch, other_class}
+use Rattle.journal_pair.proofs.Classing.{one_epoch, other_class}
 
 -- a closed first gate
 closed_not_open : (c : List ℕ) (epoch : ℕ) → IsFirstGateClosed c → HasClass (Open epoch) c → ⊥

@@ -1,18 +1,18 @@
 -- What a checkpoint leaves.
-use Rattle.std.proofs.Common.{◌≡◌, inr, ⊎_elim, ℕ, ◌+◌, ◌<◌, ◌≤◌, ◌^◌, List, Option, Some, length, sym, ◌∙◌, ap, subst, arith}
+use Rattle.std.proofs.Common.{◌≡◌, ℕ, ◌+◌, ◌<◌, ◌≤◌, ◌^◌, List, Option, Some, length, sym, ◌∙◌, subst, arith}
 use Rattle.pod_io.specs.Visible.{IfVisible}
 use Rattle.pod_disk.specs.Disk.{EachImage, LeavesOnly}
 use Rattle.pod_disk.proofs.Moments.{weaker, holds_now}
 use Rattle.journal_log.specs.Classes.{HasClass}
 use Rattle.journal_log.specs.CleanJournal.{IsClean}
 use Rattle.journal_log.specs.JournalState.{JournalState}
-use Rattle.journal_log.specs.Renewing.{IsBeforeOpening, IsNewJournal, IsWhileRenewed}
+use Rattle.journal_log.specs.Renewing.{IsBeforeOpening, IsWhileRenewed}
 use Rattle.journal_log.specs.declared.class.DiskClass.TheVariants.{Open}
 use Rattle.journal_log.specs.declared.fault.Side.{Side}
 use Rattle.journal_pair.specs.Sides.{active_of, other_of, opposite_of}
 use Rattle.journal_pair.specs.Stores.{IsPassedOver, StoreStandsBoth}
 use Rattle.journal_pair.specs.PairState.{PairState}
-use Rattle.journal_pair.specs.PairJournal.{IsPairClean, IsCheckpointInDoubt, IsPassedBeside, IsLongBeside}
+use Rattle.journal_pair.specs.PairJournal.{IsPairClean, IsPassedBeside, IsLongBeside}
 use Rattle.journal_pair.specs.PairMoments.{LeavesPairs, IsWhileCheckpointed}
 use Rattle.journal_pair.proofs.Beside.{before_passed, while_passed, snapshot_open, open_passed, open_long, opposite_other}
 use Rattle.journal_pair.proofs.Pairing.{clean_each, both_run}

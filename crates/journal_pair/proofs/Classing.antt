@@ -1,12 +1,12 @@
 -- From the classes of two disks to what their images are.
-use Rattle.std.proofs.Common.{◌≡◌, ◌⊎◌, inl, inr, ⊎_elim, ℕ, List, refl, sym, ◌∙◌, ap, subst, arith}
+use Rattle.std.proofs.Common.{◌≡◌, inl, inr, ⊎_elim, ℕ, List, ap, subst}
 use Rattle.journal_log.specs.Classes.{HasClass}
 use Rattle.journal_log.specs.declared.class.DiskClass.{DiskClass}
 use Rattle.journal_log.specs.declared.class.DiskClass.TheVariants.{Empty, Short, Torn, Closed, Wrong, Open}
 use Rattle.journal_log.specs.declared.fault.Side.{Side}
 use Rattle.journal_log.specs.declared.fault.Side.TheVariants.{First, Second}
 use Rattle.journal_log.proofs.Classifying.{one_class_lem}
-use Rattle.journal_pair.specs.Sides.{active_of, other_of, opposite_of}
+use Rattle.journal_pair.specs.Sides.{active_of, other_of}
 use Rattle.journal_pair.specs.Stores.{IsPassedOver, IsTaken, IsUnopened, IsBesideUnopened, IsStoreDamaged, IsStoreEmpty}
 use Rattle.journal_pair.specs.Choices.{IsPassedClass, IsUnopenedClass, IsBesideClass, IsChosen}
 use Rattle.journal_pair.specs.declared.choice.Choice.TheVariants as choice

@@ -1,14 +1,13 @@
 -- Opening: from the classes of two disks to what is opened.
-use Rattle.std.proofs.Common.{◌≡◌, ◌⊎◌, inl, inr, ⊎_elim, ℕ, ◌+◌, ◌<◌, ◌≤◌, ◌^◌, List, Option, Some, [], ◌∷◌, length, refl, sym, ◌∙◌, ap, subst, arith}
+use Rattle.std.proofs.Common.{◌≡◌, ◌⊎◌, inl, inr, ⊎_elim, ℕ, ◌≤◌, List, Option, Some, [], ◌∷◌, length, sym, ap, subst, arith}
 use Rattle.pod_io.specs.Visible.{IfVisible}
 use Rattle.pod_disk.specs.Disk.{EachImage, LeavesOnly}
-use Rattle.pod_disk.proofs.Moments.{both, weaker}
+use Rattle.pod_disk.proofs.Moments.{both}
 use Rattle.journal_log.specs.Classes.{HasClass}
-use Rattle.journal_log.specs.Images.{Stands, IsDamaged}
+use Rattle.journal_log.specs.Images.{Stands}
 use Rattle.journal_log.specs.Opening.{IsWhileOpened}
 use Rattle.journal_log.specs.Causes.{HasCause}
 use Rattle.journal_log.specs.JournalState.{JournalState}
-use Rattle.journal_log.specs.declared.class.DiskClass.{DiskClass}
 use Rattle.journal_log.specs.declared.class.DiskClass.TheVariants as class
 use Rattle.journal_log.specs.declared.fault.Side.{Side}
 use Rattle.journal_log.specs.declared.fault.Side.TheVariants.{First, Second}
@@ -22,7 +21,7 @@ use Rattle.journal_pair.specs.PairMoments.{LeavesPairs, IsWhileStoreOpened}
 use Rattle.journal_pair.specs.Causes.{IfBothVisible, HasStoreCause}
 use Rattle.journal_pair.specs.Choices.{IsChosenBy}
 use Rattle.journal_pair.specs.declared.choice.Choice.TheVariants as choice
-use Rattle.journal_pair.proofs.Classing.{code, one_epoch, other_class, passed_of, taken_of, damaged_of, empty_of}
+use Rattle.journal_pair.proofs.Classing.{one_epoch, other_class, passed_of, taken_of, damaged_of, empty_of}
 use Rattle.journal_pair.proofs.Beside.{stands_open, stands_none}
 
 module _ {D : Type 0} (content : D → Option (List ℕ)) (first second : D) where

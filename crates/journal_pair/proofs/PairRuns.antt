@@ -1,5 +1,5 @@
 -- From what each of two disks leaves to what they leave together.
-use Rattle.std.proofs.Common.{◌≡◌, ◌≤◌, ℕ, List, sym, subst}
+use Rattle.std.proofs.Common.{◌≡◌, ℕ, List, sym, subst}
 use Rattle.pod_disk.specs.Disk.{EachImage, LeavesOnly}
 use Rattle.pod_disk.proofs.Moments.{no_call}
 use Rattle.journal_log.specs.declared.fault.Side.{Side}

@@ -1,16 +1,14 @@
 -- A pair that is clean or in doubt, and what its disks stand for.
-use Rattle.std.proofs.Common.{◌≡◌, ◌⊎◌, inl, inr, ⊎_elim, ℕ, ◌+◌, ◌<◌, ◌≤◌, ◌^◌, List, [], ◌∷◌, ◌++◌, length, true, false, refl, sym, ◌∙◌, ap, subst, arith}
-use Rattle.pod_io.specs.Visible.{IfVisible}
+use Rattle.std.proofs.Common.{◌≡◌, inr, ℕ, ◌<◌, ◌^◌, List, length, sym, subst}
 use Rattle.pod_disk.specs.Disk.{EachImage, LeavesOnly}
 use Rattle.journal_log.specs.Images.{Stands, IsEither}
 use Rattle.journal_log.specs.JournalState.{JournalState}
 use Rattle.journal_log.specs.CleanJournal.{IsClean, IsInDoubt}
-use Rattle.journal_log.specs.declared.fault.Side.{Side}
 use Rattle.journal_log.proofs.Records.{stands_closed, stands_opening}
 use Rattle.journal_pair.specs.Sides.{active_of, other_of}
 use Rattle.journal_pair.specs.Stores.{IsPassedOver, StoreStands, StoreStandsEither, StoreStandsBoth}
 use Rattle.journal_pair.specs.PairState.{PairState}
-use Rattle.journal_pair.specs.PairJournal.{HasSnapshot, IsPairClean, IsAppendInDoubt, IsCheckpointInDoubt, IsPassedBeside, IsLongBeside}
+use Rattle.journal_pair.specs.PairJournal.{HasSnapshot, IsPairClean, IsAppendInDoubt, IsCheckpointInDoubt, IsPassedBeside}
 use Rattle.journal_pair.specs.PairMoments.{LeavesPairs, EachPair, IsWhileCheckpointed}
 use Rattle.journal_pair.proofs.Beside.{store_stands, store_stands_either, store_stands_both}
 use Rattle.journal_pair.proofs.PairRuns.{kept_run, pairs_of, each_pair}

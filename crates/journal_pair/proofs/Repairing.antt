@@ -1,7 +1,7 @@
 -- What a repair leaves.
-use Rattle.std.proofs.Common.{◌≡◌, ◌⊎◌, inl, inr, ⊎_elim, ℕ, ◌+◌, ◌<◌, ◌≤◌, ◌^◌, List, Option, Some, length, true, false, sym, ◌∙◌, ap, subst, arith}
+use Rattle.std.proofs.Common.{◌≡◌, inl, inr, ℕ, ◌+◌, ◌≤◌, List, Option, Some, length, true, false, sym, ◌∙◌}
 use Rattle.pod_io.specs.Visible.{IfVisible}
-use Rattle.pod_disk.specs.Disk.{EachImage, LeavesOnly}
+use Rattle.pod_disk.specs.Disk.{LeavesOnly}
 use Rattle.pod_disk.proofs.Moments.{weaker, holds_now}
 use Rattle.journal_log.specs.Renewing.{IsNewJournal}
 use Rattle.journal_pair.specs.Sides.{active_of, other_of}

@@ -1,5 +1,5 @@
 -- Two images are read in one way.
-use Rattle.std.proofs.Common.{◌≡◌, ◌⊎◌, inl, inr, ⊎_elim, ℕ, ◌<◌, ◌≤◌, List, refl, sym, ◌∙◌, ap, subst, arith}
+use Rattle.std.proofs.Common.{◌≡◌, ◌⊎◌, inl, inr, ⊎_elim, ℕ, ◌≤◌, List, refl, sym, ◌∙◌, subst, arith}
 use Rattle.journal_log.specs.Classes.{HasClass}
 use Rattle.journal_log.specs.Images.{Stands, IsDamaged}
 use Rattle.journal_log.specs.declared.class.DiskClass.{DiskClass}

@@ -2,7 +2,6 @@
 use Rattle.std.specs.Prelude.{◌≤◌, ◌⊎◌, ℕ, List, Option, Result, IsErr}
 use Rattle.pod_base.specs.Counts.{CountIncreased}
 use Rattle.pod_io.specs.Visible.{IfVisible}
-use Rattle.journal_log.specs.declared.fault.Side.{Side}
 use Rattle.journal_log.specs.declared.fault.OpenFault.{OpenFault}
 use Rattle.journal_log.specs.declared.fault.OpenFault.TheVariants.{Empty, Damaged, DiskFault}
 use Rattle.journal_log.specs.declared.fault.OpenFault.TheVariants.{NoMemory}

@@ -1,5 +1,5 @@
 -- A pair on two disks with these crash images.
-use Rattle.std.specs.Prelude.{◌≡◌, ◌⊎◌, ◌<◌, ◌≤◌, ◌+◌, ◌^◌, ℕ, List, [], ◌∷◌, length, true, false}
+use Rattle.std.specs.Prelude.{◌≡◌, ◌⊎◌, ◌<◌, ◌≤◌, ◌+◌, ◌^◌, ℕ, List, ◌∷◌, length, true, false}
 use Rattle.pod_disk.specs.Disk.{EachImage}
 use Rattle.journal_log.specs.Frames.{framed_of}
 use Rattle.journal_log.specs.CleanJournal.{IsShort, IsClean, IsInDoubt}

@@ -1,5 +1,5 @@
 -- That two images are read in one way.
-use Rattle.std.specs.Prelude.{◌≡◌, ◌⊎◌, ℕ, List}
+use Rattle.std.specs.Prelude.{◌≡◌, ℕ, List}
 use Rattle.journal_log.specs.declared.fault.Side.{Side}
 use Rattle.journal_pair.specs.Stores.{StoreStands, IsStoreEmpty, IsStoreDamaged}
 

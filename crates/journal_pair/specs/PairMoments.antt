@@ -1,5 +1,5 @@
 -- What a crash at any moment leaves of two disks.
-use Rattle.std.specs.Prelude.{◌≡◌, ◌⊎◌, ◌+◌, ◌≤◌, ℕ, List, length}
+use Rattle.std.specs.Prelude.{◌⊎◌, ◌+◌, ◌≤◌, ℕ, List, length}
 use Rattle.journal_log.specs.Opening.{IsWhileOpened}
 use Rattle.journal_log.specs.Renewing.{IsNewJournal}
 use Rattle.journal_log.specs.declared.fault.Side.{Side}

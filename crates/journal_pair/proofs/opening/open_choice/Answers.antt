@@ -1,7 +1,7 @@
 use Rattle.std.proofs.Common.{subst}
 use Rattle.journal_pair.specs.Choices.{IsChosenBy}
 use Rattle.journal_pair.specs.declared.choice.Choice.{Choice}
-use Rattle.journal_pair.proofs.PairOpening.{opened_first, opened_second, chosen_damaged, chosen_empty}
+use Rattle.journal_pair.proofs.PairOpening.{opened_first, chosen_damaged, chosen_empty}
 use Rattle.journal_pair.proofs.opening.open_choice.Goals as goal
 
 pub returns-in-Take-clause-first : goal.returns-in-Take-clause-first

@@ -1,4 +1,4 @@
-use Rattle.std.proofs.Common.{[], ◌∷◌, ◌++◌, List, ℕ, OnOk, sym, subst}
+use Rattle.std.proofs.Common.{ℕ, sym, subst}
 use Rattle.std.proofs.lemmas.Result.{on_ok_weaker}
 use Rattle.pod_disk.specs.Disk.{EachImage, LeavesOnly}
 use Rattle.journal_log.specs.Images.{IsEither}

@@ -1,8 +1,7 @@
-use Rattle.std.proofs.Common.{◌+◌, ℕ, List, Err, inl, inr, refl, sym, ◌∙◌, ap, subst, arith}
+use Rattle.std.proofs.Common.{◌+◌, ℕ, Err, inl, inr, refl, sym, ◌∙◌, ap, subst, arith}
 use Rattle.pod_disk.specs.Disk.{EachImage}
 use Rattle.journal_log.specs.Renewing.{IsNewJournal}
 use Rattle.journal_pair.specs.Sides.{other_of}
-use Rattle.journal_pair.specs.Stores.{IsPassedOver}
 use Rattle.journal_pair.specs.PairState.{PairState}
 use Rattle.journal_pair.specs.PairJournal.{IsPairClean}
 use Rattle.journal_pair.proofs.Pairing.{clean_pairs}

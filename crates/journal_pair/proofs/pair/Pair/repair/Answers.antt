@@ -1,4 +1,4 @@
-use Rattle.std.proofs.Common.{rules, ◌+◌, inl, inr, refl, sym, ap, subst, List, ℕ}
+use Rattle.std.proofs.Common.{rules, ◌+◌, inr, sym, subst}
 use Rattle.std.proofs.lemmas.Result.{on_ok_weaker, on_err_weaker}
 use Rattle.pod_disk.specs.Disk.{LeavesOnly}
 use Rattle.journal_log.specs.Images.{IsEither}
@@ -6,7 +6,7 @@ use Rattle.journal_log.specs.Renewing.{IsNewJournal}
 use Rattle.journal_pair.specs.Sides.{active_of, other_of}
 use Rattle.journal_pair.specs.Stores.{StoreStandsEither, StoreStandsBoth}
 use Rattle.journal_pair.specs.PairState.{PairState}
-use Rattle.journal_pair.specs.PairJournal.{IsPairClean, IsAppendInDoubt, IsCheckpointInDoubt, IsPairInDoubt, IsPassedBeside}
+use Rattle.journal_pair.specs.PairJournal.{IsAppendInDoubt, IsCheckpointInDoubt, IsPairInDoubt, IsPassedBeside}
 use Rattle.journal_pair.specs.PairMoments.{LeavesPairs}
 use Rattle.journal_pair.proofs.Beside.{closed_passed}
 use Rattle.journal_pair.proofs.Pairing.{either_run}
