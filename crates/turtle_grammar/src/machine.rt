@@ -1,0 +1,123 @@
+//! The machine that reads symbols one by one.
+
+ghost use Rattle.std.specs.Prelude.{◌≡◌, ◌≤◌, ◌-◌, ◌+◌, [], Err, OnOk, OnTrue, OnFalse};
+ghost use Rattle.turtle_grammar.specs.Derivations.{is_allowed, braces_after, depth_after};
+
+use crate::engine::Engine;
+use crate::fault::{DEPTH_LIMIT, Refusal};
+use crate::production::{Production, SymbolicTriple};
+use crate::symbol::{Start, Symbol};
+use std::alloc::Global;
+use turtle_lex::TokenKind;
+
+/// Whether the language of a start symbol has this symbol where so many braces are open.
+fn is_allowed(start: Start, braces: usize, symbol: Symbol) -> bool
+    ensures { result ≡ is_allowed start braces symbol }
+{
+    match (start, symbol) {
+        (Start::Document, Symbol::Token(TokenKind::OpenBrace | TokenKind::Variable)) => false,
+        (Start::Patch, Symbol::Token(TokenKind::Variable)) => 0 < braces,
+        (Start::Update, Symbol::Token(TokenKind::OpenBrace)) => braces < 1,
+        (Start::Update, Symbol::Token(TokenKind::Variable)) => false,
+        _ => true,
+    }
+}
+
+fn braces_after(braces: usize, symbol: Symbol) -> Result<usize, Refusal>
+    ensures { IfOk result (λ braces'. braces' ≡ braces_after braces symbol) }
+{
+    match symbol {
+        Symbol::Token(TokenKind::OpenBrace) => match braces.checked_add(1) {
+            Some(more) => Ok(more),
+            None => Err(Refusal::NoMemory),
+        },
+        Symbol::Token(TokenKind::CloseBrace) => Ok(braces.saturating_sub(1)),
+        _ => Ok(braces),
+    }
+}
+
+fn depth_after(depth: usize, symbol: Symbol) -> usize
+    requires { depth ≤ DEPTH_LIMIT }
+    ensures { result ≡ depth_after depth symbol }
+{
+    match symbol {
+        Symbol::Token(TokenKind::OpenSquare | TokenKind::OpenRound | TokenKind::OpenBrace) => {
+            depth + 1
+        }
+        Symbol::Token(TokenKind::CloseSquare | TokenKind::CloseRound | TokenKind::CloseBrace) => {
+            depth.saturating_sub(1)
+        }
+        _ => depth,
+    }
+}
+
+/// Reads symbols one by one, from a start symbol on.
+#[derive(Drop)]
+pub struct Machine {
+    start: Start,
+    braces: usize,
+    depth: usize,
+    engine: Engine,
+    ghost low: { depth ≤ DEPTH_LIMIT },
+}
+
+impl Machine {
+    ghost use Rattle.turtle_grammar.specs.Readings.{HasRead, ReadsOn, StopsAt, IsTooDeepAt};
+    ghost use Rattle.turtle_grammar.specs.Readings.{IsDerived, IsUnfinished, Waits, produced_by};
+
+    /// The machine before the first symbol. It has no memory yet.
+    pub fn new(alloc: Global, start: Start) -> Machine
+        ensures { HasRead start [] [] result }
+    {
+        Machine {
+            start,
+            braces: 0,
+            depth: 0,
+            engine: Engine::new(alloc, start),
+        }
+    }
+
+    /// Reads the next symbol. After a refusal the machine has read nothing that is known.
+    pub fn step(&mut self, symbol: Symbol) -> Result<(), Refusal>
+        ensures read { OnOk result (ReadsOn symbol self.old self.new) }
+        ensures grammar { result ≡ Err Refusal.Grammar → StopsAt symbol self.old }
+        ensures depth { result ≡ Err Refusal.Depth → IsTooDeepAt symbol self.old }
+    {
+        if !is_allowed(self.start, self.braces, symbol) {
+            return Err(Refusal::Grammar);
+        }
+        if !self.engine.step(symbol)? {
+            return Err(Refusal::Grammar);
+        }
+        let depth = depth_after(self.depth, symbol);
+        if depth > DEPTH_LIMIT {
+            return Err(Refusal::Depth);
+        }
+        self.braces = braces_after(self.braces, symbol)?;
+        self.depth = depth;
+        Ok(())
+    }
+
+    /// What the last symbol produced, in order. A String's triple is produced with the symbol after
+    /// it, which may add a tag or a datatype.
+    pub fn produced(&self) -> &[Production]
+        ensures { result.now ≡ produced_by self.now }
+    {
+        self.engine.produced()
+    }
+
+    /// The triple of the last symbol, where it is a String to which nothing is added.
+    pub fn waiting(&self) -> Option<SymbolicTriple>
+        ensures { Waits result self.now }
+    {
+        self.engine.waiting()
+    }
+
+    /// Whether what was read has a derivation. No later production names a token before here.
+    pub fn is_complete(&self) -> bool
+        ensures complete { OnTrue result (IsDerived self.now) }
+        ensures unfinished { OnFalse result (IsUnfinished self.now) }
+    {
+        self.engine.is_empty()
+    }
+}
