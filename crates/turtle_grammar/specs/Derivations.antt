@@ -9,7 +9,7 @@ use Rattle.turtle_grammar.specs.declared.symbol.Start.TheVariants.{Document, Pat
 use Rattle.turtle_grammar.specs.declared.symbol.Symbol.{Symbol}
 use Rattle.turtle_grammar.specs.declared.symbol.Symbol.TheVariants.{Token}
 use Rattle.turtle_grammar.specs.declared.production.Production.{Production}
-use Rattle.turtle_grammar.specs.declared.TheConstants.{DEPTH_LIMIT}
+use Rattle.turtle_grammar.specs.declared.fault.TheConstants.{DEPTH_LIMIT}
 use Rattle.turtle_grammar.specs.Trees.{Statement}
 use Rattle.turtle_grammar.specs.Trees.{Update as UpdateTree}
 use Rattle.turtle_grammar.specs.TreeSymbols.{document_symbols, update_symbols}
@@ -36,16 +36,27 @@ braces_after n (Token OpenBrace) = n + 1
 braces_after n (Token CloseBrace) = n - 1
 braces_after n symbol = n
 
--- Whether the language has this symbol where n braces are open: Turtle has neither braces nor
--- variables; in a patch variables stand in formulas; an update has no variables, and no formula
--- inside another.
+-- Whether the language has this symbol where n braces are open. Turtle has neither braces nor
+-- variables. In a patch variables stand in formulas. An update has no variables and no formula in a
+-- formula, and its words stand outside formulas.
+abbrev pub has_brace : Start → ℕ → Bool
+has_brace Document n = false
+has_brace Patch n = true
+has_brace Update n = nat_lt n 1
+
+abbrev pub has_variable : Start → ℕ → Bool
+has_variable Patch n = nat_lt 0 n
+has_variable start n = false
+
+abbrev pub has_word : Start → ℕ → Bool
+has_word Update n = nat_lt n 1
+has_word start n = false
+
 abbrev pub is_allowed : Start → ℕ → Symbol → Bool
-is_allowed Document n (Token OpenBrace) = false
-is_allowed Document n (Token Variable) = false
-is_allowed Patch n (Token Variable) = nat_lt 0 n
-is_allowed Update n (Token OpenBrace) = nat_lt n 1
-is_allowed Update n (Token Variable) = false
-is_allowed start n symbol = true
+is_allowed start n (Token OpenBrace) = has_brace start n
+is_allowed start n (Token Variable) = has_variable start n
+is_allowed start n (Token kind) = true
+is_allowed start n word = has_word start n
 
 abbrev pub AreAllowed : Start → ℕ → List Symbol → Type 0
 AreAllowed start n [] = Unit {0}

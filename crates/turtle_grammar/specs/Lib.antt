@@ -3,5 +3,6 @@ pub mod TreeSymbols
 pub mod Productions
 pub mod Derivations
 pub mod Readings
+pub mod Laws
 -- internal: cited by private clauses alone
 pub mod Stacks

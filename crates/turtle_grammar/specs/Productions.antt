@@ -80,29 +80,27 @@ literal_end (typed_string i) s p m =
     passed (says s p (node.Typed m.at (m.at + 1 + 1)) (passed (passed m)))
 literal_end l s p m = says_token s p m
 
-abbrev mutual
-  -- The subject is this node.
-  pub subject_node : Subject → Point → Node
-  subject_node subject_anon m = fresh m
-  subject_node (subject_collection none) m = node.Nil
-  subject_node (subject_collection (more o os)) m = fresh (passed m)
-  subject_node s m = node.Token m.at
+-- the node of a collection, after its `(`
+abbrev pub collection_node : Objects → Point → Node
+collection_node none m = node.Nil
+collection_node (more o os) m = fresh m
 
+abbrev pub subject_node : Subject → Point → Node
+subject_node subject_anon m = fresh m
+subject_node (subject_collection os) m = collection_node os (passed m)
+subject_node s m = node.Token m.at
+
+abbrev mutual
   pub subject_end : Subject → Point → Point
   subject_end subject_anon m = passed (counted m)
-  subject_end (subject_collection none) m = passed (passed m)
-  subject_end (subject_collection (more o os)) m =
-      passed (element_end os (fresh (passed m))
-          (object_end o (fresh (passed m)) node.First (counted (passed m))))
+  subject_end (subject_collection os) m = passed (collection_end os (passed m))
   subject_end s m = passed m
 
   -- The object of this subject and predicate.
   pub object_end : Object → Node → Node → Point → Point
   object_end anon s p m = passed (says s p (fresh m) (counted m))
-  object_end (collection none) s p m = passed (says s p node.Nil (passed m))
-  object_end (collection (more o os)) s p m =
-      passed (says s p (fresh (passed m)) (element_end os (fresh (passed m))
-          (object_end o (fresh (passed m)) node.First (counted (passed m)))))
+  object_end (collection os) s p m =
+      passed (says s p (collection_node os (passed m)) (collection_end os (passed m)))
   object_end (property_list q) s p m =
       passed (says s p (fresh m) (list_end q (fresh m) (passed (counted m))))
   object_end (literal l) s p m = literal_end l s p m
@@ -110,6 +108,12 @@ abbrev mutual
       passed (says s p (node.Formula m.at) (moved m.within
           (formula_end f (moved (within.Formula m.at) (passed m)))))
   object_end o s p m = says_token s p m
+
+  -- The elements of a collection, after its `(`.
+  pub collection_end : Objects → Point → Point
+  collection_end none m = m
+  collection_end (more o os) m =
+      element_end os (fresh m) (object_end o (fresh m) node.First (counted m))
 
   -- The elements after this cell.
   pub element_end : Objects → Node → Point → Point

@@ -10,10 +10,12 @@ use Rattle.turtle_grammar.specs.declared.symbol.Symbol.TheVariants.{Token}
 use Rattle.turtle_grammar.specs.declared.production.SymbolicTriple.{SymbolicTriple}
 use Rattle.turtle_grammar.specs.declared.production.Production.{Production}
 use Rattle.turtle_grammar.specs.declared.production.Production.TheVariants.{Prefix, Base, Triple}
+use Rattle.turtle_grammar.specs.declared.fault.Refusal.{Refusal}
+use Rattle.turtle_grammar.specs.declared.fault.Refusal.TheVariants as refusal
 use Rattle.turtle_grammar.specs.declared.fault.GrammarFault.{GrammarFault}
 use Rattle.turtle_grammar.specs.declared.fault.GrammarFault.TheVariants.{Grammar, Depth, NoMemory}
 use Rattle.turtle_grammar.specs.declared.machine.Machine.{Machine}
-use Rattle.turtle_grammar.specs.declared.TheConstants.{DEPTH_LIMIT}
+use Rattle.turtle_grammar.specs.declared.fault.TheConstants.{DEPTH_LIMIT}
 use Rattle.turtle_grammar.specs.Derivations.{Derives, GoesOn, IsFault, IsTooDeep, IsShallow}
 use Rattle.turtle_grammar.specs.Derivations.{AreAllowed, braces_from, depth_from}
 use Rattle.turtle_grammar.specs.Stacks.{run, at_point, with_produced}
@@ -65,6 +67,12 @@ ReadsOn symbol old new =
     → HasRead start symbols productions old
     → HasRead start (symbols ++ symbol ∷ []) (productions ++ produced_by new) new
 
+-- the same beside a list of all that was produced
+abbrev pub CollectsOn : Symbol → Machine → List Production → Machine → List Production → Type 0
+CollectsOn symbol old before new after =
+    (start : Start) (symbols : List Symbol) → HasRead start symbols before old
+    → HasRead start (symbols ++ symbol ∷ []) after new
+
 -- whatever was read, it doesn't go on with this symbol
 abbrev pub StopsAt : Symbol → Machine → Type 0
 StopsAt symbol machine =
@@ -78,6 +86,12 @@ IsTooDeepAt symbol machine =
     (start : Start) (symbols : List Symbol) (productions : List Production)
     → HasRead start symbols productions machine
     → GoesOn start (symbols ++ symbol ∷ []) × IsTooDeep (symbols ++ symbol ∷ []) (length symbols)
+
+-- what a refusal of this symbol says of the machine before
+abbrev pub IsRefused : Refusal → Symbol → Machine → Type 0
+IsRefused refusal.Grammar symbol machine = StopsAt symbol machine
+IsRefused refusal.Depth symbol machine = IsTooDeepAt symbol machine
+IsRefused refusal.NoMemory symbol machine = Unit {0}
 
 -- whatever was read has a derivation, which produces what was produced
 abbrev pub IsDerived : Machine → Type 0

@@ -262,6 +262,12 @@ abbrev pub take_symbol : List Goal → Rest → Point → Symbol → Option Stag
 take_symbol [] w m t = top w m t
 take_symbol (g ∷ gs) w m t = staged w (before gs (begins g m t))
 
+-- whether the symbol adds something to a String before it
+abbrev pub adds_to_string : Symbol → Bool
+adds_to_string (Token kind.LangTag) = true
+adds_to_string (Token kind.Carets) = true
+adds_to_string t = false
+
 -- One step of the machine: what may follow a String gives way to the goal after it.
 abbrev pub step : List Goal → Rest → Point → Symbol → Option Stage
 step (goal.Suffix s p x ∷ gs) w m (Token kind.LangTag) =

@@ -2,10 +2,10 @@
 
 ghost use Rattle.std.specs.Prelude.{◌≡◌, ◌↔◌, ◌+◌, ◌∷◌, [], IfOk, OnOk, IfSome, IfNone, IsTrue};
 
-use crate::fault::Refusal;
 use crate::goal::{Goal, Rest};
 use crate::production::{Node, Production, SymbolicTriple, Within};
 use crate::symbol::Start;
+use pod_base::{Mem, NoMemory};
 use std::alloc::Global;
 use std::marker::Model;
 
@@ -52,7 +52,7 @@ impl Engine {
         }
     }
 
-    pub fn want(&mut self, goal: Goal) -> Result<(), Refusal>
+    pub fn want(&mut self, goal: Goal) -> Mem<()>
         ensures { OnOk result (self.new ≡ wants goal self.old) }
     {
         self.stack.push(goal)?;
@@ -60,17 +60,17 @@ impl Engine {
     }
 
     /// The walk passes a token.
-    pub fn pass(&mut self) -> Result<(), Refusal>
+    pub fn pass(&mut self) -> Mem<()>
         ensures { OnOk result (self.new ≡ at_point (passed self.old.point) self.old) }
     {
         if self.at == usize::MAX {
-            return Err(Refusal::NoMemory);
+            return Err(NoMemory);
         }
         self.at += 1;
         Ok(())
     }
 
-    pub fn produce(&mut self, production: Production) -> Result<(), Refusal>
+    pub fn produce(&mut self, production: Production) -> Mem<()>
         ensures { OnOk result (self.new ≡ at_point (produces production self.old.point) self.old) }
     {
         self.produced.push(production)?;
@@ -84,7 +84,7 @@ impl Engine {
         subject: Node,
         predicate: Node,
         object: Node,
-    ) -> Result<(), Refusal>
+    ) -> Mem<()>
         ensures { OnOk result (self.new
             ≡ at_point (triple_at end subject predicate object self.old.point) self.old) }
     {
@@ -99,7 +99,7 @@ impl Engine {
     }
 
     /// The triple that ends at the present token.
-    pub fn say(&mut self, subject: Node, predicate: Node, object: Node) -> Result<(), Refusal>
+    pub fn say(&mut self, subject: Node, predicate: Node, object: Node) -> Mem<()>
         ensures { OnOk result (self.new
             ≡ at_point (says subject predicate object self.old.point) self.old) }
     {
@@ -107,13 +107,13 @@ impl Engine {
     }
 
     /// The next unnamed node.
-    pub fn number(&mut self) -> Result<Node, Refusal>
+    pub fn number(&mut self) -> Mem<Node>
         ensures node { IfOk result (λ node. node ≡ fresh self.old.point) }
         ensures counted { OnOk result (self.new ≡ at_point (counted self.old.point) self.old) }
     {
         let number = self.unnamed;
         if number == usize::MAX {
-            return Err(Refusal::NoMemory);
+            return Err(NoMemory);
         }
         self.unnamed = number + 1;
         Ok(Node::Unnamed(number))
@@ -192,7 +192,7 @@ impl Engine {
     }
 
     /// The triple of a String that waits for what follows it is produced.
-    pub fn end_string(&mut self) -> Result<(), Refusal>
+    pub fn end_string(&mut self) -> Mem<()>
         ensures { OnOk result (self.new ≡ string_ended self.old) }
     {
         if let Some(triple) = self.waiting() {

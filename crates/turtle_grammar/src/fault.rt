@@ -1,6 +1,5 @@
 //! Faults of a list of symbols, and the limit on depth.
 
-use std::alloc::{AllocError, AllocFailed};
 use thiserror::Error;
 
 /// The most open brackets: `[`, `(` and `{`. ANON opens none.
@@ -18,28 +17,6 @@ pub enum Refusal {
     /// Out of memory, or a count is over the limit of its type.
     #[error("out of memory")]
     NoMemory,
-}
-
-impl From<AllocError> for Refusal {
-    ghost use Rattle.std.specs.Prelude.{◌≡◌};
-    ghost use Rattle.turtle_grammar.specs.declared.fault.Refusal.TheVariants.{NoMemory};
-
-    ghost from_gives = { λ _ refusal. refusal ≡ NoMemory };
-
-    fn from(_error: AllocError) -> Refusal {
-        Refusal::NoMemory
-    }
-}
-
-impl<T: Drop> From<AllocFailed<T>> for Refusal {
-    ghost use Rattle.std.specs.Prelude.{◌≡◌};
-    ghost use Rattle.turtle_grammar.specs.declared.fault.Refusal.TheVariants.{NoMemory};
-
-    ghost from_gives = { λ _ refusal. refusal ≡ NoMemory };
-
-    fn from(_error: AllocFailed<T>) -> Refusal {
-        Refusal::NoMemory
-    }
 }
 
 /// Why a list of symbols has no derivation, with the index of the fault. The least index is given,

@@ -1,12 +1,15 @@
 //! The machine that reads symbols one by one.
 
-ghost use Rattle.std.specs.Prelude.{◌≡◌, ◌≤◌, ◌-◌, ◌+◌, [], Err, OnOk, OnTrue, OnFalse};
+ghost use Rattle.std.specs.Prelude.{◌≡◌, ◌≤◌, ◌<◌, [], IfOk, IfErr, OnOk};
+ghost use Rattle.std.specs.Bool.{OnTrue, OnFalse};
 ghost use Rattle.turtle_grammar.specs.Derivations.{is_allowed, braces_after, depth_after};
+ghost use Rattle.turtle_grammar.specs.declared.fault.TheConstants.{DEPTH_LIMIT};
 
 use crate::engine::Engine;
 use crate::fault::{DEPTH_LIMIT, Refusal};
 use crate::production::{Production, SymbolicTriple};
 use crate::symbol::{Start, Symbol};
+use pod_base::{Mem, NoMemory};
 use std::alloc::Global;
 use turtle_lex::TokenKind;
 
@@ -14,23 +17,28 @@ use turtle_lex::TokenKind;
 fn is_allowed(start: Start, braces: usize, symbol: Symbol) -> bool
     ensures { result ≡ is_allowed start braces symbol }
 {
-    match (start, symbol) {
-        (Start::Document, Symbol::Token(TokenKind::OpenBrace | TokenKind::Variable)) => false,
-        (Start::Patch, Symbol::Token(TokenKind::Variable)) => 0 < braces,
-        (Start::Update, Symbol::Token(TokenKind::OpenBrace)) => braces < 1,
-        (Start::Update, Symbol::Token(TokenKind::Variable)) => false,
-        _ => true,
+    match symbol {
+        Symbol::Token(TokenKind::OpenBrace) => match start {
+            Start::Document => false,
+            Start::Patch => true,
+            Start::Update => braces < 1,
+        },
+        Symbol::Token(TokenKind::Variable) => matches!(start, Start::Patch) && 0 < braces,
+        Symbol::Token(_) => true,
+        _ => matches!(start, Start::Update) && braces < 1,
     }
 }
 
-fn braces_after(braces: usize, symbol: Symbol) -> Result<usize, Refusal>
-    ensures { IfOk result (λ braces'. braces' ≡ braces_after braces symbol) }
+fn braces_after(braces: usize, symbol: Symbol) -> Mem<usize>
+    ensures { IfOk result (λ after. after ≡ braces_after braces symbol) }
 {
     match symbol {
-        Symbol::Token(TokenKind::OpenBrace) => match braces.checked_add(1) {
-            Some(more) => Ok(more),
-            None => Err(Refusal::NoMemory),
-        },
+        Symbol::Token(TokenKind::OpenBrace) => {
+            if braces == usize::MAX {
+                return Err(NoMemory);
+            }
+            Ok(braces + 1)
+        }
         Symbol::Token(TokenKind::CloseBrace) => Ok(braces.saturating_sub(1)),
         _ => Ok(braces),
     }
@@ -62,7 +70,8 @@ pub struct Machine {
 }
 
 impl Machine {
-    ghost use Rattle.turtle_grammar.specs.Readings.{HasRead, ReadsOn, StopsAt, IsTooDeepAt};
+    ghost use Rattle.turtle_grammar.specs.Readings.{HasRead, ReadsOn, IsRefused};
+    ghost use Rattle.turtle_grammar.specs.Stacks.{Takes, step_of, cleared};
     ghost use Rattle.turtle_grammar.specs.Readings.{IsDerived, IsUnfinished, Waits, produced_by};
 
     /// The machine before the first symbol. It has no memory yet.
@@ -80,22 +89,33 @@ impl Machine {
     /// Reads the next symbol. After a refusal the machine has read nothing that is known.
     pub fn step(&mut self, symbol: Symbol) -> Result<(), Refusal>
         ensures read { OnOk result (ReadsOn symbol self.old self.new) }
-        ensures grammar { result ≡ Err Refusal.Grammar → StopsAt symbol self.old }
-        ensures depth { result ≡ Err Refusal.Depth → IsTooDeepAt symbol self.old }
+        ensures refused { IfErr result (λ refusal. IsRefused refusal symbol self.old) }
     {
         if !is_allowed(self.start, self.braces, symbol) {
             return Err(Refusal::Grammar);
         }
-        if !self.engine.step(symbol)? {
-            return Err(Refusal::Grammar);
-        }
         let depth = depth_after(self.depth, symbol);
-        if depth > DEPTH_LIMIT {
-            return Err(Refusal::Depth);
+        match self.take(symbol) {
+            Ok(true) if depth > DEPTH_LIMIT => Err(Refusal::Depth),
+            Ok(true) => {
+                self.depth = depth;
+                Ok(())
+            }
+            Ok(false) => Err(Refusal::Grammar),
+            Err(NoMemory) => Err(Refusal::NoMemory),
         }
+    }
+
+    /// The grammar takes the symbol, which is counted if it is a brace.
+    fn take(&mut self, symbol: Symbol) -> Mem<bool>
+        ensures engine { IfOk result (λ taken.
+            Takes (step_of (cleared self.old.engine) symbol) taken self.new.engine) }
+        ensures braces { OnOk result (self.new.braces ≡ braces_after self.old.braces symbol) }
+        ensures start { OnOk result (self.new.start ≡ self.old.start) }
+        ensures depth { OnOk result (self.new.depth ≡ self.old.depth) }
+    {
         self.braces = braces_after(self.braces, symbol)?;
-        self.depth = depth;
-        Ok(())
+        self.engine.step(symbol)
     }
 
     /// What the last symbol produced, in order. A String's triple is produced with the symbol after

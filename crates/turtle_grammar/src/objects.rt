@@ -4,10 +4,10 @@
 ghost use Rattle.std.specs.Prelude.{◌≡◌, ◌+◌, ◌∷◌, [], IfOk, OnOk, None};
 
 use crate::engine::Engine;
-use crate::fault::Refusal;
 use crate::goal::{CellUse, Closer, CollectionUse, FormulaUse, Goal};
 use crate::production::{Node, Within};
 use crate::symbol::Symbol;
+use pod_base::Mem;
 use turtle_lex::TokenKind;
 
 impl Engine {
@@ -21,7 +21,7 @@ impl Engine {
     ghost use Rattle.turtle_lex.specs.declared.token.TokenKind.TheVariants.{OpenBrace};
 
     /// The triple ends at the present token, which is passed.
-    fn say_and_pass(&mut self, subject: Node, predicate: Node, object: Node) -> Result<(), Refusal>
+    fn say_and_pass(&mut self, subject: Node, predicate: Node, object: Node) -> Mem<()>
         ensures { OnOk result (self.new
             ≡ at_point (passed (says subject predicate object self.old.point)) self.old) }
     {
@@ -30,7 +30,7 @@ impl Engine {
     }
 
     /// The present token is passed, and then this is wanted.
-    pub fn pass_to(&mut self, goal: Goal) -> Result<bool, Refusal>
+    pub fn pass_to(&mut self, goal: Goal) -> Mem<bool>
         ensures { IfOk result (λ taken. Takes (Some (wants goal (at_point (passed self.old.point) self.old))) taken self.new) }
     {
         self.pass()?;
@@ -38,7 +38,7 @@ impl Engine {
         Ok(true)
     }
 
-    pub fn one(&mut self, subject: Node, predicate: Node, symbol: Symbol) -> Result<bool, Refusal>
+    pub fn one(&mut self, subject: Node, predicate: Node, symbol: Symbol) -> Mem<bool>
         ensures { IfOk result (λ taken.
             Takes (behind self.old (one subject predicate self.old.point symbol)) taken self.new) }
     {
@@ -72,7 +72,7 @@ impl Engine {
     }
 
     /// The formula that the present `{` opens is the object.
-    fn open_formula(&mut self, subject: Node, predicate: Node) -> Result<bool, Refusal>
+    fn open_formula(&mut self, subject: Node, predicate: Node) -> Mem<bool>
         ensures { IfOk result (λ taken. Takes (behind self.old
             (one subject predicate self.old.point (Token OpenBrace))) taken self.new) }
     {
@@ -82,7 +82,7 @@ impl Engine {
         self.pass_to(Goal::Formula(FormulaUse::Object(subject, predicate, at, outer)))
     }
 
-    fn close_formula(&mut self, used: FormulaUse) -> Result<(), Refusal>
+    fn close_formula(&mut self, used: FormulaUse) -> Mem<()>
         ensures { OnOk result (self.new
             ≡ at_point (formula_closed used self.old.point) self.old) }
     {
@@ -98,7 +98,7 @@ impl Engine {
         }
     }
 
-    fn close(&mut self, closer: Closer, symbol: Symbol) -> Result<bool, Refusal>
+    fn close(&mut self, closer: Closer, symbol: Symbol) -> Mem<bool>
         ensures { IfOk result (λ taken.
             Takes (behind self.old (closes closer self.old.point symbol)) taken self.new) }
     {
@@ -127,7 +127,7 @@ impl Engine {
     }
 
     /// The objects of the verb that the present token is.
-    fn objects(&mut self, subject: Node, closer: Closer) -> Result<bool, Refusal>
+    fn objects(&mut self, subject: Node, closer: Closer) -> Mem<bool>
         ensures { IfOk result (λ taken.
             Takes (behind self.old (objects subject closer self.old.point)) taken self.new) }
     {
@@ -142,7 +142,7 @@ impl Engine {
         predicate: Node,
         closer: Closer,
         symbol: Symbol,
-    ) -> Result<bool, Refusal>
+    ) -> Mem<bool>
         ensures { IfOk result (λ taken. Takes (behind self.old
             (after subject predicate closer self.old.point symbol)) taken self.new) }
     {
@@ -156,7 +156,7 @@ impl Engine {
         }
     }
 
-    pub fn again(&mut self, subject: Node, closer: Closer, symbol: Symbol) -> Result<bool, Refusal>
+    pub fn again(&mut self, subject: Node, closer: Closer, symbol: Symbol) -> Mem<bool>
         ensures { IfOk result (λ taken.
             Takes (behind self.old (again subject closer self.old.point symbol)) taken self.new) }
     {
@@ -166,7 +166,7 @@ impl Engine {
         }
     }
 
-    pub fn predicates(&mut self, subject: Node, closer: Closer, symbol: Symbol) -> Result<bool, Refusal>
+    pub fn predicates(&mut self, subject: Node, closer: Closer, symbol: Symbol) -> Mem<bool>
         ensures { IfOk result (λ taken. Takes (behind self.old
             (predicates subject closer self.old.point symbol)) taken self.new) }
     {
@@ -179,7 +179,7 @@ impl Engine {
         }
     }
 
-    pub fn perhaps(&mut self, subject: Node, closer: Closer, symbol: Symbol) -> Result<bool, Refusal>
+    pub fn perhaps(&mut self, subject: Node, closer: Closer, symbol: Symbol) -> Mem<bool>
         ensures { IfOk result (λ taken.
             Takes (behind self.old (perhaps subject closer self.old.point symbol)) taken self.new) }
     {
@@ -198,7 +198,7 @@ impl Engine {
         predicate: Node,
         string: usize,
         symbol: Symbol,
-    ) -> Result<bool, Refusal>
+    ) -> Mem<bool>
         ensures { IfOk result (λ taken. Takes (behind self.old
             (suffix subject predicate string self.old.point symbol)) taken self.new) }
     {
@@ -220,7 +220,7 @@ impl Engine {
         predicate: Node,
         string: usize,
         symbol: Symbol,
-    ) -> Result<bool, Refusal>
+    ) -> Mem<bool>
         ensures { IfOk result (λ taken. Takes (behind self.old
             (datatype subject predicate string self.old.point symbol)) taken self.new) }
     {
@@ -233,7 +233,7 @@ impl Engine {
         }
     }
 
-    pub fn subject_collection(&mut self, closer: Closer, symbol: Symbol) -> Result<bool, Refusal>
+    pub fn subject_collection(&mut self, closer: Closer, symbol: Symbol) -> Mem<bool>
         ensures { IfOk result (λ taken. Takes (behind self.old
             (collection (collection_use.Subject closer) self.old.point symbol)) taken self.new) }
     {
@@ -253,7 +253,7 @@ impl Engine {
         subject: Node,
         predicate: Node,
         symbol: Symbol,
-    ) -> Result<bool, Refusal>
+    ) -> Mem<bool>
         ensures { IfOk result (λ taken. Takes (behind self.old (collection
             (collection_use.Object subject predicate) self.old.point symbol)) taken self.new) }
     {
@@ -270,7 +270,7 @@ impl Engine {
         }
     }
 
-    fn close_collection(&mut self, used: CellUse) -> Result<(), Refusal>
+    fn close_collection(&mut self, used: CellUse) -> Mem<()>
         ensures { OnOk result (self.new ≡ at_point (collected used self.old.point) self.old) }
     {
         match used {
@@ -281,7 +281,7 @@ impl Engine {
         }
     }
 
-    pub fn elements(&mut self, cell: Node, used: CellUse, symbol: Symbol) -> Result<bool, Refusal>
+    pub fn elements(&mut self, cell: Node, used: CellUse, symbol: Symbol) -> Mem<bool>
         ensures { IfOk result (λ taken.
             Takes (behind self.old (elements cell used self.old.point symbol)) taken self.new) }
     {
@@ -300,7 +300,7 @@ impl Engine {
         }
     }
 
-    pub fn subject(&mut self, closer: Closer, symbol: Symbol) -> Result<bool, Refusal>
+    pub fn subject(&mut self, closer: Closer, symbol: Symbol) -> Mem<bool>
         ensures { IfOk result (λ taken.
             Takes (behind self.old (subject_of closer self.old.point symbol)) taken self.new) }
     {
@@ -327,7 +327,7 @@ impl Engine {
         }
     }
 
-    pub fn formula(&mut self, used: FormulaUse, symbol: Symbol) -> Result<bool, Refusal>
+    pub fn formula(&mut self, used: FormulaUse, symbol: Symbol) -> Mem<bool>
         ensures { IfOk result (λ taken.
             Takes (behind self.old (formula used self.old.point symbol)) taken self.new) }
     {

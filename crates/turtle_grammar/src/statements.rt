@@ -1,13 +1,22 @@
 //! Statements, directives and updates, and one step of the whole machine.
 
-ghost use Rattle.std.specs.Prelude.{◌≡◌, ◌+◌, ◌∷◌, [], IfOk, OnOk, None, Some};
+ghost use Rattle.std.specs.Prelude.{◌≡◌, ◌++◌, IfOk, OnOk, Some};
+
+ghost use Rattle.turtle_grammar.specs.Stacks.{adds_to_string};
 
 use crate::engine::Engine;
-use crate::fault::Refusal;
 use crate::goal::{Closer, CollectionUse, FormulaUse, Goal, Rest};
 use crate::production::{Node, Production, Within};
 use crate::symbol::Symbol;
+use pod_base::Mem;
 use turtle_lex::TokenKind;
+
+/// Whether the symbol adds something to a String before it.
+fn adds_to_string(symbol: Symbol) -> bool
+    ensures { result ≡ adds_to_string symbol }
+{
+    matches!(symbol, Symbol::Token(TokenKind::LangTag | TokenKind::Carets))
+}
 
 impl Engine {
     ghost use Rattle.turtle_grammar.specs.Productions.{passed};
@@ -18,7 +27,7 @@ impl Engine {
     ghost use Rattle.turtle_grammar.specs.Stacks.{on_top};
 
     /// The IRIREF of a directive is passed; a `.` may have to follow.
-    fn pass_iri(&mut self, has_dot: bool) -> Result<bool, Refusal>
+    fn pass_iri(&mut self, has_dot: bool) -> Mem<bool>
         ensures { IfOk result (λ taken. Takes (Some (record {
             goals = dot_goals has_dot ++ self.old.goals;
             rest = self.old.rest;
@@ -32,7 +41,7 @@ impl Engine {
         Ok(true)
     }
 
-    fn prefix_name(&mut self, has_dot: bool, symbol: Symbol) -> Result<bool, Refusal>
+    fn prefix_name(&mut self, has_dot: bool, symbol: Symbol) -> Mem<bool>
         ensures { IfOk result (λ taken.
             Takes (behind self.old (prefix_name has_dot self.old.point symbol)) taken self.new) }
     {
@@ -42,7 +51,7 @@ impl Engine {
         }
     }
 
-    fn prefix_iri(&mut self, has_dot: bool, name: usize, symbol: Symbol) -> Result<bool, Refusal>
+    fn prefix_iri(&mut self, has_dot: bool, name: usize, symbol: Symbol) -> Mem<bool>
         ensures { IfOk result (λ taken. Takes (behind self.old
             (prefix_iri has_dot name self.old.point symbol)) taken self.new) }
     {
@@ -58,7 +67,7 @@ impl Engine {
         }
     }
 
-    fn base_iri(&mut self, has_dot: bool, symbol: Symbol) -> Result<bool, Refusal>
+    fn base_iri(&mut self, has_dot: bool, symbol: Symbol) -> Mem<bool>
         ensures { IfOk result (λ taken.
             Takes (behind self.old (base_iri has_dot self.old.point symbol)) taken self.new) }
     {
@@ -71,7 +80,7 @@ impl Engine {
         }
     }
 
-    fn dot(&mut self, symbol: Symbol) -> Result<bool, Refusal>
+    fn dot(&mut self, symbol: Symbol) -> Mem<bool>
         ensures { IfOk result (λ taken.
             Takes (behind self.old (dot_only self.old.point symbol)) taken self.new) }
     {
@@ -84,7 +93,7 @@ impl Engine {
         }
     }
 
-    fn data_word(&mut self, within: Within, symbol: Symbol) -> Result<bool, Refusal>
+    fn data_word(&mut self, within: Within, symbol: Symbol) -> Mem<bool>
         ensures { IfOk result (λ taken.
             Takes (behind self.old (data_word within self.old.point symbol)) taken self.new) }
     {
@@ -94,7 +103,7 @@ impl Engine {
         }
     }
 
-    fn brace(&mut self, within: Within, symbol: Symbol) -> Result<bool, Refusal>
+    fn brace(&mut self, within: Within, symbol: Symbol) -> Mem<bool>
         ensures { IfOk result (λ taken.
             Takes (behind self.old (brace within self.old.point symbol)) taken self.new) }
     {
@@ -108,7 +117,7 @@ impl Engine {
     }
 
     /// The goal, which was taken from the stack, begins with the symbol.
-    fn begin(&mut self, goal: Goal, symbol: Symbol) -> Result<bool, Refusal>
+    fn begin(&mut self, goal: Goal, symbol: Symbol) -> Mem<bool>
         ensures { IfOk result (λ taken.
             Takes (behind self.old (begins goal self.old.point symbol)) taken self.new) }
     {
@@ -143,7 +152,7 @@ impl Engine {
         }
     }
 
-    fn statement(&mut self, symbol: Symbol) -> Result<bool, Refusal>
+    fn statement(&mut self, symbol: Symbol) -> Mem<bool>
         ensures { IfOk result (λ taken.
             Takes (behind self.old (statement self.old.point symbol)) taken self.new) }
     {
@@ -156,7 +165,7 @@ impl Engine {
         }
     }
 
-    fn update(&mut self, symbol: Symbol) -> Result<bool, Refusal>
+    fn update(&mut self, symbol: Symbol) -> Mem<bool>
         ensures { IfOk result (λ taken.
             Takes (on_top self.old (update self.old.point symbol)) taken self.new) }
     {
@@ -181,7 +190,7 @@ impl Engine {
         }
     }
 
-    fn after_operation(&mut self, symbol: Symbol) -> Result<bool, Refusal>
+    fn after_operation(&mut self, symbol: Symbol) -> Mem<bool>
         ensures { IfOk result (λ taken.
             Takes (on_top self.old (after_operation self.old.point symbol)) taken self.new) }
     {
@@ -196,7 +205,7 @@ impl Engine {
     }
 
     /// Where no goal is left, the rest begins with the symbol.
-    fn top(&mut self, symbol: Symbol) -> Result<bool, Refusal>
+    fn top(&mut self, symbol: Symbol) -> Mem<bool>
         ensures { IfOk result (λ taken. Takes
             (on_top self.old (top self.old.rest self.old.point symbol)) taken self.new) }
     {
@@ -208,7 +217,7 @@ impl Engine {
     }
 
     /// The top goal takes the symbol.
-    fn take(&mut self, symbol: Symbol) -> Result<bool, Refusal>
+    fn take(&mut self, symbol: Symbol) -> Mem<bool>
         ensures { IfOk result (λ taken. Takes (take_of self.old symbol) taken self.new) }
     {
         match self.pop() {
@@ -218,17 +227,17 @@ impl Engine {
     }
 
     /// Where the symbol adds nothing to a String that waits for it, the String's triple ends.
-    fn settle(&mut self, symbol: Symbol) -> Result<(), Refusal>
+    fn settle(&mut self, symbol: Symbol) -> Mem<()>
         ensures { OnOk result (step_of self.old symbol ≡ take_of self.new symbol) }
     {
-        match symbol {
-            Symbol::Token(TokenKind::LangTag | TokenKind::Carets) => Ok(()),
-            _ => self.end_string(),
+        if adds_to_string(symbol) {
+            return Ok(());
         }
+        self.end_string()
     }
 
     /// One step. It returns whether the symbol was taken.
-    pub fn step(&mut self, symbol: Symbol) -> Result<bool, Refusal>
+    pub fn step(&mut self, symbol: Symbol) -> Mem<bool>
         ensures { IfOk result (λ taken. Takes (step_of (cleared self.old) symbol) taken self.new) }
     {
         self.clear();
