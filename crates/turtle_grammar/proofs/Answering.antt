@@ -1,7 +1,7 @@
 -- The answer for a whole list of symbols.
 use Rattle.std.proofs.Common.{◌≡◌, ℕ, ◌+◌, ◌-◌, ◌<◌, ◌≤◌, Bool, true, false, List, [], ◌∷◌, ◌++◌, length, take, drop, get_or}
 use Rattle.std.proofs.Common.{Result, Ok, Err, refl, sym, ap, ◌∙◌, subst, arith}
-use Rattle.std.proofs.lemmas.List.{take_more, take_all, length-take, take-take}
+use Rattle.std.proofs.lemmas.List.{take_more, take_all, length-take-le, take-append-le, take-append-drop}
 use Rattle.std.proofs.lemmas.Bool.{cases_lt}
 use Rattle.std.specs.Global.{Vec}
 use Rattle.turtle_grammar.specs.declared.symbol.Start.{Start}
@@ -17,12 +17,17 @@ use Rattle.turtle_grammar.specs.Readings.{CollectsOn, Answers, AreOrNoMemory, pr
 use Rattle.turtle_grammar.proofs.Theorem.{same_productions, no_fault}
 use Rattle.turtle_grammar.proofs.Steps.{goes_on_now}
 
+take_of_take : (j k : ℕ) (ts : List Symbol) → j ≤ k → k ≤ length ts → take j (take k ts) ≡ take j ts
+take_of_take j k ts le within =
+    let size : length (take k ts) ≡ k = length-take-le k ts within in
+    sym (take-append-le j (take k ts) (drop k ts) (omega arith)) ∙ ap (take j) (take-append-drop k ts)
+
 module _ (start : Start) (ts : List Symbol) (k : ℕ) (ps : List Production) (machine : Machine)
     (h : HasRead start (take k ts) ps machine) where
   pub shallow_before : k ≤ length ts → IsShallow ts k
   shallow_before le j lt deep =
-      let size : length (take k ts) ≡ k = length-take k ts le in
-      let same : take (j + 1) (take k ts) ≡ take (j + 1) ts = take-take (j + 1) k ts (omega arith) in
+      let size : length (take k ts) ≡ k = length-take-le k ts le in
+      let same : take (j + 1) (take k ts) ≡ take (j + 1) ts = take_of_take (j + 1) k ts (omega arith) le in
       h.shallow j (omega arith) ((let less : j < length (take k ts) = omega arith in less), subst (λ z. DEPTH_LIMIT < depth_from 0 z) (sym same) deep.1)
 
   pub grammar_here : (d : Symbol) → k < length ts → StopsAt (get_or ts k d) machine → IsFault start ts k × IsShallow ts k
@@ -41,8 +46,8 @@ module _ (start : Start) (ts : List Symbol) (k : ℕ) (ps : List Production) (ma
   depth_here d lt deep =
       let both = deep start (take k ts) ps h in
       let more : take (k + 1) ts ≡ take k ts ++ get_or ts k d ∷ [] = take_more ts k d lt in
-      let size : length (take k ts) ≡ k = length-take k ts (omega arith) in
-      let last : take (k + 1) (take k ts ++ get_or ts k d ∷ []) ≡ take (k + 1) ts = ap (take (k + 1)) (sym more) ∙ take-take (k + 1) (k + 1) ts (omega arith) in
+      let size : length (take k ts) ≡ k = length-take-le k ts (omega arith) in
+      let last : take (k + 1) (take k ts ++ get_or ts k d ∷ []) ≡ take (k + 1) ts = ap (take (k + 1)) (sym more) ∙ take_of_take (k + 1) (k + 1) ts (omega arith) (omega arith) in
       let high : DEPTH_LIMIT < depth_from 0 (take (length (take k ts) + 1) (take k ts ++ get_or ts k d ∷ [])) = both.1.1 in
       ((lt, subst (λ z. DEPTH_LIMIT < depth_from 0 z) (ap (λ n. take (n + 1) (take k ts ++ get_or ts k d ∷ [])) size ∙ last) high),
       subst (GoesOn start) (sym more) both.0,
