@@ -8,12 +8,14 @@ use Rattle.turtle_grammar.specs.declared.symbol.Start.{Start}
 use Rattle.turtle_grammar.specs.declared.symbol.Symbol.{Symbol}
 use Rattle.turtle_grammar.specs.declared.production.Production.{Production}
 use Rattle.turtle_grammar.specs.declared.fault.TheConstants.{DEPTH_LIMIT}
+use Rattle.turtle_grammar.specs.declared.fault.Refusal.{Refusal}
+use Rattle.turtle_grammar.specs.declared.fault.Refusal.TheVariants as refusal
 use Rattle.turtle_grammar.specs.declared.fault.GrammarFault.{GrammarFault}
 use Rattle.turtle_grammar.specs.declared.fault.GrammarFault.TheVariants.{Grammar, Depth, NoMemory}
 use Rattle.turtle_grammar.specs.declared.machine.Machine.{Machine}
 use Rattle.turtle_grammar.specs.Derivations.{Derives, GoesOn, IsFault, IsTooDeep, IsShallow, depth_from}
 use Rattle.turtle_grammar.specs.Readings.{HasRead, StopsAt, IsTooDeepAt, IsDerived, IsUnfinished}
-use Rattle.turtle_grammar.specs.Readings.{CollectsOn, Answers, AreOrNoMemory, produced_by, ReadsOn}
+use Rattle.turtle_grammar.specs.Readings.{CollectsOn, Answers, AreOrNoMemory, IsRefused, Faults, fault_at}
 use Rattle.turtle_grammar.proofs.Theorem.{same_productions, no_fault}
 use Rattle.turtle_grammar.proofs.Steps.{goes_on_now}
 
@@ -52,6 +54,11 @@ module _ (start : Start) (ts : List Symbol) (k : ℕ) (ps : List Production) (ma
       ((lt, subst (λ z. DEPTH_LIMIT < depth_from 0 z) (ap (λ n. take (n + 1) (take k ts ++ get_or ts k d ∷ [])) size ∙ last) high),
       subst (GoesOn start) (sym more) both.0,
       shallow_before (omega arith))
+
+  pub refused_here : (r : Refusal) (d : Symbol) → k < length ts → IsRefused r (get_or ts k d) machine → Faults start ts (fault_at r k)
+  refused_here refusal.Grammar d lt stop = grammar_here d lt stop
+  refused_here refusal.Depth d lt deep = depth_here d lt deep
+  refused_here refusal.NoMemory d lt h = tt
 
   module _ (end : k ≡ length ts) where
     all : take k ts ≡ ts

@@ -61,7 +61,7 @@ use Rattle.turtle_grammar.proofs.Completions.{dot_symbols, completion_symbols, c
 use Rattle.turtle_grammar.proofs.Completions.{RestTree, rest_symbols, rest_end, Reads}
 use Rattle.turtle_grammar.proofs.Backward.{On}
 
-pub shortest_closing : (c : Closer) → Closing c
+unfoldable pub shortest_closing : (c : Closer) → Closing c
 shortest_closing closer.Statement = tt
 shortest_closing closer.Subject = tt
 shortest_closing (closer.Object s p o) = tt
@@ -70,7 +70,7 @@ shortest_closing (closer.Formula u) = last
 abbrev pub shortest_list : PredicateObjectList
 shortest_list = predicates a_word anon none end
 
-pub shortest : (g : Goal) → Completion g
+unfoldable pub shortest : (g : Goal) → Completion g
 shortest (goal.One s p) = anon
 shortest (goal.Suffix s p x) = plain
 shortest (goal.Datatype s p x) = iri_ref
@@ -94,11 +94,11 @@ shortest_rest rest_of.Statements = []
 shortest_rest rest_of.Update = no_operation
 shortest_rest rest_of.AfterOperation = None
 
-pub ending_of : List Goal → Rest → List Symbol
+unfoldable pub ending_of : List Goal → Rest → List Symbol
 ending_of [] w = []
 ending_of (g ∷ gs) w = completion_symbols g (shortest g) (ending_of gs w)
 
-pub ending_point : List Goal → Rest → Point → Point
+unfoldable pub ending_point : List Goal → Rest → Point → Point
 ending_point [] w m = m
 ending_point (g ∷ gs) w m = ending_point gs w (completion_end g (shortest g) m)
 

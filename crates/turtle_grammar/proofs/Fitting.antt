@@ -171,7 +171,7 @@ begins_fine goal.Dot t m e = dot_only_fine t m
 begins_fine (goal.Data w) t m e = absurd (let f : true ≡ false = e in cc)
 begins_fine (goal.Brace w) t m e = brace_fine t w m
 
-inner_fit : (gs : List Goal) (w : Rest) (n : ℕ) → all_inner gs ≡ true → GoalsFit w n gs
+pub inner_fit : (gs : List Goal) (w : Rest) (n : ℕ) → all_inner gs ≡ true → GoalsFit w n gs
 inner_fit [] w n e = tt
 inner_fit (goal.Data x ∷ gs) w n e = false_true e
 inner_fit (goal.Brace x ∷ gs) w n e = false_true e

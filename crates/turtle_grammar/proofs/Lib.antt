@@ -8,3 +8,5 @@ pub mod Fitting
 pub mod Theorem
 pub mod Steps
 pub mod Answering
+pub mod Ends
+pub mod Waiting

@@ -58,7 +58,7 @@ goals_of : Option Stage → List Goal
 goals_of None = []
 goals_of (Some x) = x.goals
 
-rest_fits : (start : Start) → RestFits start (first_rest start)
+pub rest_fits : (start : Start) → RestFits start (first_rest start)
 rest_fits start_of.Document = tt
 rest_fits start_of.Patch = tt
 rest_fits start_of.Update = tt

@@ -116,6 +116,12 @@ Waits waiting machine =
     → HasRead start symbols productions machine
     → Produces start symbols (productions ++ waiting_productions waiting)
 
+-- the fault of a list where the symbol at this index is refused
+abbrev pub fault_at : Refusal → ℕ → GrammarFault
+fault_at refusal.Grammar at = Grammar at
+fault_at refusal.Depth at = Depth at
+fault_at refusal.NoMemory at = NoMemory
+
 -- The answer for a list of symbols.
 abbrev pub Faults : Start → List Symbol → GrammarFault → Type 0
 Faults start symbols (Grammar at) = IsFault start symbols at × IsShallow symbols at

@@ -1,8 +1,8 @@
 //! The derivation of a whole list of symbols.
 
-ghost use Rattle.std.specs.Prelude.{List, IfErr, OnOk, length};
+ghost use Rattle.std.specs.Prelude.{◌≡◌, List, IfErr, OnOk, length};
 ghost use Rattle.turtle_grammar.specs.Derivations.{Derives, IsShallow};
-ghost use Rattle.turtle_grammar.specs.Readings.{Answers, AreOrNoMemory, IsRefused, CollectsOn};
+ghost use Rattle.turtle_grammar.specs.Readings.{Answers, AreOrNoMemory, IsRefused, CollectsOn, fault_at};
 ghost use Rattle.turtle_grammar.specs.declared.production.Production.{Production};
 
 use crate::fault::{GrammarFault, Refusal};
@@ -10,6 +10,17 @@ use crate::machine::Machine;
 use crate::production::Production;
 use crate::symbol::{Start, Symbol};
 use std::alloc::Global;
+
+/// The fault of a list where the symbol at this index is refused.
+fn fault_at(refusal: Refusal, at: usize) -> GrammarFault
+    ensures { result ≡ fault_at refusal at }
+{
+    match refusal {
+        Refusal::Grammar => GrammarFault::Grammar { at },
+        Refusal::Depth => GrammarFault::Depth { at },
+        Refusal::NoMemory => GrammarFault::NoMemory,
+    }
+}
 
 /// Reads the next symbol and appends what it produces.
 fn read_next(
@@ -56,9 +67,7 @@ fn read_all(
     for (at, symbol) in symbols.iter().enumerate() {
         match read_next(&mut machine, &mut productions, *symbol) {
             Ok(()) => {}
-            Err(Refusal::Grammar) => return Err(GrammarFault::Grammar { at }),
-            Err(Refusal::Depth) => return Err(GrammarFault::Depth { at }),
-            Err(Refusal::NoMemory) => return Err(GrammarFault::NoMemory),
+            Err(refusal) => return Err(fault_at(refusal, at)),
         }
     }
     if machine.is_complete() {
