@@ -163,8 +163,7 @@ reach_settled : (start : Start) (ts : List Symbol) (gs : List Goal) (w : Rest) (
     → RestFits start w → GoalsFit w n gs → AreAllowed start n ts → m.at ≡ k → AllBefore m.at m.produced → WaitsBefore m.at gs
     → On (reach gs w m ts) (Settled start (braces_from n ts) (k + length ts))
 reach_settled start [] gs w m n k r g ok e h f =
-    let same : m.at ≡ k + length [] = e ∙ (let z : k ≡ k + 0 = omega arith in z) in
-    ((r, g), record { at_is = same; all_before = h; waits = f })
+    ((r, g), record { at_is = e ∙ (let z : k ≡ k + 0 = omega arith in z); all_before = h; waits = f })
 reach_settled start (t ∷ ts) gs w m n k r g ok e h f =
     same_end start (braces_from (braces_after n t) ts) (k + 1 + length ts) (k + length (t ∷ ts)) (reach gs w m (t ∷ ts))
         (let z : k + 1 + length ts ≡ k + length (t ∷ ts) = omega arith in z)
