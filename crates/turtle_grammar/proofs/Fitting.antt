@@ -231,7 +231,7 @@ data_fits : (start : Start) (t : Symbol) (x : Within) (gs : List Goal) (n : ℕ)
 data_fits start Data x gs n m r h = (r, h)
 data_fits start _ x gs n m r h = tt
 
-take_fits : (start : Start) (gs : List Goal) (w : Rest) (m : Point) (t : Symbol) (n : ℕ)
+pub take_fits : (start : Start) (gs : List Goal) (w : Rest) (m : Point) (t : Symbol) (n : ℕ)
     → RestFits start w → GoalsFit w n gs → is_allowed start n t ≡ true
     → On (take_symbol gs w m t) (Fits start (braces_after n t))
 take_fits start [] rest_of.Statements m t n r h ok = statement_fits start (braces_after n t) (statement m t) r (statement_fine t m)

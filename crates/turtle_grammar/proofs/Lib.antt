@@ -10,3 +10,4 @@ pub mod Steps
 pub mod Answering
 pub mod Ends
 pub mod Waiting
+pub mod OneProduced

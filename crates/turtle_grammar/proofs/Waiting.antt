@@ -63,7 +63,7 @@ tail_inner (goal.Data x) gs w n h = words_inner w n gs h
 tail_inner (goal.Brace x) gs w n h = words_inner w n gs h
 tail_inner _ gs w n h = h
 
-abbrev AddsStage : Point → Stage → Type 0
+abbrev pub AddsStage : Point → Stage → Type 0
 AddsStage m x = Adds m x.point × WaitsAt m.at x.goals
 
 stage_adds : (w : Rest) (m : Point) (gs : List Goal) (o : Option Step) → OnStep o (AddsStep m) → WaitsAt m.at gs
@@ -86,7 +86,7 @@ after_operation_adds : (t : Symbol) (m : Point) → On (after_operation m t) (Ad
 after_operation_adds (Token kind.Semicolon) m = (quiet m _ refl refl, tt)
 after_operation_adds _ m = tt
 
-take_adds : (gs : List Goal) (w : Rest) (m : Point) (t : Symbol) (n : ℕ) → GoalsFit w n gs → On (take_symbol gs w m t) (AddsStage m)
+pub take_adds : (gs : List Goal) (w : Rest) (m : Point) (t : Symbol) (n : ℕ) → GoalsFit w n gs → On (take_symbol gs w m t) (AddsStage m)
 take_adds [] rest_of.Statements m t n h = alone_adds rest_of.Statements m _ (statement_adds t m)
 take_adds [] rest_of.Update m t n h = update_adds t m
 take_adds [] rest_of.AfterOperation m t n h = after_operation_adds t m
@@ -107,7 +107,7 @@ pub record Ended (k : ℕ) (x : Stage) : Type 0 where
   pub all_before : AllBefore x.point.at x.point.produced
   pub waits : WaitsBefore x.point.at x.goals
 
-waits_next : (i k : ℕ) (gs : List Goal) → k ≡ i + 1 → WaitsAt i gs → WaitsBefore k gs
+pub waits_next : (i k : ℕ) (gs : List Goal) → k ≡ i + 1 → WaitsAt i gs → WaitsBefore k gs
 waits_next i k (goal.Suffix s p x ∷ gs) e h = ap (λ n. n + 1) h ∙ sym e
 waits_next i k [] e h = tt
 waits_next i k (_ ∷ gs) e h = tt
@@ -171,7 +171,7 @@ reach_settled start (t ∷ ts) gs w m n k r g ok e h f =
             (both (Fits start (braces_after n t)) (Ended (k + 1)) (step gs w m t) (step_fits start gs w m t n r g ok.0) (step_ended gs w m t n k g e h f))
             (λ x b. reach_settled start ts x.goals x.rest x.point (braces_after n t) (k + 1) b.0.0 b.0.1 ok.1 b.1.at_is b.1.all_before b.1.waits))
 
-run_settled : (start : Start) (ts : List Symbol) (x : Stage) → run start ts ≡ Some x → AreAllowed start 0 ts
+pub run_settled : (start : Start) (ts : List Symbol) (x : Stage) → run start ts ≡ Some x → AreAllowed start 0 ts
     → Settled start (braces_from 0 ts) (length ts) x
 run_settled start ts x e ok =
     let all : On (Some x) (Settled start (braces_from 0 ts) (0 + length ts)) =
@@ -325,7 +325,7 @@ reads_settled (goal.Suffix s p x ∷ gs) w m ts m' h = (plain, ts, refl, h)
 reads_settled [] w m ts m' h = h
 reads_settled (g ∷ gs) w m ts m' h = h
 
-settled_fit : (gs : List Goal) (w : Rest) (m : Point) (n : ℕ) → GoalsFit w n gs
+pub settled_fit : (gs : List Goal) (w : Rest) (m : Point) (n : ℕ) → GoalsFit w n gs
     → GoalsFit (ended_goals gs w m).rest n (ended_goals gs w m).goals
 settled_fit (goal.Suffix s p x ∷ gs) w m n h = inner_fit gs w n h
 settled_fit [] w m n h = h
@@ -339,12 +339,12 @@ settled_calm (goal.Data x ∷ gs) w m n h = inner_calm gs (words_inner w n gs h)
 settled_calm (goal.Brace x ∷ gs) w m n h = inner_calm gs (words_inner w n gs h)
 settled_calm (g ∷ gs) w m n h = inner_calm gs h
 
-settled_rest : (gs : List Goal) (w : Rest) (m : Point) (start : Start) → RestFits start w → RestFits start (ended_goals gs w m).rest
+pub settled_rest : (gs : List Goal) (w : Rest) (m : Point) (start : Start) → RestFits start w → RestFits start (ended_goals gs w m).rest
 settled_rest (goal.Suffix s p x ∷ gs) w m start r = r
 settled_rest [] w m start r = r
 settled_rest (g ∷ gs) w m start r = r
 
-settled_at : (gs : List Goal) (w : Rest) (m : Point) → (ended_goals gs w m).point.at ≡ m.at
+pub settled_at : (gs : List Goal) (w : Rest) (m : Point) → (ended_goals gs w m).point.at ≡ m.at
 settled_at (goal.Suffix s p x ∷ gs) w m = refl
 settled_at [] w m = refl
 settled_at (g ∷ gs) w m = refl
@@ -355,7 +355,7 @@ settled_produced (goal.Suffix s p x ∷ gs) w m = refl
 settled_produced [] w m = sym (append-nil m.produced)
 settled_produced (g ∷ gs) w m = sym (append-nil m.produced)
 
-settled_before : (gs : List Goal) (w : Rest) (m : Point) → AllBefore m.at m.produced → WaitsBefore m.at gs
+pub settled_before : (gs : List Goal) (w : Rest) (m : Point) → AllBefore m.at m.produced → WaitsBefore m.at gs
     → AllBefore m.at (ended_goals gs w m).point.produced
 settled_before (goal.Suffix s p x ∷ gs) w m h f = All-push (λ y. end_of y < m.at) m.produced _ h (let lt : x < m.at = omega arith in lt)
 settled_before [] w m h f = h

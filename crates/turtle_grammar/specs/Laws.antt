@@ -13,6 +13,12 @@ HasOneDerivation =
     (start : Start) (symbols : List Symbol) (these those : List Production)
     → Derives start symbols these → Derives start symbols those → these ≡ those
 
+-- what a list of symbols produces up to its last is one list, whatever follows
+abbrev pub HasOneProduce : Type 0
+HasOneProduce =
+    (start : Start) (symbols : List Symbol) (these those : List Production)
+    → Produces start symbols these → Produces start symbols those → these ≡ those
+
 -- each prefix of what goes on goes on
 abbrev pub PrefixesGoOn : Type 0
 PrefixesGoOn =

@@ -2,13 +2,14 @@
 //!
 //! Each is the contract of a function that does nothing.
 
-ghost use Rattle.turtle_grammar.specs.Laws.{HasOneDerivation, PrefixesGoOn, DerivedGoesOn};
+ghost use Rattle.turtle_grammar.specs.Laws.{HasOneDerivation, HasOneProduce, PrefixesGoOn};
 ghost use Rattle.turtle_grammar.specs.Laws.{HasOneFault, DerivedHasNoFault, ReadGoesOn};
-ghost use Rattle.turtle_grammar.specs.Laws.{ReadIsShallow};
+ghost use Rattle.turtle_grammar.specs.Laws.{DerivedGoesOn, ReadIsShallow};
 
-/// A list of symbols has at most one derivation.
+/// What a list of symbols derives is one list, and so is what it produces up to its last symbol.
 pub fn one_derivation()
-    ensures { HasOneDerivation }
+    ensures derived { HasOneDerivation }
+    ensures produced { HasOneProduce }
 {}
 
 /// What goes on has each of its prefixes going on, and what is derived goes on at each of them.
