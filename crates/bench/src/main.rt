@@ -9,6 +9,7 @@ mod joining;
 mod opening;
 mod reading;
 mod serving;
+mod writing;
 
 use anyhow::bail;
 use building::build_graph;
@@ -18,6 +19,7 @@ use reading::{Looks, read_versions};
 use serving::serve_stream;
 use std::alloc::Global;
 use std::env;
+use writing::write_graph;
 
 /// The argument of that number, or another where there is none or it is no number.
 fn number(rt: &HostRuntime, place: usize, other: usize) -> anyhow::Result<usize> {
@@ -30,7 +32,8 @@ fn run_small(rt: &HostRuntime, alloc: Global) -> anyhow::Result<()> {
     build_graph(rt, alloc, 1_000, false)?;
     join_conditions(rt, alloc, 1_000, false)?;
     open_journal(rt, alloc, false)?;
-    serve_stream(rt, alloc, 100, 1, false)
+    serve_stream(rt, alloc, 100, 1, false)?;
+    write_graph(rt, alloc, 1_000, false)
 }
 
 /// Prints how many looks gave a version, and the rates if asked.
@@ -62,6 +65,7 @@ fn main(rt: HostRuntime) -> anyhow::Result<()> {
         "join" => join_conditions(&rt, alloc, first, true),
         "journal" => open_journal(&rt, alloc, true),
         "pipe" => serve_stream(&rt, alloc, first, number(&rt, 3, 1)?, true),
+        "turtle" => write_graph(&rt, alloc, first, true),
         "view" => {
             let looks = read_versions(&rt, alloc, first as u64)?;
             print_looks(&rt, looks, true)

@@ -15,20 +15,20 @@ use Rattle.std.proofs.lemmas.Map.Keys.{apart_from_distinct, IsDistinct-from_apar
 use Rattle.std.proofs.lemmas.Option.{slice_get_within, get_or_from_slice_get}
 use denote.Ref.{Bor}
 use Rattle.rdf_graph.specs.Graph.{IsOrdered}
-use Rattle.rdf_graph.specs.Lookup.{AreCandidates, IsByObject, by_object_or}
-use Rattle.rdf_graph.specs.Span.{IsSpan}
+use Rattle.rdf_graph.specs.Lookup.{AreCandidates, IsObjectIndex, by_object_or}
+use Rattle.rdf_graph.specs.SubjectRange.{IsSubjectRange}
 use Rattle.rdf_graph.specs.TermOrder.{term_cmp}
 use Rattle.rdf_graph.specs.TermOrderLaws.{term_cmp_total}
 use Rattle.rdf_graph.specs.Triple.{triple_cmp}
 use Rattle.rdf_graph.specs.TripleLaws.{triple_cmp_total}
 use Rattle.rdf_graph.specs.declared.term.Term.{Term}
 use Rattle.rdf_graph.specs.declared.triple.Triple.{Triple}
-use Rattle.rdf_graph.proofs.Fronts.{lt-falls, le-falls}
+use Rattle.rdf_graph.proofs.Prefixes.{lt-falls, le-falls}
 use Rattle.rdf_graph.proofs.Members.{contains_cases, contains_here, contains_there, contains_none, contains_split, contains_take, contains_drop, All-take_within, All-drop_within}
 
 -- ---- lists without repeats
 
--- what stands at a place isn't among those before
+-- what is at a position isn't among those before
 pub not_before : (xs : List Triple) (i : ℕ) (t : Triple) → IsDistinct (eq_by_cmp triple_cmp) xs → slice_get xs i ≡ Some t → Contains (take i xs) t → ⊥
 not_before xs i t once here among =
     let within : i < length xs = slice_get_within xs i t here in
@@ -86,13 +86,13 @@ pub all_candidates : (s o : Option Term) (triples : List Triple) → IsOrdered t
 all_candidates s o triples ordered =
     record { within = λ x h. h; complete = λ x h a b. h; once = IsDistinct-from_sorted triple_cmp triples ordered }
 
-pub span_candidates : (s o : Option Term) (triples span : List Triple) → IsSpan s triples span → AreCandidates s o triples span
-span_candidates s o triples span is =
-    record { within = is.within; complete = λ x h a b. is.complete x h a; once = IsDistinct-from_sorted triple_cmp span is.ordered }
+pub range_candidates : (s o : Option Term) (triples subject_range : List Triple) → IsSubjectRange s triples subject_range → AreCandidates s o triples subject_range
+range_candidates s o triples subject_range is =
+    record { within = is.within; complete = λ x h a b. is.complete x h a; once = IsDistinct-from_sorted triple_cmp subject_range is.ordered }
 
 -- ---- in the order of the objects
 
-module _ (triples : List Triple) (index : List (Bor Triple)) (object : Term) (by_object : IsByObject triples index) where
+module _ (triples : List Triple) (index : List (Bor Triple)) (object : Term) (by_object : IsObjectIndex triples index) where
   pub objects_before : IsPartitionedBy (λ (r : Bor Triple). is_lt (term_cmp r.now.o object)) index
   objects_before i j d h l e =
       lt-falls _ _ (searchable_from_sorted term_cmp_total (λ (r : Bor Triple). r.now.o) index object by_object.sorted i j d h l) e
@@ -104,7 +104,7 @@ module _ (triples : List Triple) (index : List (Bor Triple)) (object : Term) (by
       (searchable_from_sorted term_cmp_total (λ (r : Bor Triple). r.now.o) index object by_object.sorted) i j d h l)
       e
 
-  -- what stands between the smaller objects and the greater ones has this object
+  -- what is between the smaller objects and the greater ones has this object
   pub range_between : IsOrdered triples → (low n : ℕ)
       → IsPartitionPoint (λ (r : Bor Triple). is_lt (term_cmp r.now.o object) ≡ true) (λ (r : Bor Triple). is_lt (term_cmp r.now.o object) ≡ false) index low
       → IsPartitionPoint (λ (r : Bor Triple). is_le (term_cmp r.now.o object) ≡ true) (λ (r : Bor Triple). is_le (term_cmp r.now.o object) ≡ false) (drop low index) n

@@ -1,4 +1,4 @@
--- Triples that their order does not tell apart are equal.
+-- Triples that compare as equal are equal.
 use Rattle.std.proofs.Common.{◌≡◌, ◌++◌, List, ℕ, refl, ap, subst, ◌∙◌, codes}
 use Rattle.std.proofs.lemmas.List.{append_cancel_left, append_cancel_right}
 use Rattle.std.proofs.lemmas.Map.Lookups.{exact_bytes, CmpEqualImpliesEq}
@@ -16,7 +16,7 @@ both_equal Less b e = absurd cc
 both_equal Equal b e = (refl, e)
 both_equal Greater b e = absurd cc
 
--- what stands behind two equal texts
+-- what follows two equal texts
 behind : (a b xs ys : List ℕ) → a ≡ b → a ++ xs ≡ b ++ ys → xs ≡ ys
 behind a b xs ys e h = append_cancel_left b xs ys (subst (λ c. c ++ xs ≡ b ++ ys) e h)
 

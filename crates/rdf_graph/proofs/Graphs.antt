@@ -11,7 +11,7 @@ use Rattle.std.proofs.lemmas.List.Kept.{Contains-dedup, Contains-from_dedup, IsS
 use Rattle.std.proofs.lemmas.List.Sorted.{Contains-permutation, All-permutation, IsPermutation-sym}
 use Rattle.std.proofs.lemmas.Option.{slice_get_within, get_or_from_slice_get}
 use Rattle.rdf_graph.specs.Graph.{IsGraph, SameSet, SetWith, SetWithout}
-use Rattle.rdf_graph.specs.Place.{IsGap}
+use Rattle.rdf_graph.specs.InsertionPoint.{IsInsertionPoint}
 use Rattle.rdf_graph.specs.Triple.{triple_cmp, IsRdf}
 use Rattle.rdf_graph.specs.TripleLaws.{triple_cmp_total}
 use Rattle.rdf_graph.specs.declared.triple.Triple.{Triple}
@@ -25,10 +25,10 @@ graph_of_none = record { ordered = sorted_nil triple_cmp; rdf = All-nil IsRdf }
 pub at_place : (g : List Triple) (i : ℕ) (t : Triple) → slice_get g i ≡ Some t → Contains g t
 at_place g i t e = (i, slice_get_within g i t e, get_or_from_slice_get g i t t e)
 
-pub absent : (g : List Triple) (i : ℕ) (t : Triple) → IsGap g i t → Contains g t → ⊥
+pub absent : (g : List Triple) (i : ℕ) (t : Triple) → IsInsertionPoint g i t → Contains g t → ⊥
 absent g i t gap = absent_at_gap triple_cmp_total triple_cmp_exact g i t gap.before gap.behind
 
-pub graph_with : (g : List Triple) (i : ℕ) (t : Triple) → IsGraph g → IsRdf t → IsGap g i t → IsGraph (insert g i t)
+pub graph_with : (g : List Triple) (i : ℕ) (t : Triple) → IsGraph g → IsRdf t → IsInsertionPoint g i t → IsGraph (insert g i t)
 graph_with g i t graph rdf gap =
     record {
       ordered = sorted_with triple_cmp_total triple_cmp_exact g i t graph.ordered gap.before gap.behind;
@@ -42,18 +42,18 @@ graph_with g i t graph rdf gap =
 pub graph_without : (g : List Triple) (i : ℕ) (t : Triple) → IsGraph g → slice_get g i ≡ Some t → IsGraph (remove g i)
 unfolding at_place
 graph_without g i t graph e =
-    let place = at_place g i t e in
+    let position = at_place g i t e in
     record {
-      ordered = sorted_without triple_cmp_total triple_cmp_exact g i t place.1 place.2 graph.ordered;
+      ordered = sorted_without triple_cmp_total triple_cmp_exact g i t position.1 position.2 graph.ordered;
       rdf = All-from_members IsRdf (remove g i)
-          (λ x h. All-contains IsRdf g x graph.rdf ((contains_without triple_cmp_total triple_cmp_exact g i t x place.1 place.2 graph.ordered).0 h).0);
+          (λ x h. All-contains IsRdf g x graph.rdf ((contains_without triple_cmp_total triple_cmp_exact g i t x position.1 position.2 graph.ordered).0 h).0);
     }
 
 pub set_without : (g : List Triple) (i : ℕ) (t : Triple) → IsGraph g → slice_get g i ≡ Some t → SetWithout g t (remove g i)
 unfolding at_place
 set_without g i t graph e x =
-    let place = at_place g i t e in
-    contains_without triple_cmp_total triple_cmp_exact g i t x place.1 place.2 graph.ordered
+    let position = at_place g i t e in
+    contains_without triple_cmp_total triple_cmp_exact g i t x position.1 position.2 graph.ordered
 
 pub set_with_itself : (g : List Triple) (t : Triple) → Contains g t → SetWith g t g
 set_with_itself g t h x = (λ old. inl old, λ new. ⊎_elim (λ old. old) (λ same. subst (Contains g) (sym same) h) new)

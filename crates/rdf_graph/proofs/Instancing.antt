@@ -3,7 +3,7 @@ use Rattle.std.proofs.Common.{ℕ, ◌+◌, ◌<◌, ◌≤◌, ◌≡◌, List,
 use Rattle.std.specs.List.{All, AllZip, Contains}
 use Rattle.std.proofs.lemmas.List.{take_all, take_more}
 use Rattle.std.proofs.lemmas.List.Elements.{Contains-append_cases}
-use Rattle.rdf_graph.specs.Patch.{IsFaultOf, IsInstance, IsMappingFault, IsMisfit}
+use Rattle.rdf_graph.specs.Patch.{IsFaultOf, IsInstance, IsMappingFault, IsCheckFault}
 use Rattle.rdf_graph.specs.Pattern.{Binding, Instantiates, value_of}
 use Rattle.rdf_graph.specs.Solutions.{IsOnlySolution}
 use Rattle.rdf_graph.specs.declared.patch.Patch.{Patch}
@@ -45,7 +45,7 @@ fault_of_mapping g patch MissingDeletion h = absurd h
 fault_of_mapping g patch NotTriple h = absurd h
 fault_of_mapping g patch NoMemory h = tt
 
-pub fault_of_check : (g : List Triple) (patch : Patch) (pairs : List (List ℕ × Term)) (fault : PatchFault) → IsOnlySolution g patch.conditions.items pairs → IsMisfit g patch (value_of pairs) fault → IsFaultOf g patch fault
+pub fault_of_check : (g : List Triple) (patch : Patch) (pairs : List (List ℕ × Term)) (fault : PatchFault) → IsOnlySolution g patch.conditions.items pairs → IsCheckFault g patch (value_of pairs) fault → IsFaultOf g patch fault
 fault_of_check g patch pairs NoMatch only h = absurd h
 fault_of_check g patch pairs ManyMatches only h = absurd h
 fault_of_check g patch pairs MissingDeletion only h =

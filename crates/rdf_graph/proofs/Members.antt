@@ -21,7 +21,7 @@ contains_there y ys x h = (suc h.0, omega (arith, h.1), h.2)
 pub contains_none : {X : Type 0} (x : X) → Contains [] x → ⊥
 contains_none x h = omega (arith, h.1)
 
--- a list is what stands before a place and what stands behind it
+-- a list is what precedes a position and what follows it
 pub contains_split : {X : Type 0} (i : ℕ) (xs : List X) (x : X) → Contains xs x → Contains (take i xs) x ⊎ Contains (drop i xs) x
 contains_split i xs x h =
     Contains-append_cases (take i xs) (drop i xs) x (subst (λ ys. Contains ys x) (sym (take-append-drop i xs)) h)
@@ -60,7 +60,7 @@ All-left P xs ys a = All-from_members P xs (λ x h. All-contains P (xs ++ ys) x 
 pub All-right : {X : Type 0} (P : X → Type 0) (xs ys : List X) → All P (xs ++ ys) → All P ys
 All-right P xs ys a = All-from_members P ys (λ x h. All-contains P (xs ++ ys) x a (Contains-append_right xs ys x h))
 
--- what holds below a place, and from a place on
+-- what holds below a position, and from a position on
 pub All-take_within : {X : Type 0} (P : X → Type 0) (xs : List X) (i : ℕ) → AllWithin P xs 0 i → All P (take i xs)
 All-take_within P xs i h =
     λ k d m. subst P (sym (get_or-take i xs k d (omega (arith, m, length-take i xs)))) (h k d (omega arith) (omega (arith, m, length-take i xs)))

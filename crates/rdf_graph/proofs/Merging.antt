@@ -16,7 +16,7 @@ use Rattle.rdf_graph.specs.declared.triple.Triple.{Triple}
 use Rattle.rdf_graph.proofs.Exact.{triple_cmp_exact}
 use Rattle.rdf_graph.proofs.Members.{contains_none, contains_here, contains_there, contains_cases, contains_take, All-from_members}
 use Rattle.rdf_graph.proofs.Sorted.{sorted_nil, sorted_cons, sorted_first, sorted_append, sorted_drop, above_is_below, below_itself, absent_at_gap}
-use Rattle.rdf_graph.specs.Place.{ComesFirst}
+use Rattle.rdf_graph.specs.InsertionPoint.{ComesFirst}
 
 not_first : (x y : Triple) (ys : List Triple) → (y ≡ x → ⊥) → Contains ys x ⊎ (Contains ys x → ⊥) → Contains (y ∷ ys) x ⊎ (Contains (y ∷ ys) x → ⊥)
 not_first x y ys apart (inl there) = inl (contains_there y ys x there)
@@ -64,7 +64,7 @@ AllBelow-first xs y ys h = λ k d l. All-head (λ z. triple_cmp (get_or xs k d) 
 AllBelow-push : (xs : List Triple) (x : Triple) (ys : List Triple) → AllBelow xs ys → All (λ y. triple_cmp x y ≡ Less) ys → AllBelow (xs ++ x ∷ []) ys
 AllBelow-push xs x ys h a = All-push (λ z. All (λ y. triple_cmp z y ≡ Less) ys) xs x h a
 
--- a triple above all that stand in order is put behind them
+-- a triple above all of a list in order is appended
 pushed : (xs : List Triple) (x : Triple) → IsOrdered xs → All (λ y. triple_cmp y x ≡ Less) xs → IsOrdered (xs ++ x ∷ [])
 pushed xs x s below =
     sorted_append triple_cmp xs (x ∷ []) s (sorted_cons triple_cmp x [] (All-nil (λ y. triple_cmp x y ≡ Less)) (sorted_nil triple_cmp))
@@ -74,7 +74,7 @@ below_rest : (x y : Triple) (ys : List Triple) → triple_cmp x y ≡ Less → A
 below_rest x y ys h a =
     All-cons (λ z. triple_cmp x z ≡ Less) y ys h (λ k d l. triple_cmp_total.trans x y (get_or ys k d) h (a k d l))
 
--- what the first list has at its place is below the second
+-- what the first list has at its position is below the second
 pub comes_first_at : (first : List Triple) (k : ℕ) (second : List Triple) (i : ℕ) (y x : Triple) → IsOrdered second → slice_get first k ≡ Some y → slice_get second i ≡ Some x → triple_cmp y x ≡ Less → ComesFirst first k second i
 comes_first_at first k second i y x s at at' h =
     let rest : drop i second ≡ x ∷ drop (i + 1) second =
@@ -97,7 +97,7 @@ pub comes_first_of_none : (first : List Triple) (k : ℕ) (second : List Triple)
 comes_first_of_none first k second i y at l =
     record { next = y; is_next = at; below = subst (All (λ z. triple_cmp y z ≡ Less)) (sym (drop_all i second l)) (All-nil (λ z. triple_cmp y z ≡ Less)) }
 
--- where it isn't below, and isn't the triple, what stands from there on is above
+-- where it isn't below, and isn't the triple, all from there on is above
 pub stands_above : (xs : List Triple) (k : ℕ) (old : List Triple) (i : ℕ) (x : Triple) → IsOrdered xs → IsOrdered old → slice_get old i ≡ Some x
     → (ComesFirst xs k old i → ⊥) → (slice_get xs k ≡ Some x → ⊥) → All (λ y. triple_cmp x y ≡ Less) (drop k xs)
 stands_above xs k old i x s t at not_first not_at =

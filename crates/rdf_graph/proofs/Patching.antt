@@ -10,7 +10,7 @@ use Rattle.rdf_graph.specs.Solutions.{IsOnlySolution}
 use Rattle.rdf_graph.specs.declared.pattern.Pattern.{Pattern}
 use Rattle.rdf_graph.specs.declared.term.Term.{Term}
 use Rattle.rdf_graph.specs.declared.triple.Triple.{Triple}
-use Rattle.rdf_graph.proofs.Bindings.{same_some}
+use Rattle.rdf_graph.proofs.BindingSteps.{same_some}
 use Rattle.rdf_graph.proofs.Exact.{same_parts}
 use Rattle.rdf_graph.proofs.Members.{contains_cases, contains_here, contains_none, contains_there}
 

@@ -1,23 +1,23 @@
--- Solutions of conditions, from those of their groups.
+-- Solutions of conditions, from those of their components.
 use Rattle.std.proofs.Common.{ℕ, zero, suc, ◌+◌, ◌<◌, ◌≡◌, ◌≢◌, ◌↔◌, List, [], ◌++◌, Bool, true, false, Option, None, Some, refl, sym, ap, ◌∙◌, subst, ⊎_elim, length, replicate, get_or, arith, eqb, ltb}
 use Rattle.std.specs.Prelude.{slice_get}
 use Rattle.std.specs.List.{Contains, All}
 use Rattle.std.proofs.lemmas.Bool.{cases_order, eqb-true, eq-eqb, ltb-true, lt-ltb, false≢true}
 use Rattle.std.proofs.lemmas.List.Elements.{All-append, All-contains, All-nil, Contains-append_left, Contains-append_right, Contains-append_cases}
 use Rattle.std.proofs.lemmas.Option.{slice_get-get_or, slice_get_within, get_or_from_slice_get}
-use Rattle.rdf_graph.specs.Groups.{AreGroups, Connects, selected}
+use Rattle.rdf_graph.specs.ConnectedComponents.{AreComponentLabels, Connects, selected}
 use Rattle.rdf_graph.specs.Pattern.{Binding, Extends, HoldsIn, IsSolution, IsVariableOf, value_of}
-use Rattle.rdf_graph.specs.Search.{AreTwo, Everything, IsBoth, IsFull, IsJoin, IsPartial, IsTheOne, Satisfies, Tells}
+use Rattle.rdf_graph.specs.Search.{HasTwoMatches, AnyBinding, IsJoin, IsCompleteMatch, IsMergedMapping, IsPartialMatch, IsUniqueMatch, Satisfies, IsSearchResult}
 use Rattle.rdf_graph.specs.Solutions.{AreSolutions}
 use Rattle.rdf_graph.specs.declared.pattern.Found.{Found}
 use Rattle.rdf_graph.specs.declared.pattern.Found.TheVariants.{Nothing, One, Many}
 use Rattle.rdf_graph.specs.declared.pattern.Pattern.{Pattern}
 use Rattle.rdf_graph.specs.declared.term.Term.{Term}
 use Rattle.rdf_graph.specs.declared.triple.Triple.{Triple}
-use Rattle.rdf_graph.proofs.Bindings.{Pairs, NamedOnce-append, holds_kept, is_some_from, none_is, same_some, some_is, some_not_none, value_of-append_cases, value_of-left, value_of-right}
-use Rattle.rdf_graph.proofs.Grouping.{selected_at, selected_from}
+use Rattle.rdf_graph.proofs.BindingSteps.{Pairs, HasDistinctNames-append, holds_kept, is_some_from, none_is, same_some, some_is, some_not_none, value_of-append_cases, value_of-left, value_of-right}
+use Rattle.rdf_graph.proofs.Components.{selected_at, selected_from}
 use Rattle.rdf_graph.proofs.Members.{All-from_members, All-left, All-right, contains_none}
-use Rattle.rdf_graph.proofs.Telling.{has_variables, tells_among}
+use Rattle.rdf_graph.proofs.SearchResults.{has_variables, result_among}
 
 -- ---- patterns that are the same but for their order
 
@@ -28,7 +28,7 @@ module _ (g : List Triple) (A B : List Pattern) (same : (c : Pattern) → Contai
   satisfies_back : (m : Binding) → Satisfies g B m → Satisfies g A m
   satisfies_back m s = All-from_members (HoldsIn g m) A (λ c h. All-contains (HoldsIn g m) B c s ((same c).0 h))
 
-  full_same : (pairs : Pairs) → IsFull g A pairs → IsFull g B pairs
+  full_same : (pairs : Pairs) → IsCompleteMatch g A pairs → IsCompleteMatch g B pairs
   full_same pairs full =
       record {
         once = full.once;
@@ -36,11 +36,11 @@ module _ (g : List Triple) (A B : List Pattern) (same : (c : Pattern) → Contai
         satisfies = satisfies_same (value_of pairs) full.satisfies;
       }
 
-  pub tells_same : (f : Found) → Tells g A Everything f → Tells g B Everything f
-  tells_same Nothing h = λ m s q. h m (satisfies_back m s) q
-  tells_same (One mapping) h =
+  pub result_same : (f : Found) → IsSearchResult g A AnyBinding f → IsSearchResult g B AnyBinding f
+  result_same Nothing h = λ m s q. h m (satisfies_back m s) q
+  result_same (One mapping) h =
       record { full = full_same mapping.pairs.items h.full; among = tt; only = λ m s q. h.only m (satisfies_back m s) q }
-  tells_same Many h =
+  result_same Many h =
       record {
         first = h.first;
         second = h.second;
@@ -61,7 +61,7 @@ module _ (g : List Triple) (A B : List Pattern) (disjoint : (name : List ℕ) �
   variable_right : (name : List ℕ) → IsVariableOf B name → IsVariableOf (A ++ B) name
   variable_right name h = (h.0, Contains-append_right A B h.0 h.1, h.2)
 
-  module _ (ps qs : Pairs) (a : IsFull g A ps) (b : IsFull g B qs) where
+  module _ (ps qs : Pairs) (a : IsCompleteMatch g A ps) (b : IsCompleteMatch g B qs) where
     -- a name of the one isn't one of the other
     not_right : (name : List ℕ) → IsVariableOf A name → value_of qs name ≡ None
     not_right name h = none_is (value_of qs name) (λ s. disjoint name h (b.within name s))
@@ -85,10 +85,10 @@ module _ (g : List Triple) (A B : List Pattern) (disjoint : (name : List ℕ) �
     extends_right : Extends qs (value_of (ps ++ qs))
     extends_right name term e = at_right name (b.within name (is_some_from _ term e)) ∙ e
 
-    pub full_both : IsFull g (A ++ B) (ps ++ qs)
+    pub full_both : IsCompleteMatch g (A ++ B) (ps ++ qs)
     full_both =
         record {
-          once = NamedOnce-append ps qs a.once b.once (λ name h. not_right name (a.within name h));
+          once = HasDistinctNames-append ps qs a.once b.once (λ name h. not_right name (a.within name h));
           within = λ name h.
               let found = some_is (value_of (ps ++ qs) name) h in
               ⊎_elim
@@ -108,7 +108,7 @@ module _ (g : List Triple) (A B : List Pattern) (disjoint : (name : List ℕ) �
         (value_of-append_cases ps qs name)
 
   -- a name at which two full mappings differ is a variable
-  differ_at_variable : (C : List Pattern) (ps qs : Pairs) → IsFull g C ps → IsFull g C qs → (name : List ℕ) → (value_of ps name ≢ value_of qs name) → IsVariableOf C name
+  differ_at_variable : (C : List Pattern) (ps qs : Pairs) → IsCompleteMatch g C ps → IsCompleteMatch g C qs → (name : List ℕ) → (value_of ps name ≢ value_of qs name) → IsVariableOf C name
   differ_at_variable C ps qs a b name apart = by_first (value_of ps name) refl (value_of qs name) refl
     where
       by_first : (o : Option Term) → value_of ps name ≡ o → (p : Option Term) → value_of qs name ≡ p → IsVariableOf C name
@@ -116,7 +116,7 @@ module _ (g : List Triple) (A B : List Pattern) (disjoint : (name : List ℕ) �
       by_first None e (Some y) f = b.within name (is_some_from _ y f)
       by_first None e None f = absurd (apart (e ∙ sym f))
 
-  two_left : (qs : Pairs) → IsFull g B qs → AreTwo g A Everything → AreTwo g (A ++ B) Everything
+  two_left : (qs : Pairs) → IsCompleteMatch g B qs → HasTwoMatches g A AnyBinding → HasTwoMatches g (A ++ B) AnyBinding
   two_left qs b two =
       let variable : IsVariableOf A two.name = differ_at_variable A two.first two.second two.is_first two.is_second two.name two.apart in
       record {
@@ -130,7 +130,7 @@ module _ (g : List Triple) (A B : List Pattern) (disjoint : (name : List ℕ) �
         apart = λ same. two.apart (sym (at_left two.first qs two.is_first b two.name variable) ∙ same ∙ at_left two.second qs two.is_second b two.name variable);
       }
 
-  two_right : (ps : Pairs) → IsFull g A ps → AreTwo g B Everything → AreTwo g (A ++ B) Everything
+  two_right : (ps : Pairs) → IsCompleteMatch g A ps → HasTwoMatches g B AnyBinding → HasTwoMatches g (A ++ B) AnyBinding
   two_right ps a two =
       let variable : IsVariableOf B two.name = differ_at_variable B two.first two.second two.is_first two.is_second two.name two.apart in
       record {
@@ -144,33 +144,33 @@ module _ (g : List Triple) (A B : List Pattern) (disjoint : (name : List ℕ) �
         apart = λ same. two.apart (sym (at_right ps two.first a two.is_first two.name variable) ∙ same ∙ at_right ps two.second a two.is_second two.name variable);
       }
 
-  none_left : Tells g A Everything Nothing → Tells g (A ++ B) Everything Nothing
+  none_left : IsSearchResult g A AnyBinding Nothing → IsSearchResult g (A ++ B) AnyBinding Nothing
   none_left h m s q = h m (All-left (HoldsIn g m) A B s) q
 
-  none_right : Tells g B Everything Nothing → Tells g (A ++ B) Everything Nothing
+  none_right : IsSearchResult g B AnyBinding Nothing → IsSearchResult g (A ++ B) AnyBinding Nothing
   none_right h m s q = h m (All-right (HoldsIn g m) A B s) q
 
-  tells_join : (ps qs : Pairs) (found : Found) → IsJoin ps qs found → IsTheOne g A Everything ps → IsTheOne g B Everything qs → Tells g (A ++ B) Everything found
-  tells_join ps qs Nothing e a b = absurd e
-  tells_join ps qs (One mapping) e a b =
-      subst (IsTheOne g (A ++ B) Everything) (sym e)
+  result_pairs : (ps qs : Pairs) (found : Found) → IsMergedMapping ps qs found → IsUniqueMatch g A AnyBinding ps → IsUniqueMatch g B AnyBinding qs → IsSearchResult g (A ++ B) AnyBinding found
+  result_pairs ps qs Nothing e a b = absurd e
+  result_pairs ps qs (One mapping) e a b =
+      subst (IsUniqueMatch g (A ++ B) AnyBinding) (sym e)
       (record {
         full = full_both ps qs a.full b.full;
         among = tt;
         only = λ m s q. only_both ps qs a.full b.full m (a.only m (All-left (HoldsIn g m) A B s) q) (b.only m (All-right (HoldsIn g m) A B s) q);
       })
-  tells_join ps qs Many e a b = absurd e
+  result_pairs ps qs Many e a b = absurd e
 
-  pub tells_both : (f h found : Found) → IsBoth f h found → Tells g A Everything f → Tells g B Everything h → Tells g (A ++ B) Everything found
-  tells_both Nothing h found e a b = subst (Tells g (A ++ B) Everything) (sym e) (none_left a)
-  tells_both (One mapping) Nothing found e a b = subst (Tells g (A ++ B) Everything) (sym e) (none_right b)
-  tells_both (One mapping) (One other) found e a b = tells_join mapping.pairs.items other.pairs.items found e a b
-  tells_both (One mapping) Many found e a b = subst (Tells g (A ++ B) Everything) (sym e) (two_right mapping.pairs.items a.full b)
-  tells_both Many Nothing found e a b = subst (Tells g (A ++ B) Everything) (sym e) (none_right b)
-  tells_both Many (One other) found e a b = subst (Tells g (A ++ B) Everything) (sym e) (two_left other.pairs.items b.full a)
-  tells_both Many Many found e a b = subst (Tells g (A ++ B) Everything) (sym e) (two_left b.first b.is_first a)
+  pub result_join : (f h found : Found) → IsJoin f h found → IsSearchResult g A AnyBinding f → IsSearchResult g B AnyBinding h → IsSearchResult g (A ++ B) AnyBinding found
+  result_join Nothing h found e a b = subst (IsSearchResult g (A ++ B) AnyBinding) (sym e) (none_left a)
+  result_join (One mapping) Nothing found e a b = subst (IsSearchResult g (A ++ B) AnyBinding) (sym e) (none_right b)
+  result_join (One mapping) (One other) found e a b = result_pairs mapping.pairs.items other.pairs.items found e a b
+  result_join (One mapping) Many found e a b = subst (IsSearchResult g (A ++ B) AnyBinding) (sym e) (two_right mapping.pairs.items a.full b)
+  result_join Many Nothing found e a b = subst (IsSearchResult g (A ++ B) AnyBinding) (sym e) (none_right b)
+  result_join Many (One other) found e a b = subst (IsSearchResult g (A ++ B) AnyBinding) (sym e) (two_left other.pairs.items b.full a)
+  result_join Many Many found e a b = subst (IsSearchResult g (A ++ B) AnyBinding) (sym e) (two_left b.first b.is_first a)
 
--- ---- from groups to all conditions
+-- ---- from components to all conditions
 
 -- the conditions with lower labels
 abbrev pub below : List Pattern → List ℕ → ℕ → List Pattern
@@ -180,13 +180,13 @@ below conditions labels label = selected (λ k. ltb k label) conditions labels
 abbrev pub with_label : List Pattern → List ℕ → ℕ → List Pattern
 with_label conditions labels label = selected (λ k. eqb k label) conditions labels
 
-module _ (g : List Triple) (conditions : List Pattern) (labels : List ℕ) (groups : AreGroups conditions labels) where
+module _ (g : List Triple) (conditions : List Pattern) (labels : List ℕ) (components : AreComponentLabels conditions labels) where
   apart : (label : ℕ) (name : List ℕ) → IsVariableOf (below conditions labels label) name → IsVariableOf (with_label conditions labels label) name → ⊥
   apart label name a b =
       let at = selected_at (λ k. ltb k label) conditions labels a.0 a.1 in
       let at' = selected_at (λ k. eqb k label) conditions labels b.0 b.1 in
       let connected : Connects conditions at.0 at'.0 = record { first = a.0; second = b.0; is_first = at.2; is_second = at'.2; shares = (name, a.2, b.2) } in
-      let one : at.1 ≡ at'.1 = same_some (slice_get labels at.0) at.1 at'.1 at.3 (groups at.0 at'.0 connected ∙ at'.3) in
+      let one : at.1 ≡ at'.1 = same_some (slice_get labels at.0) at.1 at'.1 at.3 (components at.0 at'.0 connected ∙ at'.3) in
       omega (arith, ltb-true at.1 label at.4, eqb-true at'.1 label at'.4, one)
 
   one_more : (label : ℕ) (c : Pattern) → Contains (below conditions labels label ++ with_label conditions labels label) c ↔ Contains (below conditions labels (label + 1)) c
@@ -210,23 +210,23 @@ module _ (g : List Triple) (conditions : List Pattern) (labels : List ℕ) (grou
         (cases_order at.1 label),
   )
 
-  -- one more group
-  pub tells_more : (label : ℕ) (f h found : Found) → IsBoth f h found → Tells g (below conditions labels label) Everything f → Tells g (with_label conditions labels label) Everything h → Tells g (below conditions labels (label + 1)) Everything found
-  tells_more label f h found e a b =
-      tells_same g (below conditions labels label ++ with_label conditions labels label) (below conditions labels (label + 1)) (one_more label) found
-      (tells_both g (below conditions labels label) (with_label conditions labels label) (apart label) f h found e a b)
+  -- one more component
+  pub result_more : (label : ℕ) (f h found : Found) → IsJoin f h found → IsSearchResult g (below conditions labels label) AnyBinding f → IsSearchResult g (with_label conditions labels label) AnyBinding h → IsSearchResult g (below conditions labels (label + 1)) AnyBinding found
+  result_more label f h found e a b =
+      result_same g (below conditions labels label ++ with_label conditions labels label) (below conditions labels (label + 1)) (one_more label) found
+      (result_join g (below conditions labels label) (with_label conditions labels label) (apart label) f h found e a b)
 
   -- before the first
-  pub tells_before : (found : Found) → Tells g [] Everything found → Tells g (below conditions labels 0) Everything found
-  tells_before found a =
-      tells_same g [] (below conditions labels 0)
+  pub result_before : (found : Found) → IsSearchResult g [] AnyBinding found → IsSearchResult g (below conditions labels 0) AnyBinding found
+  result_before found a =
+      result_same g [] (below conditions labels 0)
       (λ c. (λ h. absurd (contains_none c h), λ h. let at = selected_at (λ k. ltb k 0) conditions labels c h in absurd (omega (arith, ltb-true at.1 0 at.4))))
       found a
 
   -- after the last
-  pub tells_after : length labels ≡ length conditions → All (λ label. label < length conditions) labels → (found : Found) → Tells g (below conditions labels (length conditions)) Everything found → Tells g conditions Everything found
-  tells_after long small found a =
-      tells_same g (below conditions labels (length conditions)) conditions
+  pub result_after : length labels ≡ length conditions → All (λ label. label < length conditions) labels → (found : Found) → IsSearchResult g (below conditions labels (length conditions)) AnyBinding found → IsSearchResult g conditions AnyBinding found
+  result_after long small found a =
+      result_same g (below conditions labels (length conditions)) conditions
       (λ c. (
         λ h. let at = selected_at (λ k. ltb k (length conditions)) conditions labels c h in
             (at.0, slice_get_within conditions at.0 c at.2, get_or_from_slice_get conditions at.0 c c at.2),
@@ -238,9 +238,9 @@ module _ (g : List Triple) (conditions : List Pattern) (labels : List ℕ) (grou
       ))
       found a
 
-  -- a group without a solution leaves none
-  pub none_in_group : (label : ℕ) → Tells g (with_label conditions labels label) Everything Nothing → AreSolutions g conditions Nothing
-  none_in_group label a m s =
+  -- a component without a solution leaves none
+  pub none_in_component : (label : ℕ) → IsSearchResult g (with_label conditions labels label) AnyBinding Nothing → AreSolutions g conditions Nothing
+  none_in_component label a m s =
       a m (All-from_members (HoldsIn g m) (with_label conditions labels label)
       (λ c h. let at = selected_at (λ k. eqb k label) conditions labels c h in
       All-contains (HoldsIn g m) conditions c s.holds (at.0, slice_get_within conditions at.0 c at.2, get_or_from_slice_get conditions at.0 c c at.2)))
@@ -249,25 +249,25 @@ module _ (g : List Triple) (conditions : List Pattern) (labels : List ℕ) (grou
 -- ---- from findings to solutions
 
 module _ (g : List Triple) (conditions : List Pattern) where
-  solution_from : (pairs : Pairs) → IsFull g conditions pairs → IsSolution g conditions (value_of pairs)
+  solution_from : (pairs : Pairs) → IsCompleteMatch g conditions pairs → IsSolution g conditions (value_of pairs)
   solution_from pairs full =
       record {
         variables = λ name. (λ h. full.within name h, λ h. has_variables g conditions (value_of pairs) full.satisfies name h);
         holds = full.satisfies;
       }
 
-  pub solutions_from : (found : Found) → Tells g conditions Everything found → AreSolutions g conditions found
+  pub solutions_from : (found : Found) → IsSearchResult g conditions AnyBinding found → AreSolutions g conditions found
   solutions_from Nothing a = λ m s. a m s.holds tt
   solutions_from (One mapping) a =
       record {
         once = a.full.once;
         solution = solution_from mapping.pairs.items a.full;
-        only = λ m s name. agrees m s name (value_of mapping.pairs.items name) refl;
+        only = λ m s name. has_terms m s name (value_of mapping.pairs.items name) refl;
       }
     where
-      agrees : (m : Binding) → IsSolution g conditions m → (name : List ℕ) (o : Option Term) → value_of mapping.pairs.items name ≡ o → m name ≡ value_of mapping.pairs.items name
-      agrees m s name (Some term) e = a.only m s.holds tt name term e ∙ sym e
-      agrees m s name None e =
+      has_terms : (m : Binding) → IsSolution g conditions m → (name : List ℕ) (o : Option Term) → value_of mapping.pairs.items name ≡ o → m name ≡ value_of mapping.pairs.items name
+      has_terms m s name (Some term) e = a.only m s.holds tt name term e ∙ sym e
+      has_terms m s name None e =
           none_is (m name) (λ h. some_not_none _ _ (some_is (value_of mapping.pairs.items name) (has_variables g conditions (value_of mapping.pairs.items) a.full.satisfies name ((s.variables name).0 h))).1 e) ∙ sym e
   solutions_from Many a =
       record {
@@ -281,9 +281,9 @@ module _ (g : List Triple) (conditions : List Pattern) where
 
 -- ---- the start
 
-pub one_of_none : (g : List Triple) (pairs : Pairs) → pairs ≡ [] → IsTheOne g [] Everything pairs
+pub one_of_none : (g : List Triple) (pairs : Pairs) → pairs ≡ [] → IsUniqueMatch g [] AnyBinding pairs
 one_of_none g pairs e =
-    subst (IsTheOne g [] Everything) (sym e)
+    subst (IsUniqueMatch g [] AnyBinding) (sym e)
     (record {
       full = record { once = tt; within = λ name h. absurd (false≢true h); satisfies = All-nil (HoldsIn g (value_of [])) };
       among = tt;
@@ -295,14 +295,14 @@ no_flag zero i e = some_not_none None true e refl
 no_flag (suc n) zero e = false≢true (same_some (Some false) false true refl e)
 no_flag (suc n) (suc i) e = no_flag n i e
 
-pub partial_of_none : (g : List Triple) (patterns : List Pattern) (n : ℕ) (taken : List Bool) (pairs : Pairs) → taken ≡ replicate n false → pairs ≡ [] → IsPartial g patterns taken pairs
+pub partial_of_none : (g : List Triple) (patterns : List Pattern) (n : ℕ) (taken : List Bool) (pairs : Pairs) → taken ≡ replicate n false → pairs ≡ [] → IsPartialMatch g patterns taken pairs
 partial_of_none g patterns n taken pairs e f =
-    subst (λ t. IsPartial g patterns t pairs) (sym e)
-    (subst (IsPartial g patterns (replicate n false)) (sym f)
+    subst (λ t. IsPartialMatch g patterns t pairs) (sym e)
+    (subst (IsPartialMatch g patterns (replicate n false)) (sym f)
     (record { once = tt; within = λ name h. absurd (false≢true h); done = λ i pattern h k. absurd (no_flag n i h) }))
 
-pub tells_everything : (g : List Triple) (patterns : List Pattern) (pairs : Pairs) (found : Found) → pairs ≡ [] → Tells g patterns (Extends pairs) found → Tells g patterns Everything found
-tells_everything g patterns pairs found e a =
-    tells_among g patterns (Extends pairs) Everything
+pub result_everything : (g : List Triple) (patterns : List Pattern) (pairs : Pairs) (found : Found) → pairs ≡ [] → IsSearchResult g patterns (Extends pairs) found → IsSearchResult g patterns AnyBinding found
+result_everything g patterns pairs found e a =
+    result_among g patterns (Extends pairs) AnyBinding
     (λ m s. (λ q. tt, λ q name term h. absurd (some_not_none None term (subst (λ ps. value_of ps name ≡ Some term) e h) refl)))
     found a

@@ -1,4 +1,4 @@
--- Lists in strict order, for any order that is total and tells different things apart.
+-- Lists in strict order, for any total order in which only equal things compare as equal.
 use Rattle.std.proofs.Common.{ℕ, suc, ◌+◌, ◌<◌, ◌≤◌, ◌≡◌, ◌≢◌, ◌↔◌, List, [], ◌∷◌, ◌++◌, Result, Ok, Err, Some, length, take, drop, get_or, refl, sym, ap, ◌∙◌, subst, arith, ⊎_elim}
 use Rattle.std.specs.Prelude.{slice_get, MatchResult}
 use Rattle.std.specs.List.{Contains, All, insert, remove}
@@ -83,11 +83,11 @@ module _ {K : Type 0} {R : K → K → Ordering} (o : IsTotalOrder R) (exact : C
   pub not_among_below : (x : K) (xs : List K) → All (λ y. R y x ≡ Less) xs → Contains xs x → ⊥
   not_among_below x xs a h = below_itself x (All-contains (λ y. R y x ≡ Less) xs x a h)
 
-  -- what stands below and above what
+  -- what is below and above what
   pub below_all : (x t : K) (ys : List K) → R x t ≡ Less → All (λ y. R t y ≡ Less) ys → All (λ y. R x y ≡ Less) ys
   below_all x t ys h a = λ k d l. o.trans x t (get_or ys k d) h (a k d l)
 
-  -- t stands in a list in order where the elements before are below it, and those behind are above
+  -- t is in a list in order where the elements before are below it, and those after are above
   pub sorted_with : (xs : List K) (i : ℕ) (t : K) → IsStrictlySortedBy R xs → All (λ y. R y t ≡ Less) (take i xs) → All (λ y. R t y ≡ Less) (drop i xs) → IsStrictlySortedBy R (insert xs i t)
   sorted_with xs i t s before behind =
       let parts : IsStrictlySortedBy R (take i xs ++ drop i xs) = subst (IsStrictlySortedBy R) (sym (take-append-drop i xs)) s in
@@ -95,12 +95,12 @@ module _ {K : Type 0} {R : K → K → Ordering} (o : IsTotalOrder R) (exact : C
       (sorted_cons R t (drop i xs) behind (sorted_right R (take i xs) (drop i xs) parts))
       (λ k d l. All-cons (λ y. R (get_or (take i xs) k d) y ≡ Less) t (drop i xs) (before k d l) (below_all (get_or (take i xs) k d) t (drop i xs) (before k d l) behind))
 
-  -- at such a place t isn't in the list
+  -- at such a position t isn't in the list
   pub absent_at_gap : (xs : List K) (i : ℕ) (t : K) → All (λ y. R y t ≡ Less) (take i xs) → All (λ y. R t y ≡ Less) (drop i xs) → Contains xs t → ⊥
   absent_at_gap xs i t before behind h =
       ⊎_elim (λ front. not_among_below t (take i xs) before front) (λ back. not_among t (drop i xs) behind back) (contains_split i xs t h)
 
-  -- a list in order that has a member at a place
+  -- a list in order that has a member at a position
   pub split_at : (xs : List K) (i : ℕ) (t : K) → i < length xs → get_or xs i t ≡ t → xs ≡ take i xs ++ (t ∷ drop (suc i) xs)
   split_at xs i t l e = sym (take-append-drop i xs) ∙ ap (λ ys. take i xs ++ ys) (drop-cons xs i t l ∙ ap (λ x. x ∷ drop (suc i) xs) e)
 
@@ -134,7 +134,7 @@ module _ {K : Type 0} {R : K → K → Ordering} (o : IsTotalOrder R) (exact : C
       searchable_from_sorted o (λ y. y) xs t
       (λ k d low l. ap is_lt (below_is_above (get_or xs k d) (get_or xs (k + 1) d) (Less-from_sorted R xs k (k + 1) d s (omega arith) (omega arith))))
 
-  -- what a binary search for t finds: t, or its place
+  -- what a binary search for t finds: t, or its position
   pub found_or_gap : (xs : List K) (t : K) (r : Result ℕ ℕ) → IsStrictlySortedBy R xs → IsSearchInRange r (length xs) → IsBinarySearchResult (λ y. R y t) xs r
       → MatchResult r (λ i. slice_get xs i ≡ Some t) (λ i. (i ≤ length xs) × All (λ y. R y t ≡ Less) (take i xs) × All (λ y. R t y ≡ Less) (drop i xs))
   found_or_gap xs t (Ok i) s l h = slice_get-get_or xs i t l ∙ ap (λ x. Some x) (exact _ _ (h t))

@@ -5,7 +5,7 @@ use Rattle.std.specs.List.Sorted.{IsStrictlySortedBy}
 use Rattle.rdf_graph.specs.Triple.{line, triple_cmp, IsRdf}
 use Rattle.rdf_graph.specs.declared.triple.Triple.{Triple}
 
--- the triples stand in strict order, so without repeats
+-- the triples are in strict order, so without repeats
 abbrev pub IsOrdered : List Triple → Type 0
 IsOrdered = IsStrictlySortedBy triple_cmp
 

@@ -1,5 +1,6 @@
 -- Patterns, and what mappings make of them (Solid Protocol, N3 Patch).
-use Rattle.std.specs.Prelude.{ℕ, List, [], ◌∷◌, ◌≡◌, ◌↔◌, ◌⊎◌, Option, None, Some, IsSome, All, Contains, if◌then◌else◌, nat_eq}
+use Rattle.std.specs.Prelude.{ℕ, List, [], ◌∷◌, ◌≡◌, ◌↔◌, ◌⊎◌, Option, None, Some, IsSome, All}
+use Rattle.std.specs.Prelude.{Contains, if◌then◌else◌, nat_eq}
 use lib.Pointwise.{pointwise}
 use Rattle.rdf_graph.specs.declared.term.Term.{Term}
 use Rattle.rdf_graph.specs.declared.triple.Triple.{Triple}
@@ -7,16 +8,17 @@ use Rattle.rdf_graph.specs.declared.pattern.Slot.{Slot}
 use Rattle.rdf_graph.specs.declared.pattern.Slot.TheVariants.{Fixed, Var}
 use Rattle.rdf_graph.specs.declared.pattern.Pattern.{Pattern}
 
--- a mapping of names to terms: what it has for a name
+-- a mapping from names to terms
 abbrev pub Binding : Type 0
 Binding = List ℕ → Option Term
 
--- the mapping of these pairs, of which the first with a name counts
+-- the mapping of these pairs, where the first with a name counts
 abbrev pub value_of : List (List ℕ × Term) → Binding
 value_of [] name = None
-value_of (pair ∷ pairs) name = if pointwise nat_eq pair.0 name then Some pair.1 else value_of pairs name
+value_of (pair ∷ pairs) name =
+    if pointwise nat_eq pair.0 name then Some pair.1 else value_of pairs name
 
--- what stands in a slot under a mapping
+-- the term of a slot under a mapping, if it has one
 abbrev pub slot_term : Binding → Slot → Option Term
 slot_term m (Fixed term) = Some term
 slot_term m (Var name) = m name
@@ -33,26 +35,29 @@ HoldsIn g m pattern = (t : Triple) × Instantiates m pattern t × Contains g t
 
 -- the pattern has that variable
 abbrev pub HasVariable : Pattern → List ℕ → Type 0
-HasVariable pattern name = (pattern.s ≡ Var name) ⊎ ((pattern.p ≡ Var name) ⊎ (pattern.o ≡ Var name))
+HasVariable pattern name =
+    (pattern.s ≡ Var name) ⊎ ((pattern.p ≡ Var name) ⊎ (pattern.o ≡ Var name))
 
 -- one of the patterns has it
 abbrev pub IsVariableOf : List Pattern → List ℕ → Type 0
-IsVariableOf patterns name = (pattern : Pattern) × Contains patterns pattern × HasVariable pattern name
+IsVariableOf patterns name =
+    (pattern : Pattern) × Contains patterns pattern × HasVariable pattern name
 
 -- a mapping from exactly the variables of the conditions that makes each of them a triple of g
 pub record IsSolution (g : List Triple) (conditions : List Pattern) (m : Binding) : Type 0 where
   pub variables : (name : List ℕ) → IsSome (m name) ↔ IsVariableOf conditions name
   pub holds : All (HoldsIn g m) conditions
 
--- both have the same for each name
+-- both have the same value for each name
 abbrev pub SameBinding : Binding → Binding → Type 0
 SameBinding m n = (name : List ℕ) → m name ≡ n name
 
--- no name stands in two pairs
-abbrev pub NamedOnce : List (List ℕ × Term) → Type 0
-NamedOnce [] = Unit {0}
-NamedOnce (pair ∷ pairs) = (value_of pairs pair.0 ≡ None) × NamedOnce pairs
+-- no name is in two pairs
+abbrev pub HasDistinctNames : List (List ℕ × Term) → Type 0
+HasDistinctNames [] = Unit {0}
+HasDistinctNames (pair ∷ pairs) = (value_of pairs pair.0 ≡ None) × HasDistinctNames pairs
 
--- whatever the pairs have, m has
+-- m has the value of each name that the pairs have
 abbrev pub Extends : List (List ℕ × Term) → Binding → Type 0
-Extends pairs m = (name : List ℕ) (term : Term) → value_of pairs name ≡ Some term → m name ≡ Some term
+Extends pairs m =
+    (name : List ℕ) (term : Term) → value_of pairs name ≡ Some term → m name ≡ Some term

@@ -1,6 +1,6 @@
--- The encoded size of terms, triples, graphs and changes: how many bytes their stored form has. There
--- a text has eight bytes for its length, a term one byte for its kind, and a graph eight bytes for
--- its count.
+-- The encoded size of terms, triples, graphs and changes: how many bytes their stored form has.
+-- There a text has eight bytes for its length, a term one byte for its kind, and a graph eight
+-- bytes for its count.
 use Rattle.std.specs.Prelude.{ℕ, List, ◌+◌, ◌-◌, ◌^◌, length, map, min, sum}
 use Rattle.rdf_graph.specs.declared.term.Term.{Term}
 use Rattle.rdf_graph.specs.declared.term.Term.TheVariants.{Iri, Blank, Literal, Tagged}
@@ -30,6 +30,6 @@ graph_size triples = 8 + triples_size triples
 abbrev pub change_size : List Triple → List Triple → ℕ
 change_size removed added = graph_size removed + graph_size added
 
--- a size that doesn't fit into 64 bits is given as their largest number
+-- a size, or 2^64 - 1 where it exceeds that
 unfoldable pub saturated : ℕ → ℕ
 saturated n = min n (2 ^ 64 - 1)

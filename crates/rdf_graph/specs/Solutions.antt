@@ -1,20 +1,21 @@
 -- How many solutions conditions have in a graph.
 use Rattle.std.specs.Prelude.{ℕ, List, ◌≢◌}
-use Rattle.rdf_graph.specs.Pattern.{Binding, IsSolution, NamedOnce, SameBinding, value_of}
+use Rattle.rdf_graph.specs.Pattern.{Binding, IsSolution, HasDistinctNames, SameBinding, value_of}
 use Rattle.rdf_graph.specs.declared.pattern.Found.{Found}
 use Rattle.rdf_graph.specs.declared.pattern.Found.TheVariants.{Nothing, One, Many}
 use Rattle.rdf_graph.specs.declared.pattern.Pattern.{Pattern}
 use Rattle.rdf_graph.specs.declared.term.Term.{Term}
 use Rattle.rdf_graph.specs.declared.triple.Triple.{Triple}
 
--- these pairs, each name once, are a solution, and there is no other
-pub record IsOnlySolution (g : List Triple) (conditions : List Pattern) (pairs : List (List ℕ × Term)) : Type 0 where
-  pub once : NamedOnce pairs
+-- these pairs, each name once, are the only solution
+pub record IsOnlySolution (g : List Triple) (conditions : List Pattern)
+    (pairs : List (List ℕ × Term)) : Type 0 where
+  pub once : HasDistinctNames pairs
   pub solution : IsSolution g conditions (value_of pairs)
   pub only : (m : Binding) → IsSolution g conditions m → SameBinding m (value_of pairs)
 
--- there are solutions that differ at a name
-pub record AreTwoSolutions (g : List Triple) (conditions : List Pattern) : Type 0 where
+-- two solutions differ at a name
+pub record HasTwoSolutions (g : List Triple) (conditions : List Pattern) : Type 0 where
   pub first : Binding
   pub second : Binding
   pub is_first : IsSolution g conditions first
@@ -22,8 +23,8 @@ pub record AreTwoSolutions (g : List Triple) (conditions : List Pattern) : Type 
   pub name : List ℕ
   pub apart : first name ≢ second name
 
--- none, the one, or more than one
+-- no solution, one, or more
 abbrev pub AreSolutions : List Triple → List Pattern → Found → Type 0
 AreSolutions g conditions Nothing = (m : Binding) → IsSolution g conditions m → ⊥
 AreSolutions g conditions (One mapping) = IsOnlySolution g conditions mapping.pairs.items
-AreSolutions g conditions Many = AreTwoSolutions g conditions
+AreSolutions g conditions Many = HasTwoSolutions g conditions

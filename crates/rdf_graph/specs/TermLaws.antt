@@ -9,18 +9,21 @@ use Rattle.rdf_graph.specs.declared.term.Term.{Term}
 use Rattle.rdf_graph.specs.declared.term.Term.TheVariants.{Iri, Blank, Literal, Tagged}
 
 pub term_eq_decides : (a b : Term) → Decides (term_eq a b) (a ≡ b)
-term_eq_decides (Iri i) (Iri j) = (λ h. ap (λ x. Iri x) ((bytes_decides i j).0 h), λ e. (bytes_decides i j).1 cc)
+term_eq_decides (Iri i) (Iri j) =
+    (λ h. ap (λ x. Iri x) ((bytes_decides i j).0 h), λ e. (bytes_decides i j).1 cc)
 term_eq_decides (Iri i) (Blank m) = (λ h. absurd (false≢true h), λ e. absurd cc)
 term_eq_decides (Iri i) (Literal m e) = (λ h. absurd (false≢true h), λ e. absurd cc)
 term_eq_decides (Iri i) (Tagged m u) = (λ h. absurd (false≢true h), λ e. absurd cc)
 term_eq_decides (Blank l) (Iri j) = (λ h. absurd (false≢true h), λ e. absurd cc)
-term_eq_decides (Blank l) (Blank m) = (λ h. ap (λ x. Blank x) ((bytes_decides l m).0 h), λ e. (bytes_decides l m).1 cc)
+term_eq_decides (Blank l) (Blank m) =
+    (λ h. ap (λ x. Blank x) ((bytes_decides l m).0 h), λ e. (bytes_decides l m).1 cc)
 term_eq_decides (Blank l) (Literal m e) = (λ h. absurd (false≢true h), λ e. absurd cc)
 term_eq_decides (Blank l) (Tagged m u) = (λ h. absurd (false≢true h), λ e. absurd cc)
 term_eq_decides (Literal l d) (Iri j) = (λ h. absurd (false≢true h), λ e. absurd cc)
 term_eq_decides (Literal l d) (Blank m) = (λ h. absurd (false≢true h), λ e. absurd cc)
 term_eq_decides (Literal l d) (Literal m e) = (
-  λ h. let parts = and_parts _ _ h in let first : l ≡ m = (bytes_decides l m).0 parts.0 in let second : d ≡ e = (bytes_decides d e).0 parts.1 in cc,
+  λ h. let parts = and_parts _ _ h in let first : l ≡ m =
+      (bytes_decides l m).0 parts.0 in let second : d ≡ e = (bytes_decides d e).0 parts.1 in cc,
   λ h. and_from _ _ ((bytes_decides l m).1 cc) ((bytes_decides d e).1 cc),
 )
 term_eq_decides (Literal l d) (Tagged m u) = (λ h. absurd (false≢true h), λ e. absurd cc)
@@ -28,7 +31,8 @@ term_eq_decides (Tagged l t) (Iri j) = (λ h. absurd (false≢true h), λ e. abs
 term_eq_decides (Tagged l t) (Blank m) = (λ h. absurd (false≢true h), λ e. absurd cc)
 term_eq_decides (Tagged l t) (Literal m e) = (λ h. absurd (false≢true h), λ e. absurd cc)
 term_eq_decides (Tagged l t) (Tagged m u) = (
-  λ h. let parts = and_parts _ _ h in let first : l ≡ m = (bytes_decides l m).0 parts.0 in let second : t ≡ u = (bytes_decides t u).0 parts.1 in cc,
+  λ h. let parts = and_parts _ _ h in let first : l ≡ m =
+      (bytes_decides l m).0 parts.0 in let second : t ≡ u = (bytes_decides t u).0 parts.1 in cc,
   λ h. and_from _ _ ((bytes_decides l m).1 cc) ((bytes_decides t u).1 cc),
 )
 

@@ -22,4 +22,5 @@ slot_cmp = on slot_text bytes_cmp
 
 -- subject first, then predicate, then object
 unfoldable pub pattern_cmp : Pattern → Pattern → Ordering
-pattern_cmp = then_cmp (on (λ c. c.s) slot_cmp) (then_cmp (on (λ c. c.p) slot_cmp) (on (λ c. c.o) slot_cmp))
+pattern_cmp =
+    then_cmp (on (λ c. c.s) slot_cmp) (then_cmp (on (λ c. c.p) slot_cmp) (on (λ c. c.o) slot_cmp))

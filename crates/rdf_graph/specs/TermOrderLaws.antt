@@ -1,5 +1,4 @@
--- The orders of terms, slots and patterns are total, and terms that theirs does not tell apart are
--- equal.
+-- The orders of terms, slots and patterns are total, and terms that compare as equal are equal.
 use Rattle.std.proofs.Common.{◌≡◌, subst}
 use Rattle.std.proofs.lemmas.Cmp.{nat_list_cmp_total, on_total, then_total, tied_itself}
 use Rattle.std.proofs.lemmas.Map.Lookups.{exact_bytes}
@@ -23,7 +22,9 @@ slot_cmp_total = on_total slot_text nat_list_cmp_total
 
 pub pattern_cmp_total : IsTotalOrder pattern_cmp
 unfolding pattern_cmp
-pattern_cmp_total = then_total (on_total (λ c. c.s) slot_cmp_total) (then_total (on_total (λ c. c.p) slot_cmp_total) (on_total (λ c. c.o) slot_cmp_total))
+pattern_cmp_total =
+    then_total (on_total (λ c. c.s) slot_cmp_total)
+    (then_total (on_total (λ c. c.p) slot_cmp_total) (on_total (λ c. c.o) slot_cmp_total))
 
 pub term_cmp_exact : (a b : Term) → term_cmp a b ≡ Equal → a ≡ b
 unfolding term_cmp
@@ -31,5 +32,8 @@ term_cmp_exact a b e = text_injective a b (exact_bytes _ _ e)
 
 pub term_ties : (a b : Term) → term_eq a b ≡ eq_by_cmp term_cmp a b
 term_ties a b =
-    one_answer (term_eq a b) (eq_by_cmp term_cmp a b) (term_eq_decides a b)
-    (λ h. term_cmp_exact a b ((Equal-is (term_cmp a b)).0 h), λ e. (Equal-is (term_cmp a b)).1 (subst (λ c. term_cmp a c ≡ Equal) e (tied_itself term_cmp_total a)))
+    one_answer (term_eq a b) (eq_by_cmp term_cmp a b) (term_eq_decides a b) (
+      λ h. term_cmp_exact a b ((Equal-is (term_cmp a b)).0 h),
+      λ e. (Equal-is (term_cmp a b)).1
+          (subst (λ c. term_cmp a c ≡ Equal) e (tied_itself term_cmp_total a)),
+    )

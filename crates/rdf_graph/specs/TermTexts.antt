@@ -1,5 +1,7 @@
--- A term is known by its text.
-use Rattle.std.proofs.Common.{ℕ, ◌≡◌, ◌≢◌, ◌⊎◌, ◌==◌, List, [], ◌∷◌, ◌++◌, Bool, true, false, if◌then◌else◌, cond, refl, sym, ap, ◌∙◌, subst, arith, codes, ⊎_elim, inl, inr, append_assoc, eqb, length}
+-- Different terms have different texts.
+use Rattle.std.proofs.Common.{ℕ, ◌≡◌, ◌≢◌, ◌⊎◌, ◌==◌, List, [], ◌∷◌, ◌++◌, Bool, true, false}
+use Rattle.std.proofs.Common.{if◌then◌else◌, cond, refl, sym, ap, ◌∙◌, subst, arith, codes, ⊎_elim}
+use Rattle.std.proofs.Common.{inl, inr, append_assoc, eqb, length}
 use Rattle.std.proofs.lemmas.Bool.{cases_eq, ne_eqb}
 use Rattle.std.proofs.lemmas.List.{append_cancel_right}
 use lib.Pointwise.{pointwise, bytes_decides}
@@ -7,22 +9,25 @@ use Rattle.rdf_graph.specs.Term.{text, escaped, escaped_byte, datatype_text, xsd
 use Rattle.rdf_graph.specs.declared.term.Term.{Term}
 use Rattle.rdf_graph.specs.declared.term.Term.TheVariants.{Iri, Blank, Literal, Tagged}
 
--- what stands behind a backslash: the byte that was meant, and the rest
+-- what follows a backslash: the byte that was escaped, and the rest
 abbrev pub unescaped : List ℕ → ℕ × List ℕ
 unescaped [] = (0, [])
 unescaped (c ∷ rest) = (if c == 110 then 10 else (if c == 114 then 13 else c), rest)
 
--- the first byte that was meant, and the rest
-abbrev pub first_meant : List ℕ → ℕ × List ℕ
-first_meant [] = (0, [])
-first_meant (b ∷ rest) = if b == 92 then unescaped rest else (b, rest)
+-- the first byte without its escape, and the rest
+abbrev pub first_unescaped : List ℕ → ℕ × List ℕ
+first_unescaped [] = (0, [])
+first_unescaped (b ∷ rest) = if b == 92 then unescaped rest else (b, rest)
 
-first_meant-plain : (x : ℕ) (xs : List ℕ) → x ≢ 92 → x ≢ 34 → x ≢ 10 → x ≢ 13 → first_meant (escaped_byte x ++ xs) ≡ (x, xs)
-first_meant-plain x xs a b c d = rw (ne_eqb x 92 a, ne_eqb x 34 b, ne_eqb x 10 c, ne_eqb x 13 d, ne_eqb x 92 a)
+first_unescaped-plain : (x : ℕ) (xs : List ℕ) → x ≢ 92 → x ≢ 34 → x ≢ 10 → x ≢ 13
+    → first_unescaped (escaped_byte x ++ xs) ≡ (x, xs)
+first_unescaped-plain x xs a b c d =
+    rw (ne_eqb x 92 a, ne_eqb x 34 b, ne_eqb x 10 c, ne_eqb x 13 d, ne_eqb x 92 a)
 
-pub first_meant-escaped : (x : ℕ) (xs : List ℕ) → first_meant (escaped_byte x ++ xs) ≡ (x, xs)
-first_meant-escaped x xs =
-    let P : ℕ → Type 0 = λ y. first_meant (escaped_byte y ++ xs) ≡ (y, xs) in
+pub first_unescaped-escaped : (x : ℕ) (xs : List ℕ)
+    → first_unescaped (escaped_byte x ++ xs) ≡ (x, xs)
+first_unescaped-escaped x xs =
+    let P : ℕ → Type 0 = λ y. first_unescaped (escaped_byte y ++ xs) ≡ (y, xs) in
     let backslash : P 92 = refl in
     let quote : P 34 = refl in
     let line_feed : P 10 = refl in
@@ -30,7 +35,7 @@ first_meant-escaped x xs =
     ⊎_elim (λ e. subst P (sym e) backslash) (λ a.
     ⊎_elim (λ e. subst P (sym e) quote) (λ b.
     ⊎_elim (λ e. subst P (sym e) line_feed) (λ c.
-    ⊎_elim (λ e. subst P (sym e) return) (λ d. first_meant-plain x xs a b c d)
+    ⊎_elim (λ e. subst P (sym e) return) (λ d. first_unescaped-plain x xs a b c d)
     (cases_eq x 13)) (cases_eq x 10)) (cases_eq x 34)) (cases_eq x 92)
 
 -- the first byte of a text
@@ -41,21 +46,30 @@ first_byte (b ∷ rest) = b
 -- no byte of a literal is written as a bare quote
 escaped_byte-quote : (x : ℕ) (xs ys : List ℕ) → 34 ∷ ys ≡ escaped_byte x ++ xs → ⊥
 escaped_byte-quote x xs ys e =
-    let met : first_meant (34 ∷ ys) ≡ (x, xs) = ap first_meant e ∙ first_meant-escaped x xs in
+    let met : first_unescaped (34 ∷ ys) ≡ (x, xs) =
+    ap first_unescaped e ∙ first_unescaped-escaped x xs in
     let is_quote : 34 ≡ x = ap (λ p. p.0) met in
-    let as_quote : 34 ∷ ys ≡ escaped_byte 34 ++ xs = subst (λ y. 34 ∷ ys ≡ escaped_byte y ++ xs) (sym is_quote) e in
+    let as_quote : 34 ∷ ys ≡ escaped_byte 34 ++ xs =
+    subst (λ y. 34 ∷ ys ≡ escaped_byte y ++ xs) (sym is_quote) e in
     omega (arith, ap first_byte as_quote)
 
--- a literal's text gives away its lexical form, and what stands behind the closing quote
-pub quoted_parts : (xs ys us vs : List ℕ) → escaped xs ++ (34 ∷ us) ≡ escaped ys ++ (34 ∷ vs) → (xs ≡ ys) × (us ≡ vs)
+-- a literal's text determines its lexical form, and what follows the closing quote
+pub quoted_parts : (xs ys us vs : List ℕ) → escaped xs ++ (34 ∷ us) ≡ escaped ys ++ (34 ∷ vs)
+    → (xs ≡ ys) × (us ≡ vs)
 quoted_parts [] [] us vs e = (refl, cc)
-quoted_parts [] (y ∷ ys) us vs e = absurd (escaped_byte-quote y (escaped ys ++ (34 ∷ vs)) us (e ∙ append_assoc (escaped_byte y) (escaped ys) (34 ∷ vs)))
-quoted_parts (x ∷ xs) [] us vs e = absurd (escaped_byte-quote x (escaped xs ++ (34 ∷ us)) vs (sym e ∙ append_assoc (escaped_byte x) (escaped xs) (34 ∷ us)))
+quoted_parts [] (y ∷ ys) us vs e =
+    absurd (escaped_byte-quote y (escaped ys ++ (34 ∷ vs)) us
+    (e ∙ append_assoc (escaped_byte y) (escaped ys) (34 ∷ vs)))
+quoted_parts (x ∷ xs) [] us vs e =
+    absurd (escaped_byte-quote x (escaped xs ++ (34 ∷ us)) vs
+    (sym e ∙ append_assoc (escaped_byte x) (escaped xs) (34 ∷ us)))
 quoted_parts (x ∷ xs) (y ∷ ys) us vs e =
-    let both : escaped_byte x ++ (escaped xs ++ (34 ∷ us)) ≡ escaped_byte y ++ (escaped ys ++ (34 ∷ vs)) =
-    sym (append_assoc (escaped_byte x) (escaped xs) (34 ∷ us)) ∙ e ∙ append_assoc (escaped_byte y) (escaped ys) (34 ∷ vs) in
+    let both : escaped_byte x ++ (escaped xs ++ (34 ∷ us))
+    ≡ escaped_byte y ++ (escaped ys ++ (34 ∷ vs)) =
+    sym (append_assoc (escaped_byte x) (escaped xs) (34 ∷ us)) ∙ e ∙ append_assoc (escaped_byte y)
+    (escaped ys) (34 ∷ vs) in
     let met : (x, escaped xs ++ (34 ∷ us)) ≡ (y, escaped ys ++ (34 ∷ vs)) =
-    sym (first_meant-escaped x _) ∙ ap first_meant both ∙ first_meant-escaped y _ in
+    sym (first_unescaped-escaped x _) ∙ ap first_unescaped both ∙ first_unescaped-escaped y _ in
     let rest = quoted_parts xs ys us vs (ap (λ p. p.1) met) in
     let head : x ≡ y = ap (λ p. p.0) met in
     (cc (head, rest.0), rest.1)
@@ -67,14 +81,16 @@ same_front xs ys e = append_cancel_right xs ys (codes ">") e
 after_two : (a b c d : ℕ) (xs ys : List ℕ) → a ∷ b ∷ xs ≡ c ∷ d ∷ ys → xs ≡ ys
 after_two a b c d xs ys e = cc
 
--- two datatypes that are written alike are both left out, or are one
-alike : (b c : Bool) (d e : List ℕ) → cond b [] (codes "^^<" ++ (d ++ codes ">")) ≡ cond c [] (codes "^^<" ++ (e ++ codes ">")) → ((b ≡ true) × (c ≡ true)) ⊎ (d ≡ e)
+-- two datatypes with equal texts are both left out, or equal
+alike : (b c : Bool) (d e : List ℕ)
+    → cond b [] (codes "^^<" ++ (d ++ codes ">")) ≡ cond c [] (codes "^^<" ++ (e ++ codes ">"))
+    → ((b ≡ true) × (c ≡ true)) ⊎ (d ≡ e)
 alike true true d e h = inl (refl, refl)
 alike true false d e h = absurd (omega (arith, ap length h))
 alike false true d e h = absurd (omega (arith, ap length h))
 alike false false d e h = inr (same_front d e cc)
 
--- a datatype is known by what stands for it
+-- different datatypes have different texts
 pub datatype_text_injective : (d e : List ℕ) → datatype_text d ≡ datatype_text e → d ≡ e
 datatype_text_injective d e h =
     ⊎_elim
@@ -83,7 +99,8 @@ datatype_text_injective d e h =
     (λ (same : d ≡ e). same)
     (alike (pointwise eqb d xsd_string) (pointwise eqb e xsd_string) d e h)
 
-no_tag : (b : Bool) (d lang : List ℕ) → cond b [] (codes "^^<" ++ (d ++ codes ">")) ≡ codes "@" ++ lang → ⊥
+no_tag : (b : Bool) (d lang : List ℕ)
+    → cond b [] (codes "^^<" ++ (d ++ codes ">")) ≡ codes "@" ++ lang → ⊥
 no_tag true d lang h = omega (arith, ap first_byte h)
 no_tag false d lang h = omega (arith, ap first_byte h)
 

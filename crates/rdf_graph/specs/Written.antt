@@ -1,4 +1,4 @@
--- The bytes of a text that are still to come.
+-- The bytes of a text that are not yet yielded.
 use Rattle.std.specs.Prelude.{ℕ, List, ◌++◌}
 use Rattle.rdf_graph.specs.Term.{escaped}
 use Rattle.rdf_graph.specs.declared.term.Written.{Written}

@@ -1,5 +1,6 @@
 //! Appending the texts of terms and triples, by slices.
-ghost use Rattle.std.specs.Prelude.{◌≡◌, ◌≤◌, ◌++◌, ◌∷◌, ◌<◌, [], codes, IfOk, IsTrue, OnOk, length, take};
+ghost use Rattle.std.specs.Prelude.{◌≡◌, ◌≤◌, ◌++◌, ◌∷◌, ◌<◌, [], codes, IfOk, IsTrue, OnOk};
+ghost use Rattle.std.specs.Prelude.{length, take};
 ghost use Rattle.rdf_graph.specs.Term.{datatype_text, escaped, escaped_byte, text};
 ghost use Rattle.rdf_graph.specs.Triple.{line};
 
@@ -47,7 +48,8 @@ impl Triple {
 
 /// Appends three pieces.
 fn append_three(into: &mut Vec<u8>, first: &[u8], second: &[u8], third: &[u8]) -> Mem<()>
-    ensures { OnOk result (into.new.items ≡ into.old.items ++ (first.now ++ (second.now ++ third.now))) }
+    ensures { OnOk result
+        (into.new.items ≡ into.old.items ++ (first.now ++ (second.now ++ third.now))) }
 {
     into.extend_from_slice(first)?;
     into.extend_from_slice(second)?;
@@ -67,7 +69,9 @@ fn append_datatype(into: &mut Vec<u8>, datatype: &str) -> Mem<()>
 
 /// Appends a lexical form with its escapes, between quotes.
 fn append_quoted(into: &mut Vec<u8>, lexical: &[u8]) -> Mem<()>
-    ensures { OnOk result (into.new.items ≡ into.old.items ++ (codes "\"" ++ (escaped lexical.now ++ codes "\""))) }
+    ensures { OnOk result
+        (into.new.items
+        ≡ into.old.items ++ (codes "\"" ++ (escaped lexical.now ++ codes "\""))) }
 {
     into.extend_from_slice(b"\"")?;
     append_escaped(into, lexical)?;
@@ -90,7 +94,8 @@ fn append_escaped(into: &mut Vec<u8>, lexical: &[u8]) -> Mem<()>
 /// follows that byte.
 fn append_run<'a>(into: &mut Vec<u8>, rest: &'a [u8]) -> Mem<&'a [u8]>
     requires { 0 < length rest.now }
-    ensures text { IfOk result (λ left. into.new.items ++ escaped left.now ≡ into.old.items ++ escaped rest.now) }
+    ensures text { IfOk result
+        (λ left. into.new.items ++ escaped left.now ≡ into.old.items ++ escaped rest.now) }
     ensures shorter { IfOk result (λ left. length left.now < length rest.now) }
 {
     let plain = plain_len(rest);

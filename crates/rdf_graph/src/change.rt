@@ -1,8 +1,9 @@
 //! Changes of graphs.
-ghost use Rattle.std.specs.Prelude.{◌≡◌, ◌↔◌, ◌⊎◌, ◌<◌, All, Contains, IfOk, IsTrue, Some, length, slice_get};
+ghost use Rattle.std.specs.Prelude.{◌≡◌, ◌↔◌, ◌⊎◌, ◌<◌, All, Contains, IfOk, IsTrue, Some, length};
+ghost use Rattle.std.specs.Prelude.{slice_get};
 ghost use Rattle.std.specs.Bool.{OnTrue, OnFalse};
 ghost use Rattle.rdf_graph.specs.Change.{IsChanged};
-ghost use Rattle.rdf_graph.specs.Place.{ComesFirst};
+ghost use Rattle.rdf_graph.specs.InsertionPoint.{ComesFirst};
 ghost use Rattle.rdf_graph.specs.Graph.{IsOrdered};
 
 use crate::graph::Graph;
@@ -10,7 +11,7 @@ use crate::triple::Triple;
 use pod_base::{List, Mem};
 use std::alloc::Global;
 
-/// What a patch takes out of a graph, and what it puts in.
+/// The triples that a patch removes from a graph, and those that it adds.
 #[derive(Debug, Drop)]
 pub struct Change {
     pub removed: Graph,
@@ -35,7 +36,7 @@ impl Change {
     }
 }
 
-/// The graph that a change makes of this one: what is removed goes first, and what is added comes then.
+/// The graph after a change, which removes first and adds then.
 pub fn changed(alloc: Global, graph: &Graph, change: &Change) -> Mem<Graph>
     ensures { IfOk result (IsChanged graph.now change.now.removed change.now.added) }
 {
@@ -76,8 +77,8 @@ fn merge(alloc: Global, old: &[Triple], removed: &[Triple], added: &[Triple]) ->
     Ok(new)
 }
 
-/// Whether the first list has a triple at its place, and it stands before what the second has from
-/// its place on.
+/// Whether the first list has a triple at position k, and it is below all of the second from
+/// position i on.
 fn comes_first(first: &[Triple], k: usize, second: &[Triple], i: usize) -> bool
     requires { IsOrdered second.now }
     ensures first { IsTrue result ↔ ComesFirst first.now k second.now i }
@@ -91,18 +92,20 @@ fn comes_first(first: &[Triple], k: usize, second: &[Triple], i: usize) -> bool
     }
 }
 
-/// Whether one of the lists has the triple at its place.
+/// Whether one of the lists has the triple at its position.
 fn is_at_either(removed: &[Triple], j: usize, added: &[Triple], k: usize, triple: &Triple) -> bool
-    ensures { IsTrue result ↔ ((slice_get removed.now j ≡ Some triple.now) ⊎ (slice_get added.now k ≡ Some triple.now)) }
+    ensures { IsTrue result
+        ↔ ((slice_get removed.now j ≡ Some triple.now)
+        ⊎ (slice_get added.now k ≡ Some triple.now)) }
 {
     is_at(removed, j, triple) || is_at(added, k, triple)
 }
 
-/// Whether the triple at that place, if there is one, is this.
-fn is_at(triples: &[Triple], place: usize, triple: &Triple) -> bool
-    ensures { IsTrue result ↔ (slice_get triples.now place ≡ Some triple.now) }
+/// Whether the list has the triple at this position.
+fn is_at(triples: &[Triple], position: usize, triple: &Triple) -> bool
+    ensures { IsTrue result ↔ (slice_get triples.now position ≡ Some triple.now) }
 {
-    match triples.get(place) {
+    match triples.get(position) {
         None => false,
         Some(found) => found == triple,
     }

@@ -1,13 +1,14 @@
 //! Graphs: sets of triples, kept in the order of their lines.
-ghost use Rattle.std.specs.Prelude.{◌≡◌, ◌==◌, ◌<◌, ◌≤◌, ◌↔◌, [], length, All, Contains, IsTrue, IfOk, OnOk, OnErr, MatchBool, MatchResult, Some, slice_get};
+ghost use Rattle.std.specs.Prelude.{◌≡◌, ◌==◌, ◌<◌, ◌≤◌, ◌↔◌, [], length, All, Contains, IsTrue};
+ghost use Rattle.std.specs.Prelude.{IfOk, OnOk, OnErr, MatchBool, MatchResult, Some, slice_get};
 ghost use Rattle.rdf_graph.specs.Triple.{IsRdf};
 ghost use Rattle.rdf_graph.specs.Graph.{IsGraph, IsOrdered, SameSet, SetWith, SetWithout};
-ghost use Rattle.rdf_graph.specs.Place.{IsGap};
+ghost use Rattle.rdf_graph.specs.InsertionPoint.{IsInsertionPoint};
 ghost use Rattle.rdf_graph.specs.Size.{triples_size};
 ghost use Rattle.rdf_graph.specs.TripleRef.{triple_of};
 
-use crate::order::cmp_triples;
 use crate::triple::Triple;
+use crate::triple_order::cmp_triples;
 use crate::triple_ref::TripleRef;
 use pod_base::{List, Mem};
 use std::alloc::Global;
@@ -15,8 +16,8 @@ use std::marker::Model;
 
 /// A graph of RDF 1.1: a set of triples.
 ///
-/// Contracts see its triples in strict byte order of their lines. The list and the set say the same:
-/// two graphs with the same triples are equal.
+/// Contracts see its triples in strict byte order of their lines. So two graphs with the
+/// same triples are equal.
 #[derive(Debug, Drop)]
 pub struct Graph {
     triples: Vec<Triple>,
@@ -44,7 +45,7 @@ impl Graph {
         }
     }
 
-    /// The graph of these triples, which may stand in any order and more than once.
+    /// The graph of these triples, in any order and with repeats.
     pub fn of(triples: List<Triple>) -> Graph
         requires { All IsRdf triples.items }
         ensures members { SameSet result triples.items }
@@ -66,7 +67,7 @@ impl Graph {
         }
     }
 
-    /// Its triples as a list, in strict byte order of their lines. Takes no memory.
+    /// The triples as a list, in strict byte order of their lines. Takes no memory.
     pub fn into_list(self) -> List<Triple>
         ensures triples { result.items ≡ self }
         ensures graph { IsGraph result.items }
@@ -74,21 +75,21 @@ impl Graph {
         List::from_vec(self.triples)
     }
 
-    /// How many triples it has.
+    /// The number of triples.
     pub fn len(&self) -> usize
         ensures { result ≡ length self.now }
     {
         self.triples.len()
     }
 
-    /// Whether it has none.
+    /// Whether the graph has no triple.
     pub fn is_empty(&self) -> bool
         ensures { result ≡ (length self.now == 0) }
     {
         self.triples.is_empty()
     }
 
-    /// The triple at that place of the order.
+    /// The triple at this position of the order.
     pub fn at(&self, i: usize) -> &Triple
         requires { i < length self.now }
         ensures { slice_get self.now i ≡ Some result.now }
@@ -96,7 +97,7 @@ impl Graph {
         &self.triples[i]
     }
 
-    /// Its triples, in strict byte order of their lines.
+    /// The triples, in strict byte order of their lines.
     pub fn as_slice(&self) -> &[Triple]
         ensures triples { result.now ≡ self.now }
         ensures graph { IsGraph result.now }
@@ -112,15 +113,15 @@ impl Graph {
         Ok(Graph { triples })
     }
 
-    /// Whether it has the triple.
+    /// Whether the graph has the triple.
     pub fn contains(&self, triple: &Triple) -> bool
         ensures found { IsTrue result ↔ Contains self.now triple.now }
         ensures rdf { IsTrue result → IsRdf triple.now }
     {
-        place(self.triples.as_slice(), triple).is_ok()
+        position(self.triples.as_slice(), triple).is_ok()
     }
 
-    /// Whether it has the triple of these terms.
+    /// Whether the graph has the triple of these terms.
     pub(crate) fn contains_parts(&self, triple: &TripleRef<'_>) -> bool
         ensures { IsTrue result ↔ Contains self.now (triple_of triple.now) }
     {
@@ -129,7 +130,7 @@ impl Graph {
             .is_ok()
     }
 
-    /// Whether it has all these triples.
+    /// Whether the graph has all these triples.
     pub(crate) fn contains_all(&self, triples: &[Triple]) -> bool
         ensures { IsTrue result ↔ All (Contains self.now) triples.now }
     {
@@ -141,14 +142,15 @@ impl Graph {
         true
     }
 
-    /// Puts a triple in, and tells whether it is new.
+    /// Inserts a triple, and returns whether it is new.
     pub fn insert(&mut self, _alloc: Global, triple: Triple) -> Mem<bool>
         requires { IsRdf triple }
-        ensures told { IfOk result (λ new. MatchBool new (Contains self.old triple → ⊥) (Contains self.old triple)) }
+        ensures is_new { IfOk result
+            (λ new. MatchBool new (Contains self.old triple → ⊥) (Contains self.old triple)) }
         ensures members { OnOk result (SetWith self.old triple self.new) }
         ensures err { OnErr result (self.new ≡ self.old) }
     {
-        match place(self.triples.as_slice(), &triple) {
+        match position(self.triples.as_slice(), &triple) {
             Ok(_) => Ok(false),
             Err(at) => {
                 self.triples.insert(at, triple)?;
@@ -157,12 +159,12 @@ impl Graph {
         }
     }
 
-    /// Takes a triple out, and tells whether it was there.
+    /// Removes a triple, and returns whether the graph had it.
     pub fn remove(&mut self, triple: &Triple) -> bool
-        ensures told { IsTrue result ↔ Contains self.old triple.now }
+        ensures was_member { IsTrue result ↔ Contains self.old triple.now }
         ensures members { SetWithout self.old triple.now self.new }
     {
-        match place(self.triples.as_slice(), triple) {
+        match position(self.triples.as_slice(), triple) {
             Ok(at) => {
                 let _ = self.triples.remove(at);
                 true
@@ -184,10 +186,11 @@ fn copy_triples(alloc: Global, triples: &[Triple]) -> Mem<Vec<Triple>>
     Ok(copies)
 }
 
-/// Where the triple stands, or else where it would.
-fn place(triples: &[Triple], triple: &Triple) -> Result<usize, usize>
+/// The position of the triple, or else where to insert it.
+fn position(triples: &[Triple], triple: &Triple) -> Result<usize, usize>
     requires { IsOrdered triples.now }
-    ensures found { MatchResult result (λ i. slice_get triples.now i ≡ Some triple.now) (λ i. IsGap triples.now i triple.now) }
+    ensures found { MatchResult result (λ i. slice_get triples.now i ≡ Some triple.now)
+        (λ i. IsInsertionPoint triples.now i triple.now) }
 {
     triples.binary_search(triple)
 }

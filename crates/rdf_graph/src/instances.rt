@@ -1,8 +1,11 @@
 //! What a mapping makes of the patterns of a patch.
-ghost use Rattle.std.specs.Prelude.{◌≡◌, ◌≤◌, ◌+◌, ◌⊎◌, ◌↔◌, All, Contains, IfErr, IfOk, IsTrue, MatchBool, None, Some};
+ghost use Rattle.std.specs.Prelude.{◌≡◌, ◌≤◌, ◌+◌, ◌⊎◌, ◌↔◌, All, Contains, IfErr, IfOk, IsTrue};
+ghost use Rattle.std.specs.Prelude.{MatchBool, None, Some};
 ghost use Rattle.std.specs.Bool.{OnTrue};
 ghost use Rattle.std.specs.List.{AllZip};
-ghost use Rattle.rdf_graph.specs.Patch.{AreInstances, AreKnown, instance_size, FitsGraph, HasPredicate, IsInstance, IsKnown, IsKnownIn, IsMisfit, instances_size};
+ghost use Rattle.rdf_graph.specs.Patch.{AreInstances, BindsPatterns, instance_size, FitsGraph};
+ghost use Rattle.rdf_graph.specs.Patch.{HasPredicate, IsInstance, BindsPattern, BindsSlot};
+ghost use Rattle.rdf_graph.specs.Patch.{IsCheckFault, instances_size};
 ghost use Rattle.rdf_graph.specs.Pattern.{Instantiates, slot_term, value_of};
 ghost use Rattle.rdf_graph.specs.Size.{change_size, saturated, triples_size};
 ghost use Rattle.rdf_graph.specs.Triple.{IsRdf};
@@ -24,7 +27,9 @@ use std::alloc::Global;
 impl Patch {
     /// Whether a predicate of the deletions or insertions is this IRI, whatever the mapping.
     pub fn has_fixed_predicate(&self, iri: &str) -> bool
-        ensures { IsTrue result ↔ (HasPredicate (λ name. None) self.now.deletions.items iri.now ⊎ HasPredicate (λ name. None) self.now.insertions.items iri.now) }
+        ensures { IsTrue result
+            ↔ (HasPredicate (λ name. None) self.now.deletions.items iri.now
+            ⊎ HasPredicate (λ name. None) self.now.insertions.items iri.now) }
     {
         has_predicate(&[], self.deletions.as_slice(), iri)
             || has_predicate(&[], self.insertions.as_slice(), iri)
@@ -32,7 +37,10 @@ impl Patch {
 
     /// Whether under the mapping a predicate of the deletions or insertions is this IRI.
     pub fn has_predicate(&self, mapping: &Mapping, iri: &str) -> bool
-        ensures { IsTrue result ↔ (HasPredicate (value_of mapping.now.pairs.items) self.now.deletions.items iri.now ⊎ HasPredicate (value_of mapping.now.pairs.items) self.now.insertions.items iri.now) }
+        ensures { IsTrue result
+            ↔ (HasPredicate (value_of mapping.now.pairs.items) self.now.deletions.items iri.now
+            ⊎ HasPredicate
+            (value_of mapping.now.pairs.items) self.now.insertions.items iri.now) }
     {
         let pairs = mapping.pairs.as_slice();
         has_predicate(pairs, self.deletions.as_slice(), iri)
@@ -42,10 +50,12 @@ impl Patch {
     /// Whether the deletions, as the mapping makes them, are in the graph, and then whether the
     /// insertions are triples of RDF: else `MissingDeletion` or `NotTriple`. Takes no memory.
     pub fn check(&self, graph: &Graph, mapping: &Mapping) -> Result<(), PatchFault>
-        requires deletions { AreKnown mapping.now.pairs.items self.now.deletions.items }
-        requires insertions { AreKnown mapping.now.pairs.items self.now.insertions.items }
-        ensures fits { IfOk result (λ _. FitsGraph graph.now self.now (value_of mapping.now.pairs.items)) }
-        ensures fault { IfErr result (IsMisfit graph.now self.now (value_of mapping.now.pairs.items)) }
+        requires deletions { BindsPatterns mapping.now.pairs.items self.now.deletions.items }
+        requires insertions { BindsPatterns mapping.now.pairs.items self.now.insertions.items }
+        ensures fits { IfOk result
+            (λ _. FitsGraph graph.now self.now (value_of mapping.now.pairs.items)) }
+        ensures fault { IfErr result
+            (IsCheckFault graph.now self.now (value_of mapping.now.pairs.items)) }
     {
         let _triples = graph.as_slice();
         let pairs = mapping.pairs.as_slice();
@@ -58,13 +68,17 @@ impl Patch {
         Ok(())
     }
 
-    /// The encoded size of the triples that the mapping makes of the deletions and insertions, those
-    /// that are equal counted as often as they are made. At most 2^64 - 1. Takes no memory. A caller
-    /// that refuses a patch by this size bounds the encoded size of its change, by 16 bytes more.
+    /// The encoded size of the triples that the mapping makes of the deletions and insertions,
+    /// those that are equal counted as often as they are made. At most 2^64 - 1. Takes no memory. A
+    /// caller that refuses a patch by this size bounds the encoded size of its change, by 16 bytes
+    /// more.
     pub fn instances_size(&self, mapping: &Mapping) -> u64
-        requires deletions { AreKnown mapping.now.pairs.items self.now.deletions.items }
-        requires insertions { AreKnown mapping.now.pairs.items self.now.insertions.items }
-        ensures { result ≡ saturated (instances_size (value_of mapping.now.pairs.items) self.now.deletions.items + instances_size (value_of mapping.now.pairs.items) self.now.insertions.items) }
+        requires deletions { BindsPatterns mapping.now.pairs.items self.now.deletions.items }
+        requires insertions { BindsPatterns mapping.now.pairs.items self.now.insertions.items }
+        ensures { result
+            ≡ saturated (instances_size
+            (value_of mapping.now.pairs.items) self.now.deletions.items
+            + instances_size (value_of mapping.now.pairs.items) self.now.insertions.items) }
     {
         let pairs = mapping.pairs.as_slice();
         saturating_sum(
@@ -74,16 +88,28 @@ impl Patch {
     }
 
     /// The triples that the mapping makes of the deletions and of the insertions, each once. They
-    /// share the memory of the mapping's and the patch's texts. The change's encoded size is at most
-    /// `instances_size` and the two counts of 8 bytes each.
+    /// share the memory of the mapping's and the patch's texts. The change's encoded size is at
+    /// most `instances_size` and the two counts of 8 bytes each.
     pub fn change(&self, alloc: Global, mapping: &Mapping) -> Mem<Change>
-        requires deletions { AreKnown mapping.now.pairs.items self.now.deletions.items }
-        requires insertions { AreKnown mapping.now.pairs.items self.now.insertions.items }
-        requires removed_rdf { (x : Triple) → IsInstance (value_of mapping.now.pairs.items) self.now.deletions.items x → IsRdf x }
-        requires added_rdf { (x : Triple) → IsInstance (value_of mapping.now.pairs.items) self.now.insertions.items x → IsRdf x }
-        ensures removed { IfOk result (λ change. AreInstances (value_of mapping.now.pairs.items) self.now.deletions.items change.removed) }
-        ensures added { IfOk result (λ change. AreInstances (value_of mapping.now.pairs.items) self.now.insertions.items change.added) }
-        ensures size { IfOk result (λ change. change_size change.removed change.added ≤ instances_size (value_of mapping.now.pairs.items) self.now.deletions.items + instances_size (value_of mapping.now.pairs.items) self.now.insertions.items + 16) }
+        requires deletions { BindsPatterns mapping.now.pairs.items self.now.deletions.items }
+        requires insertions { BindsPatterns mapping.now.pairs.items self.now.insertions.items }
+        requires removed_rdf { (x : Triple)
+            → IsInstance (value_of mapping.now.pairs.items) self.now.deletions.items x
+            → IsRdf x }
+        requires added_rdf { (x : Triple)
+            → IsInstance (value_of mapping.now.pairs.items) self.now.insertions.items x
+            → IsRdf x }
+        ensures removed { IfOk result
+            (λ change. AreInstances
+            (value_of mapping.now.pairs.items) self.now.deletions.items change.removed) }
+        ensures added { IfOk result
+            (λ change. AreInstances
+            (value_of mapping.now.pairs.items) self.now.insertions.items change.added) }
+        ensures size { IfOk result
+            (λ change. change_size change.removed change.added
+            ≤ instances_size (value_of mapping.now.pairs.items) self.now.deletions.items
+            + instances_size (value_of mapping.now.pairs.items) self.now.insertions.items
+            + 16) }
     {
         let pairs = mapping.pairs.as_slice();
         let removed = graph_of(alloc, pairs, self.deletions.as_slice())?;
@@ -94,10 +120,11 @@ impl Patch {
 
 /// The graph of the triples that the pairs make of the patterns.
 fn graph_of(alloc: Global, pairs: &[(Text, Term)], patterns: &[Pattern]) -> Mem<Graph>
-    requires known { AreKnown pairs.now patterns.now }
+    requires known { BindsPatterns pairs.now patterns.now }
     requires rdf { (x : Triple) → IsInstance (value_of pairs.now) patterns.now x → IsRdf x }
     ensures members { IfOk result (AreInstances (value_of pairs.now) patterns.now) }
-    ensures size { IfOk result (λ triples. triples_size triples ≤ instances_size (value_of pairs.now) patterns.now) }
+    ensures size { IfOk result
+        (λ triples. triples_size triples ≤ instances_size (value_of pairs.now) patterns.now) }
 {
     let triples = instances(alloc, pairs, patterns)?;
     Ok(Graph::of(List::from_vec(triples)))
@@ -140,8 +167,11 @@ fn is_this_iri(term: &Term, iri: &str) -> bool
 
 /// Whether the graph has all triples that the pairs make of the patterns.
 fn are_in(graph: &Graph, pairs: &[(Text, Term)], patterns: &[Pattern]) -> bool
-    requires { AreKnown pairs.now patterns.now }
-    ensures { MatchBool result ((x : Triple) → IsInstance (value_of pairs.now) patterns.now x → Contains graph.now x) ((x : Triple) × IsInstance (value_of pairs.now) patterns.now x × (Contains graph.now x → ⊥)) }
+    requires { BindsPatterns pairs.now patterns.now }
+    ensures { MatchBool result
+        ((x : Triple) → IsInstance (value_of pairs.now) patterns.now x → Contains graph.now x)
+        ((x : Triple) × IsInstance (value_of pairs.now) patterns.now x
+        × (Contains graph.now x → ⊥)) }
 {
     for pattern in patterns {
         let triple = instance(pairs, pattern);
@@ -154,8 +184,10 @@ fn are_in(graph: &Graph, pairs: &[(Text, Term)], patterns: &[Pattern]) -> bool
 
 /// Whether all triples that the pairs make of the patterns are triples of RDF.
 fn are_rdf(pairs: &[(Text, Term)], patterns: &[Pattern]) -> bool
-    requires { AreKnown pairs.now patterns.now }
-    ensures { MatchBool result ((x : Triple) → IsInstance (value_of pairs.now) patterns.now x → IsRdf x) ((x : Triple) × IsInstance (value_of pairs.now) patterns.now x × (IsRdf x → ⊥)) }
+    requires { BindsPatterns pairs.now patterns.now }
+    ensures { MatchBool result
+        ((x : Triple) → IsInstance (value_of pairs.now) patterns.now x → IsRdf x)
+        ((x : Triple) × IsInstance (value_of pairs.now) patterns.now x × (IsRdf x → ⊥)) }
 {
     for pattern in patterns {
         let triple = instance(pairs, pattern);
@@ -168,7 +200,7 @@ fn are_rdf(pairs: &[(Text, Term)], patterns: &[Pattern]) -> bool
 
 /// The sum of the sizes of the triples that the pairs make of the patterns.
 fn size_of_all(pairs: &[(Text, Term)], patterns: &[Pattern]) -> u64
-    requires { AreKnown pairs.now patterns.now }
+    requires { BindsPatterns pairs.now patterns.now }
     ensures { result ≡ saturated (instances_size (value_of pairs.now) patterns.now) }
 {
     let mut size = size_of(0);
@@ -180,7 +212,7 @@ fn size_of_all(pairs: &[(Text, Term)], patterns: &[Pattern]) -> u64
 
 /// The size of the triple that the pairs make of the pattern.
 fn instance_size(pairs: &[(Text, Term)], pattern: &Pattern) -> u64
-    requires { IsKnown pairs.now pattern.now }
+    requires { BindsPattern pairs.now pattern.now }
     ensures { result ≡ saturated (instance_size (value_of pairs.now) pattern.now) }
 {
     size_of_parts(&instance(pairs, pattern))
@@ -188,8 +220,9 @@ fn instance_size(pairs: &[(Text, Term)], pattern: &Pattern) -> u64
 
 /// The triples that the pairs make of the patterns.
 fn instances(alloc: Global, pairs: &[(Text, Term)], patterns: &[Pattern]) -> Mem<Vec<Triple>>
-    requires { AreKnown pairs.now patterns.now }
-    ensures { IfOk result (λ triples. AllZip (Instantiates (value_of pairs.now)) patterns.now triples.items) }
+    requires { BindsPatterns pairs.now patterns.now }
+    ensures { IfOk result
+        (λ triples. AllZip (Instantiates (value_of pairs.now)) patterns.now triples.items) }
 {
     let mut triples = Vec::with_capacity(alloc, patterns.len())?;
     for pattern in patterns {
@@ -201,7 +234,7 @@ fn instances(alloc: Global, pairs: &[(Text, Term)], patterns: &[Pattern]) -> Mem
 
 /// The triple that the pairs make of the pattern, by references.
 fn instance<'a>(pairs: &'a [(Text, Term)], pattern: &'a Pattern) -> TripleRef<'a>
-    requires { IsKnown pairs.now pattern.now }
+    requires { BindsPattern pairs.now pattern.now }
     ensures { Instantiates (value_of pairs.now) pattern.now (triple_of result) }
 {
     TripleRef {
@@ -213,7 +246,7 @@ fn instance<'a>(pairs: &'a [(Text, Term)], pattern: &'a Pattern) -> TripleRef<'a
 
 /// The term in the slot.
 fn term_in<'a>(pairs: &'a [(Text, Term)], slot: &'a Slot) -> &'a Term
-    requires { IsKnownIn pairs.now slot.now }
+    requires { BindsSlot pairs.now slot.now }
     ensures { slot_term (value_of pairs.now) slot.now ≡ Some result.now }
 {
     match slot {

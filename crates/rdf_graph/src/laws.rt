@@ -1,31 +1,36 @@
-//! What follows from the definitions: the contracts of these functions are laws, and they do nothing.
+//! What follows from the definitions: the contracts of these functions are laws, and they do
+//! nothing.
 ghost use Rattle.std.specs.Cmp.{IsTotalOrder};
-ghost use Rattle.rdf_graph.specs.Laws.{OrderIsExact, OrderIsOfLines, LinesTell, SetsTell, SubjectsStandTogether, TextsTell, NothingChanges, AddedStays};
+ghost use Rattle.rdf_graph.specs.Laws.{OrderIsExact, OrderFollowsLines, LinesIdentifyTriples};
+ghost use Rattle.rdf_graph.specs.Laws.{SetsIdentifyGraphs, SubjectsAreContiguous};
+ghost use Rattle.rdf_graph.specs.Laws.{TextsIdentifyGraphs, EmptyChangeKeepsGraph};
+ghost use Rattle.rdf_graph.specs.Laws.{AddedTriplesRemain};
 ghost use Rattle.rdf_graph.specs.Triple.{triple_cmp};
 
-/// The order of triples is total and tells different triples apart. It is the byte order of their
-/// lines, and a line tells which triple it is, where no label and no tag has a space in it.
+/// The order of triples is total, and triples that compare as equal are equal. It is the byte order
+/// of their lines, and different triples have different lines, where no label and no tag has a
+/// space.
 pub fn order_law()
     ensures total { IsTotalOrder triple_cmp }
     ensures exact { OrderIsExact }
-    ensures lines { OrderIsOfLines }
-    ensures tell { LinesTell }
+    ensures lines { OrderFollowsLines }
+    ensures identify { LinesIdentifyTriples }
 {}
 
-/// The triples of a subject stand together, where no label and no tag has a space in it.
+/// The triples of a subject are contiguous, where no label and no tag has a space.
 pub fn subject_law()
-    ensures { SubjectsStandTogether }
+    ensures { SubjectsAreContiguous }
 {}
 
-/// A graph is its set of triples: graphs with the same triples are one. So are graphs with the same
-/// text, where no label and no tag has a space in it.
+/// A graph is its set of triples: graphs with the same triples are equal. So are graphs with the
+/// same text, where no label and no tag has a space.
 pub fn set_law()
-    ensures sets { SetsTell }
-    ensures texts { TextsTell }
+    ensures sets { SetsIdentifyGraphs }
+    ensures texts { TextsIdentifyGraphs }
 {}
 
-/// A change without parts changes nothing, and a triple that is removed and added is there afterwards.
+/// An empty change keeps the graph, and the new graph has a triple that is both removed and added.
 pub fn change_law()
-    ensures nothing { NothingChanges }
-    ensures added { AddedStays }
+    ensures nothing { EmptyChangeKeepsGraph }
+    ensures added { AddedTriplesRemain }
 {}

@@ -2,39 +2,39 @@
 #![tactic(auto)]
 
 mod append;
-mod bind;
-mod bound;
+mod bindings;
 mod change;
-mod compare;
+mod connected_components;
+mod free_variables;
 mod graph;
-mod groups;
 mod instances;
-mod iris;
+mod iri_lookup;
 mod laws;
-mod line;
+mod line_order;
 mod lookup;
 mod matching;
-mod order;
 mod patch;
 mod pattern;
 mod search;
 mod size;
-mod solve;
+mod solution_mappings;
 mod term;
 mod term_order;
 #[cfg(test)]
 mod tests;
 mod triple;
+mod triple_line;
+mod triple_order;
 mod triple_ref;
-mod walk;
+mod triple_walk;
 
 pub use change::{Change, changed};
 pub use graph::Graph;
 pub use laws::{change_law, order_law, set_law, subject_law};
-pub use line::Line;
 pub use patch::{Patch, PatchFault, instantiate, the_mapping};
 pub use pattern::{Found, Mapping, Pattern, Slot};
-pub use solve::solutions;
+pub use solution_mappings::solutions;
 pub use term::{Term, Written};
 pub use triple::Triple;
-pub use walk::Walk;
+pub use triple_line::Line;
+pub use triple_walk::Walk;

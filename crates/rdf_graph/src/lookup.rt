@@ -1,27 +1,28 @@
-//! What a search looks triples up in: the triples of a graph, by their subjects or by their objects.
-ghost use Rattle.std.specs.Prelude.{◌≡◌, ◌≢◌, ◌<◌, if◌then◌else◌, List, [], IfOk, None, Some, length, map, slice_get};
+//! Where a search looks triples up: those of a graph by subject, or an index by object.
+ghost use Rattle.std.specs.Prelude.{◌≡◌, ◌≢◌, ◌<◌, if◌then◌else◌, List, [], IfOk, None, Some};
+ghost use Rattle.std.specs.Prelude.{length, map, slice_get};
 ghost use Rattle.std.specs.Option.{option_copied};
 ghost use Rattle.rdf_graph.specs.Graph.{IsOrdered};
-ghost use Rattle.rdf_graph.specs.Lookup.{AreCandidates, IsByObject, IsLookup, listed};
+ghost use Rattle.rdf_graph.specs.Lookup.{AreCandidates, IsObjectIndex, IsLookup, candidate_triples};
 ghost use Rattle.rdf_graph.specs.declared.triple.Triple.{Triple};
 
-use crate::bind::has_variable;
-use crate::matching::{has_terms, span};
+use crate::free_variables::has_variable;
+use crate::matching::{has_terms, subject_range};
 use crate::pattern::{Pattern, Slot};
 use crate::term::Term;
 use crate::triple::Triple;
 use pod_base::Mem;
 use std::alloc::Global;
 
-/// The triples of a graph in their order, and in that of their objects where this was made.
+/// The triples of a graph in order, and an index by object where one was built.
 #[derive(Clone, Copy)]
 pub(crate) struct Lookup<'a> {
     pub(crate) triples: &'a [Triple],
     pub(crate) by_object: &'a [&'a Triple],
 }
 
-/// Triples among which those are that a condition may be: some of a graph in its order, or in that of
-/// their objects. One of the slices is empty.
+/// Triples that contain all matches of a condition: a range of a graph, or of the index by object.
+/// One of the slices is empty.
 #[derive(Clone, Copy)]
 pub(crate) struct Candidates<'a> {
     in_order: &'a [Triple],
@@ -29,16 +30,18 @@ pub(crate) struct Candidates<'a> {
 }
 
 impl<'a> Candidates<'a> {
-    /// Whether they are in the order of their objects.
+    /// Whether they are a range of the index by object.
     fn is_by_object(self) -> bool
-        ensures { listed self.entry ≡ (if result then map (λ r. r.now) self.entry.by_object.now else self.entry.in_order.now) }
+        ensures { candidate_triples self.entry
+            ≡ (if result then map
+            (λ r. r.now) self.entry.by_object.now else self.entry.in_order.now) }
     {
         !self.by_object.is_empty()
     }
 
-    /// How many they are.
+    /// The number of candidates.
     pub(crate) fn len(self) -> usize
-        ensures { result ≡ length (listed self.entry) }
+        ensures { result ≡ length (candidate_triples self.entry) }
     {
         if self.is_by_object() {
             self.by_object.len()
@@ -47,10 +50,10 @@ impl<'a> Candidates<'a> {
         }
     }
 
-    /// The one at that place.
+    /// The candidate at this position.
     pub(crate) fn at(self, i: usize) -> &'a Triple
-        requires { i < length (listed self) }
-        ensures { slice_get (listed self.entry) i ≡ Some result.now }
+        requires { i < length (candidate_triples self) }
+        ensures { slice_get (candidate_triples self.entry) i ≡ Some result.now }
     {
         if self.is_by_object() {
             by_object_at(self.by_object, i)
@@ -59,7 +62,7 @@ impl<'a> Candidates<'a> {
         }
     }
 
-    /// How many of them have these terms, where they are given, counted up to a bound.
+    /// How many candidates have these terms, where they are given, counted up to a bound.
     pub(crate) fn count(
         self,
         s: Option<&Term>,
@@ -83,7 +86,7 @@ impl<'a> Candidates<'a> {
     }
 }
 
-/// The triple at that place of an index.
+/// The triple at this position of an index.
 fn by_object_at<'a>(triples: &'a [&'a Triple], i: usize) -> &'a Triple
     requires { i < length triples.now }
     ensures { slice_get (map (λ r. r.now) triples.now) i ≡ Some result.now }
@@ -91,7 +94,7 @@ fn by_object_at<'a>(triples: &'a [&'a Triple], i: usize) -> &'a Triple
     triples[i]
 }
 
-/// The triple at that place of a graph.
+/// The triple at this position of a graph.
 fn in_order_at(triples: &[Triple], i: usize) -> &Triple
     requires { i < length triples.now }
     ensures { slice_get triples.now i ≡ Some result.now }
@@ -100,24 +103,26 @@ fn in_order_at(triples: &[Triple], i: usize) -> &Triple
 }
 
 impl<'a> Lookup<'a> {
-    /// The triples among which those are that have this subject and this object, where they are given.
+    /// Candidates that contain all triples with this subject and this object, where they are given.
     pub(crate) fn candidates(self, s: Option<&Term>, o: Option<&Term>) -> Candidates<'a>
         requires { IsLookup self }
-        ensures { AreCandidates (option_copied s.entry) (option_copied o.entry) self.entry.triples.now (listed result) }
+        ensures { AreCandidates (option_copied s.entry)
+            (option_copied o.entry) self.entry.triples.now (candidate_triples result) }
     {
         match (s, o) {
             (None, Some(object)) => self.with_object(object),
             _ => Candidates {
-                in_order: span(self.triples, s),
+                in_order: subject_range(self.triples, s),
                 by_object: &[],
             },
         }
     }
 
-    /// The triples among which those are that have this object.
+    /// Candidates that contain all triples with this object.
     fn with_object(self, object: &Term) -> Candidates<'a>
         requires { IsLookup self }
-        ensures { AreCandidates None (Some object.now) self.entry.triples.now (listed result) }
+        ensures { AreCandidates None (Some object.now) self.entry.triples.now
+            (candidate_triples result) }
     {
         if self.by_object.is_empty() {
             Candidates {
@@ -133,9 +138,10 @@ impl<'a> Lookup<'a> {
     }
 }
 
-/// The triples with this object, of triples in the order of their objects.
+/// The range of an index with this object.
 fn range_of<'a>(by_object: &'a [&'a Triple], object: &Term) -> &'a [&'a Triple]
-    ensures { (triples : List Triple) → IsOrdered triples → IsByObject triples by_object.now → AreCandidates None (Some object.now) triples (map (λ r. r.now) result.now) }
+    ensures { (triples : List Triple) → IsOrdered triples → IsObjectIndex triples by_object.now
+        → AreCandidates None (Some object.now) triples (map (λ r. r.now) result.now) }
 {
     let low = by_object.partition_point(|triple| triple.o.cmp(object).is_lt());
     let rest = &by_object[low..];
@@ -143,14 +149,13 @@ fn range_of<'a>(by_object: &'a [&'a Triple], object: &Term) -> &'a [&'a Triple]
     &rest[..count]
 }
 
-/// The triples in the order of their objects where a search for these conditions may look for those
-/// of an object, and else none.
+/// The index by object where a search for these conditions may need it, and else an empty one.
 pub(crate) fn index_for<'a>(
     alloc: Global,
     triples: &'a [Triple],
     conditions: &[Pattern],
 ) -> Mem<Vec<&'a Triple>>
-    ensures { IfOk result (λ index. index.items ≢ [] → IsByObject triples.now index.items) }
+    ensures { IfOk result (λ index. index.items ≢ [] → IsObjectIndex triples.now index.items) }
 {
     if needs_index(conditions) {
         by_object(alloc, triples)
@@ -159,9 +164,9 @@ pub(crate) fn index_for<'a>(
     }
 }
 
-/// The triples in the order of their objects.
+/// The triples in order of their objects.
 fn by_object<'a>(alloc: Global, triples: &'a [Triple]) -> Mem<Vec<&'a Triple>>
-    ensures { IfOk result (λ index. IsByObject triples.now index.items) }
+    ensures { IfOk result (λ index. IsObjectIndex triples.now index.items) }
 {
     let mut index: Vec<&Triple> = triples.iter().collect(alloc)?;
     index.sort_unstable_by(|first, second| first.o.cmp(&second.o));
@@ -180,7 +185,8 @@ fn may_follow_any(condition: &Pattern, conditions: &[Pattern]) -> bool {
     conditions.iter().any(|first| may_follow(condition, first))
 }
 
-/// Whether the terms of `first` may leave the object of the condition known and its subject unknown.
+/// Whether the terms of `first` may leave the object of the condition known and its subject
+/// unknown.
 fn may_follow(condition: &Pattern, first: &Pattern) -> bool {
     match &condition.s {
         Slot::Fixed(_) => false,

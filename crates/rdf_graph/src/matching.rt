@@ -2,8 +2,8 @@
 ghost use Rattle.std.specs.Prelude.{◌≡◌, ◌↔◌, IfOk, Contains, Some};
 ghost use Rattle.std.specs.Option.{option_copied};
 ghost use Rattle.rdf_graph.specs.Graph.{IsOrdered};
-ghost use Rattle.rdf_graph.specs.Triple.{Agrees, agrees, is_asked};
-ghost use Rattle.rdf_graph.specs.Span.{IsSpan};
+ghost use Rattle.rdf_graph.specs.Triple.{HasTerms, has_terms, is_given_term};
+ghost use Rattle.rdf_graph.specs.SubjectRange.{IsSubjectRange};
 ghost use Rattle.rdf_graph.specs.declared.triple.Triple.{Triple};
 
 use crate::graph::Graph;
@@ -21,11 +21,15 @@ impl Graph {
         p: Option<&Term>,
         o: Option<&Term>,
     ) -> Mem<List<Triple>>
-        ensures members { IfOk result (λ found. (x : Triple) → Contains found.items x ↔ (Contains self.now x × Agrees (option_copied s.entry) (option_copied p.entry) (option_copied o.entry) x)) }
+        ensures members { IfOk result
+            (λ found. (x : Triple) → Contains found.items x
+            ↔ (Contains self.now x
+            × HasTerms (option_copied s.entry) (option_copied p.entry)
+            (option_copied o.entry) x)) }
         ensures ordered { IfOk result (λ found. IsOrdered found.items) }
     {
         let mut found = Vec::new(alloc);
-        for triple in span(self.as_slice(), s) {
+        for triple in subject_range(self.as_slice(), s) {
             if has_terms(triple, s, p, o) {
                 let copy = triple.copy(alloc)?;
                 found.push(copy)?;
@@ -35,26 +39,26 @@ impl Graph {
     }
 }
 
-/// The triples among which those with this subject stand, if one is given.
-pub(crate) fn span<'a>(triples: &'a [Triple], subject: Option<&Term>) -> &'a [Triple]
+/// The range with all triples of this subject, or all triples where none is given.
+pub(crate) fn subject_range<'a>(triples: &'a [Triple], subject: Option<&Term>) -> &'a [Triple]
     requires { IsOrdered triples.now }
-    ensures span { IsSpan (option_copied subject.entry) triples.now result.now }
+    ensures subject_range { IsSubjectRange (option_copied subject.entry) triples.now result.now }
 {
     match subject {
         None => triples,
-        Some(subject) => lines_of(triples, subject),
+        Some(subject) => subject_lines(triples, subject),
     }
 }
 
-/// The triples whose lines begin as those of this subject do.
-fn lines_of<'a>(triples: &'a [Triple], subject: &Term) -> &'a [Triple]
+/// The triples whose lines have the prefix of this subject.
+fn subject_lines<'a>(triples: &'a [Triple], subject: &Term) -> &'a [Triple]
     requires { IsOrdered triples.now }
-    ensures span { IsSpan (Some subject.now) triples.now result.now }
+    ensures subject_range { IsSubjectRange (Some subject.now) triples.now result.now }
 {
     let low = triples.partition_point(|triple| triple.cmp_subject(subject).is_lt());
-    let behind = &triples[low..];
-    let count = behind.partition_point(|triple| triple.cmp_subject(subject).is_le());
-    &behind[..count]
+    let rest = &triples[low..];
+    let count = rest.partition_point(|triple| triple.cmp_subject(subject).is_le());
+    &rest[..count]
 }
 
 /// Whether the triple has these terms, where they are given.
@@ -64,17 +68,19 @@ pub(crate) fn has_terms(
     p: Option<&Term>,
     o: Option<&Term>,
 ) -> bool
-    ensures { result ≡ agrees (option_copied s.entry) (option_copied p.entry) (option_copied o.entry) triple.now }
+    ensures { result
+        ≡ has_terms (option_copied s.entry) (option_copied p.entry)
+        (option_copied o.entry) triple.now }
 {
-    is_wanted(s, &triple.s) && is_wanted(p, &triple.p) && is_wanted(o, &triple.o)
+    is_given_term(s, &triple.s) && is_given_term(p, &triple.p) && is_given_term(o, &triple.o)
 }
 
-/// Whether it is the term that is asked for, if one is.
-fn is_wanted(asked: Option<&Term>, term: &Term) -> bool
-    ensures { result ≡ is_asked (option_copied asked.entry) term.now }
+/// Whether it is the given term, if one is given.
+fn is_given_term(given: Option<&Term>, term: &Term) -> bool
+    ensures { result ≡ is_given_term (option_copied given.entry) term.now }
 {
-    match asked {
+    match given {
         None => true,
-        Some(asked) => term == asked,
+        Some(given) => term == given,
     }
 }

@@ -7,13 +7,13 @@ ghost use Rattle.rdf_graph.specs.declared.patch.PatchFault.TheVariants.{NoMemory
 use crate::change::Change;
 use crate::graph::Graph;
 use crate::pattern::{Found, Mapping, Pattern};
-use crate::solve::solutions;
+use crate::solution_mappings::solutions;
 use pod_base::{List, NoMemory};
 use std::alloc::Global;
 use thiserror::Error;
 
-/// A change that depends on the graph: where the conditions hold under one mapping, the deletions go
-/// and the insertions come, as that mapping makes them.
+/// A change that depends on the graph: where the conditions have one solution, the instances of the
+/// deletions are removed and those of the insertions are added.
 #[derive(Debug, Drop)]
 pub struct Patch {
     pub conditions: List<Pattern>,
@@ -21,7 +21,7 @@ pub struct Patch {
     pub insertions: List<Pattern>,
 }
 
-/// Why a patch can't be carried out.
+/// Why a patch fails.
 #[derive(Clone, Copy, Debug, PartialEq, Eq, Error)]
 pub enum PatchFault {
     /// No mapping makes the conditions triples of the graph.
@@ -49,8 +49,8 @@ impl From<NoMemory> for PatchFault {
     }
 }
 
-/// The change that a patch makes in a graph. Each variable of its deletions and insertions is one of
-/// its conditions.
+/// The change that a patch makes in a graph. Each variable of its deletions and insertions is one
+/// of its conditions.
 ///
 /// The faults come in the order in which `PatchFault` has them: `NoMatch` and `ManyMatches` as
 /// `solutions` says, then `MissingDeletion`, then `NotTriple`.
@@ -72,7 +72,8 @@ pub fn the_mapping(
     graph: &Graph,
     conditions: &List<Pattern>,
 ) -> Result<Mapping, PatchFault>
-    ensures mapping { IfOk result (λ mapping. IsOnlySolution graph.now conditions.now.items mapping.pairs.items) }
+    ensures mapping { IfOk result
+        (λ mapping. IsOnlySolution graph.now conditions.now.items mapping.pairs.items) }
     ensures fault { IfErr result (IsMappingFault graph.now conditions.now.items) }
 {
     match solutions(alloc, graph, conditions)? {

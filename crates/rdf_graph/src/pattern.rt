@@ -6,14 +6,14 @@ ghost use Rattle.rdf_graph.specs.Pattern.{value_of};
 use crate::term::Term;
 use pod_base::{List, Text};
 
-/// A place of a pattern: a term, or a variable by its name.
+/// A position of a pattern: a term, or a variable by its name.
 #[derive(Debug, Drop)]
 pub enum Slot {
     Fixed(Term),
     Var(Text),
 }
 
-/// A triple in whose places variables may stand.
+/// A triple with variables at some positions.
 #[derive(Debug, Drop)]
 pub struct Pattern {
     pub s: Slot,

@@ -1,21 +1,22 @@
 //! The search for mappings under which conditions are triples of a graph.
-ghost use Rattle.std.specs.Prelude.{◌≡◌, ◌<◌, All, IfOk, IfSome, IfNone, OnOk, IsTrue, ◌↔◌, Some, false, true, length, map, slice_get};
-ghost use Rattle.rdf_graph.specs.Lookup.{AreCandidates, IsLookup, listed};
+ghost use Rattle.std.specs.Prelude.{◌≡◌, ◌<◌, All, IfOk, IfSome, IfNone, OnOk, IsTrue, ◌↔◌, Some};
+ghost use Rattle.std.specs.Prelude.{false, true, length, map, slice_get};
+ghost use Rattle.rdf_graph.specs.Lookup.{AreCandidates, IsLookup, candidate_triples};
 ghost use Rattle.rdf_graph.specs.Pattern.{Extends};
-ghost use Rattle.rdf_graph.specs.Search.{IsPartial, Tells, either, pairs_of};
+ghost use Rattle.rdf_graph.specs.Search.{IsPartialMatch, IsSearchResult, union, pairs_of};
 ghost use Rattle.rdf_graph.specs.Pattern.{slot_term, value_of};
 ghost use Rattle.rdf_graph.specs.declared.pattern.Found.TheVariants.{Many};
 
-use crate::bound::{Bound, extend, mapping_of, slot_term};
+use crate::bindings::{BoundVariable, extend, mapping_of, slot_term};
 use crate::lookup::{Candidates, Lookup};
 use crate::pattern::{Found, Pattern};
 use pod_base::Mem;
 use std::alloc::Global;
 
 impl Found {
-    /// Two findings among mappings that differ.
-    fn either(self, other: Found) -> Found
-        ensures { result ≡ either self other }
+    /// The result for the mappings of two searches that have none in common.
+    fn union(self, other: Found) -> Found
+        ensures { result ≡ union self other }
     {
         match (self, other) {
             (Found::Nothing, found) | (found, Found::Nothing) => found,
@@ -23,7 +24,7 @@ impl Found {
         }
     }
 
-    /// Whether more than one was found.
+    /// Whether there is more than one solution.
     fn is_many(&self) -> bool
         ensures { IsTrue result ↔ (self.now ≡ Many) }
     {
@@ -31,23 +32,27 @@ impl Found {
     }
 }
 
-/// What there is among the mappings that have the pairs: each condition that isn't taken is tried in
-/// turn, the one with the fewest matches first, and the second mapping ends the search.
+/// The solutions among the mappings that have the pairs. Conditions that aren't taken are matched
+/// one after another, the one with the fewest candidates first, and the second mapping ends the
+/// search.
 ///
-/// After an `Err` nothing is known of what was lent.
+/// After an `Err` the flags and the pairs are unspecified.
 pub(crate) fn search<'a>(
     alloc: Global,
     lookup: Lookup<'a>,
     conditions: &[&'a Pattern],
     taken: &mut [bool],
-    bound: &mut Vec<Bound<'a>>,
+    bound: &mut Vec<BoundVariable<'a>>,
 ) -> Mem<Found>
     requires lookup { IsLookup lookup }
     requires flags { length taken.old ≡ length conditions.now }
-    requires partial { IsPartial lookup.triples.now (map (λ c. c.now) conditions.now) taken.old (pairs_of bound.old.items) }
+    requires partial { IsPartialMatch lookup.triples.now (map (λ c. c.now) conditions.now) taken.old
+        (pairs_of bound.old.items) }
     ensures taken { OnOk result (taken.new ≡ taken.old) }
     ensures bound { OnOk result (bound.new.items ≡ bound.old.items) }
-    ensures tells { IfOk result (Tells lookup.entry.triples.now (map (λ c. c.now) conditions.now) (Extends (pairs_of bound.old.items))) }
+    ensures found { IfOk result
+        (IsSearchResult lookup.entry.triples.now (map (λ c. c.now) conditions.now)
+        (Extends (pairs_of bound.old.items))) }
 {
     let Some(next) = next_condition(lookup, conditions, taken, bound.as_slice()) else {
         return Ok(Found::One(mapping_of(alloc, bound.as_slice())?));
@@ -57,11 +62,11 @@ pub(crate) fn search<'a>(
     let condition = conditions[next];
     let mut found = Found::Nothing;
     let candidates = candidates_of(lookup, bound.as_slice(), condition);
-    for place in 0..candidates.len() {
-        let triple = candidates.at(place);
+    for position in 0..candidates.len() {
+        let triple = candidates.at(position);
         if extend(bound, condition, triple)? {
             let more = search(alloc, lookup, conditions, taken, bound)?;
-            found = found.either(more);
+            found = found.union(more);
         }
         bound.truncate(before);
         if found.is_many() {
@@ -73,14 +78,16 @@ pub(crate) fn search<'a>(
     Ok(found)
 }
 
-/// The triples among which those are that the condition may be.
+/// Candidates that contain all matches of the condition.
 fn candidates_of<'a>(
     lookup: Lookup<'a>,
-    bound: &[Bound<'a>],
+    bound: &[BoundVariable<'a>],
     condition: &'a Pattern,
 ) -> Candidates<'a>
     requires { IsLookup lookup }
-    ensures { AreCandidates (slot_term (value_of (pairs_of bound.now)) condition.now.s) (slot_term (value_of (pairs_of bound.now)) condition.now.o) lookup.entry.triples.now (listed result) }
+    ensures { AreCandidates (slot_term (value_of (pairs_of bound.now)) condition.now.s)
+        (slot_term (value_of (pairs_of bound.now)) condition.now.o) lookup.entry.triples.now
+        (candidate_triples result) }
 {
     let s = slot_term(bound, &condition.s);
     let o = slot_term(bound, &condition.o);
@@ -92,7 +99,7 @@ fn next_condition<'a>(
     lookup: Lookup<'a>,
     conditions: &[&'a Pattern],
     taken: &[bool],
-    bound: &[Bound<'a>],
+    bound: &[BoundVariable<'a>],
 ) -> Option<usize>
     requires lookup { IsLookup lookup }
     requires flags { length taken.now ≡ length conditions.now }
@@ -114,17 +121,17 @@ fn next_condition<'a>(
     best
 }
 
-/// The bound of the first count: none where several conditions are left, and else 0, since nothing needs
-/// to be counted.
+/// The bound of the first count: none where several conditions are left, and else 0, since nothing
+/// needs to be counted.
 fn first_bound(taken: &[bool]) -> usize {
     let left = taken.iter().filter(|is_taken| !**is_taken).count();
     if left > 1 { usize::MAX } else { 0 }
 }
 
-/// How many triples have the terms that are known of the condition, counted up to a bound.
+/// How many triples have the terms of the condition that are bound, counted up to `most`.
 fn matches_of<'a>(
     lookup: Lookup<'a>,
-    bound: &[Bound<'a>],
+    bound: &[BoundVariable<'a>],
     condition: &'a Pattern,
     most: usize,
 ) -> usize

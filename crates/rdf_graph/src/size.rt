@@ -1,6 +1,7 @@
 //! The encoded size of terms, triples, graphs and changes, without encoding them.
 ghost use Rattle.std.specs.Prelude.{◌≡◌, ◌+◌, ℕ, length};
-ghost use Rattle.rdf_graph.specs.Size.{change_size, graph_size, saturated, term_size, text_size, triple_size, triples_size};
+ghost use Rattle.rdf_graph.specs.Size.{change_size, graph_size, saturated, term_size, text_size};
+ghost use Rattle.rdf_graph.specs.Size.{triple_size, triples_size};
 
 use crate::change::Change;
 use crate::graph::Graph;
@@ -41,8 +42,8 @@ impl Triple {
 }
 
 impl Graph {
-    /// How many bytes the graph's stored form has: eight for its count, and those of its triples. At
-    /// most 2^64 - 1.
+    /// How many bytes the graph's stored form has: eight for its count, and those of its triples.
+    /// At most 2^64 - 1.
     pub fn encoded_size(&self) -> u64
         ensures { result ≡ saturated (graph_size self.now) }
     {
@@ -95,7 +96,8 @@ pub(crate) fn size_of(number: usize) -> u64
 
 /// The sum of two sizes, at most 2^64 - 1.
 pub(crate) fn saturating_sum(first: u64, second: u64) -> u64
-    ensures { (m : ℕ) (n : ℕ) → first ≡ saturated m → second ≡ saturated n → result ≡ saturated (m + n) }
+    ensures { (m : ℕ) (n : ℕ) → first ≡ saturated m → second ≡ saturated n
+        → result ≡ saturated (m + n) }
 {
     first.saturating_add(second)
 }

@@ -26,11 +26,11 @@ pub enum Term {
 /// The bytes of a term's text, one after another.
 #[derive(Drop)]
 pub struct Written<'a> {
-    /// What comes next, as it is.
+    /// The next bytes, unchanged.
     plain: &'a [u8],
-    /// What comes then, with its escapes.
+    /// Bytes after them, to be escaped.
     quoted: &'a [u8],
-    /// What comes in the end, as it is.
+    /// The last bytes, unchanged.
     mark: &'a [u8],
     name: &'a [u8],
     end: &'a [u8],
@@ -72,7 +72,7 @@ impl<'a> Iterator for Written<'a> {
 }
 
 impl<'a> Written<'a> {
-    /// These bytes as they are.
+    /// These bytes, unchanged.
     pub(crate) fn plain(bytes: &'a [u8]) -> Written<'a>
         ensures { written_rest result ≡ bytes.now }
     {
@@ -88,7 +88,7 @@ impl<'a> Written<'a> {
     }
 }
 
-/// A byte of a literal, or the first byte of its escape, and then what is left of the escape.
+/// A byte of a literal, or the first byte of its escape, and the rest of the escape.
 pub(crate) fn escape(byte: u8) -> (u8, &'static [u8])
     ensures { result.0 ∷ result.1.now ≡ escaped_byte byte }
 {

@@ -3,11 +3,13 @@ ghost use Rattle.std.specs.Prelude.{◌≡◌, ◌∷◌, ℕ, List};
 ghost use Rattle.rdf_graph.specs.Term.{text};
 ghost use Rattle.rdf_graph.specs.Triple.{bytes_cmp};
 ghost use Rattle.std.proofs.Common.{rules, refl};
-ghost use Rattle.std.specs.Cmp.{eq_by_cmp_equiv, partial_order_from_agreeing_total, partial_order_from_total, partial_equiv_from_equiv};
+ghost use Rattle.std.specs.Cmp.{eq_by_cmp_equiv, partial_order_from_agreeing_total};
+ghost use Rattle.std.specs.Cmp.{partial_order_from_total, partial_equiv_from_equiv};
 ghost use Rattle.std.specs.Cmp.Rules.{comparing};
 ghost use Rattle.std.specs.Ordering.{as_partial_cmp, eq_by_cmp};
 ghost use Rattle.rdf_graph.specs.TermOrder.{pattern_cmp, slot_cmp, term_cmp};
-ghost use Rattle.rdf_graph.specs.TermOrderLaws.{pattern_cmp_total, slot_cmp_total, term_cmp_total, term_ties};
+ghost use Rattle.rdf_graph.specs.TermOrderLaws.{pattern_cmp_total, slot_cmp_total, term_cmp_total};
+ghost use Rattle.rdf_graph.specs.TermOrderLaws.{term_ties};
 
 use crate::pattern::{Pattern, Slot};
 use crate::term::Term;

@@ -35,11 +35,13 @@ mod numbers;
 mod plain_run;
 mod runs;
 mod scan;
+mod texts;
 mod token;
 mod token_list;
 
 pub use classes::Quote;
 pub use first::next_token;
 pub use lexer::Lexer;
+pub use texts::{is_label, is_lang_tag};
 pub use token::{LexFault, Token, TokenKind};
 pub use token_list::{listed_token, tokens};

@@ -37,7 +37,7 @@ pub(crate) fn strip_some(text: &[u8], class: Class) -> Option<&[u8]>
 }
 
 /// What follows the parts of a LANGTAG after its first.
-fn strip_tag_parts(text: &[u8]) -> &[u8]
+pub(crate) fn strip_tag_parts(text: &[u8]) -> &[u8]
     ensures { MatchesLongest (many tag_part) text.now (Some result.now) }
 {
     let mut rest = text;

@@ -1,6 +1,6 @@
 use Rattle.std.proofs.Common.{◌<◌, ◌+◌, ◌∙◌, ap, sym, subst, arith, length}
 use Rattle.std.proofs.lemmas.Bool.{true≢false}
-use Rattle.rdf_graph.specs.Place.{ComesFirst}
+use Rattle.rdf_graph.specs.InsertionPoint.{ComesFirst}
 use Rattle.rdf_graph.proofs.Merging.{IsMerging, merging_none, step_added, step_passed, step_skipped, step_kept, merged}
 use Rattle.rdf_graph.proofs.change.merge.Goals as goal
 use Rattle.rdf_graph.proofs.change.merge.Goals.{then-i-old, else-i-old+then-k-added, then-not-is_at_either+in_ok-copy-2+in_ok-push-2, else-not-is_at_either}

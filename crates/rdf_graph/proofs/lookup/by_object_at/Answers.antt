@@ -1,4 +1,4 @@
-use Rattle.rdf_graph.proofs.Telling.{read_map}
+use Rattle.rdf_graph.proofs.SearchResults.{read_map}
 use Rattle.rdf_graph.proofs.lookup.by_object_at.Goals as goal
 
 pub returns : goal.returns

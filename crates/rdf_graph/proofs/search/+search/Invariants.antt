@@ -1,8 +1,8 @@
 use Rattle.std.proofs.Common.{◌≡◌, take}
 use Rattle.std.specs.Prelude.{map}
-use Rattle.rdf_graph.specs.Lookup.{listed}
-use Rattle.rdf_graph.specs.Search.{Tells, pairs_of}
-use Rattle.rdf_graph.proofs.Telling.{Upto, untaken}
+use Rattle.rdf_graph.specs.Lookup.{candidate_triples}
+use Rattle.rdf_graph.specs.Search.{IsSearchResult, pairs_of}
+use Rattle.rdf_graph.proofs.SearchResults.{Upto, untaken}
 use Rattle.rdf_graph.proofs.search.+search.Given as goal
 
 -- the conditions that are left
@@ -10,10 +10,10 @@ abbrev pub decreases-search : goal.decreases-search
 decreases-search l = untaken l.taken.now
 
 -- what there is with the triples so far
-abbrev pub invariant-loop-place : goal.invariant-loop-place
-invariant-loop-place l =
+abbrev pub invariant-loop-position : goal.invariant-loop-position
+invariant-loop-position l =
     record {
-      tells : Tells l.lookup.triples.now (map (λ c. c.now) l.conditions) (Upto (pairs_of l.initial.bound.items) l.condition (take l.place (listed l.candidates))) l.found;
+      found : IsSearchResult l.lookup.triples.now (map (λ c. c.now) l.conditions) (Upto (pairs_of l.initial.bound.items) l.condition (take l.position (candidate_triples l.candidates))) l.found;
       taken : l.taken ≡ l.initial.taken;
       bound : l.bound.items ≡ l.initial.bound.items;
     }

@@ -1,4 +1,4 @@
-use Rattle.rdf_graph.proofs.Ranking.{texts_same}
+use Rattle.rdf_graph.proofs.LineOrders.{texts_same}
 use Rattle.rdf_graph.proofs.term.Term.cmp_text.Goals as goal
 
 pub returns-then-eq : goal.returns-then-eq
