@@ -1,6 +1,6 @@
-//! Runs cases of `turtle_grammar`: reads one from each line of standard input, and prints it with the
-//! result as one more field. A case is a call (`derive` or `read`), a start symbol (`turtle`, `patch`
-//! or `update`) and a list of symbols, one letter each; blanks are skipped.
+//! Runs cases of `turtle_grammar`: reads one from each line of standard input, and prints it with
+//! the result as one more field. A case is a call (`derive` or `read`), a start symbol (`turtle`,
+//! `patch` or `update`) and a list of symbols, one letter each; blanks are skipped.
 //!
 //! ```text
 //! i IRIREF   n PNAME_LN   p PNAME_NS   l BLANK_NODE_LABEL   e ANON   ? variable   a a

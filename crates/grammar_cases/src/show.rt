@@ -89,11 +89,7 @@ fn show_machine(alloc: Global, machine: &Machine) -> Result<String, AllocError> 
 }
 
 /// What the machine says of the last symbol, or the first that it refuses.
-pub fn show_reading(
-    alloc: Global,
-    start: Start,
-    symbols: &[Symbol],
-) -> Result<String, AllocError> {
+pub fn show_reading(alloc: Global, start: Start, symbols: &[Symbol]) -> Result<String, AllocError> {
     let mut machine = Machine::new(alloc, start);
     for (at, symbol) in symbols.iter().enumerate() {
         match machine.step(*symbol) {

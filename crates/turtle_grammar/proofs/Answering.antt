@@ -50,10 +50,11 @@ module _ (start : Start) (ts : List Symbol) (k : ℕ) (ps : List Production) (ma
       let more : take (k + 1) ts ≡ take k ts ++ get_or ts k d ∷ [] = take_more ts k d lt in
       let size : length (take k ts) ≡ k = length-take-le k ts (omega arith) in
       let last : take (k + 1) (take k ts ++ get_or ts k d ∷ []) ≡ take (k + 1) ts = ap (take (k + 1)) (sym more) ∙ take_of_take (k + 1) (k + 1) ts (omega arith) (omega arith) in
-      let high : DEPTH_LIMIT < depth_from 0 (take (length (take k ts) + 1) (take k ts ++ get_or ts k d ∷ [])) = both.1.1 in
-      ((lt, subst (λ z. DEPTH_LIMIT < depth_from 0 z) (ap (λ n. take (n + 1) (take k ts ++ get_or ts k d ∷ [])) size ∙ last) high),
-      subst (GoesOn start) (sym more) both.0,
-      shallow_before (omega arith))
+      let high : DEPTH_LIMIT < depth_from 0 (take (length (take k ts) + 1) (take k ts ++ get_or ts k d ∷ [])) = both.1.1 in (
+        (lt, subst (λ z. DEPTH_LIMIT < depth_from 0 z) (ap (λ n. take (n + 1) (take k ts ++ get_or ts k d ∷ [])) size ∙ last) high),
+        subst (GoesOn start) (sym more) both.0,
+        shallow_before (omega arith),
+      )
 
   pub refused_here : (r : Refusal) (d : Symbol) → k < length ts → IsRefused r (get_or ts k d) machine → Faults start ts (fault_at r k)
   refused_here refusal.Grammar d lt stop = grammar_here d lt stop

@@ -84,7 +84,7 @@ module _ (w : Rest) where
   pub string_object : (e : Ending) (s p : Node) (r ts : List Symbol) (gs : List Goal) (m m' : Point)
       → ending_symbols e r ≡ ts → Reads gs w (ending_end e s p m.at (passed m)) r m'
       → (a : Object) × (r' : List Symbol) × (object_symbols a r' ≡ Token kind.Quoted ∷ ts)
-          × Reads gs w (object_end a s p m) r' m'
+      × Reads gs w (object_end a s p m) r' m'
   string_object plain s p r ts gs m m' e h = (literal string, r, ap (λ z. Token kind.Quoted ∷ z) e, h)
   string_object tag s p r ts gs m m' e h = (literal tagged_string, r, ap (λ z. Token kind.Quoted ∷ z) e, h)
   string_object (datatype i) s p r ts gs m m' e h = (literal (typed_string i), r, ap (λ z. Token kind.Quoted ∷ z) e, h)
@@ -94,7 +94,7 @@ module _ (w : Rest) where
   KeepsObject s p es gs m t x =
       (ts : List Symbol) (m' : Point) → Reads x.goals x.rest x.point ts m'
       → (a : Object) × (r : List Symbol) × (object_symbols a r ≡ t ∷ ts)
-          × Reads (es ++ gs) w (object_end a s p m) r m'
+      × Reads (es ++ gs) w (object_end a s p m) r m'
 
   pub keeps_element : (t : Symbol) (s p : Node) (es gs : List Goal) (m : Point)
       → On (staged w (before gs (before es (one s p m t)))) (KeepsObject s p es gs m t)
@@ -137,7 +137,7 @@ module _ (w : Rest) where
   KeepsClose c gs m t x =
       (ts : List Symbol) (m' : Point) → Reads x.goals x.rest x.point ts m'
       → (k : Closing c) × (r : List Symbol) × (close_symbols c k r ≡ t ∷ ts)
-          × Reads gs w (close_end c k m) r m'
+      × Reads gs w (close_end c k m) r m'
 
   pub keeps_close : (c : Closer) (t : Symbol) (gs : List Goal) (m : Point)
       → On (staged w (before gs (closes c m t))) (KeepsClose c gs m t)
@@ -149,27 +149,33 @@ module _ (w : Rest) where
   keeps_close _ _ gs m = tt
 
   pub keeps_after : (t : Symbol) (s p : Node) (c : Closer) (gs : List Goal) (m : Point) → Takes (goal.After s p c ∷ gs) m t
-  keeps_after (Token kind.Comma) s p c gs m = λ ts m' h.
-      ((more h.0 h.3.0.0, h.3.0.1, h.3.0.2), h.3.1,
-      ap (λ z. Token kind.Comma ∷ object_symbols h.0 z) h.3.2 ∙ ap (λ z. Token kind.Comma ∷ z) h.2, h.3.3)
+  keeps_after (Token kind.Comma) s p c gs m = λ ts m' h. (
+    (more h.0 h.3.0.0, h.3.0.1, h.3.0.2),
+    h.3.1,
+    ap (λ z. Token kind.Comma ∷ object_symbols h.0 z) h.3.2 ∙ ap (λ z. Token kind.Comma ∷ z) h.2,
+    h.3.3,
+  )
   keeps_after (Token kind.Semicolon) s p c gs m = λ ts m' h.
       elim h.0.0 as (λ v. again_symbols v (close_symbols c h.0.1 h.1) ≡ ts
-          → Reads gs w (close_end c h.0.1 (again_end v s (passed m))) h.1 m'
-          → Reads (goal.After s p c ∷ gs) w m (Token kind.Semicolon ∷ ts) m') [
+      → Reads gs w (close_end c h.0.1 (again_end v s (passed m))) h.1 m'
+      → Reads (goal.After s p c ∷ gs) w m (Token kind.Semicolon ∷ ts) m') [
         | inl ps ↦ λ e k. ((none, empty ps, h.0.1), h.1, ap (λ z. Token kind.Semicolon ∷ z) e, k)
         | inr q ↦ λ e k. ((none, also q, h.0.1), h.1, ap (λ z. Token kind.Semicolon ∷ z) e, k)
       ] h.2 h.3
   keeps_after t s p c gs m =
       weaken (take_symbol (goal.After s p c ∷ gs) w m t) (KeepsClose c gs m t) (KeepsStep (goal.After s p c ∷ gs) w m t)
-          (keeps_close c t gs m) (λ x f ts m' h. let k = f ts m' h in ((none, end, k.0), k.1, k.2, k.3))
+      (keeps_close c t gs m) (λ x f ts m' h. let k = f ts m' h in ((none, end, k.0), k.1, k.2, k.3))
 
   -- after a verb: an object and what follows it are the predicates of s
   pub objects : (v : Verb) (s : Node) (c : Closer) (gs : List Goal) (m : Point) (ts : List Symbol) (m' : Point)
       → Reads (goal.One s (node.Token m.at) ∷ goal.After s (node.Token m.at) c ∷ gs) w (passed m) ts m'
       → Reads (goal.Predicates s c ∷ gs) w m (verb_symbol v ∷ ts) m'
-  objects v s c gs m ts m' h =
-      ((predicates v h.0 h.3.0.0 h.3.0.1, h.3.0.2), h.3.1,
-      ap (λ z. verb_symbol v ∷ object_symbols h.0 z) h.3.2 ∙ ap (λ z. verb_symbol v ∷ z) h.2, h.3.3)
+  objects v s c gs m ts m' h = (
+    (predicates v h.0 h.3.0.0 h.3.0.1, h.3.0.2),
+    h.3.1,
+    ap (λ z. verb_symbol v ∷ object_symbols h.0 z) h.3.2 ∙ ap (λ z. verb_symbol v ∷ z) h.2,
+    h.3.3,
+  )
 
   pub keeps_predicates : (t : Symbol) (s : Node) (c : Closer) (gs : List Goal) (m : Point) → Takes (goal.Predicates s c ∷ gs) m t
   keeps_predicates (Token kind.IriRef) s c gs m = λ ts m' h. objects (predicate iri_ref) s c gs m ts m' h
@@ -192,14 +198,14 @@ module _ (w : Rest) where
   keeps_again (Token kind.Variable) s c gs m = λ ts m' h. more_again verb_variable s c gs m ts m' h
   keeps_again (Token kind.Semicolon) s c gs m = λ ts m' h.
       elim h.0.0 as (λ v. again_symbols v (close_symbols c h.0.1 h.1) ≡ ts
-          → Reads gs w (close_end c h.0.1 (again_end v s (passed m))) h.1 m'
-          → Reads (goal.Again s c ∷ gs) w m (Token kind.Semicolon ∷ ts) m') [
+      → Reads gs w (close_end c h.0.1 (again_end v s (passed m))) h.1 m'
+      → Reads (goal.Again s c ∷ gs) w m (Token kind.Semicolon ∷ ts) m') [
         | inl ps ↦ λ e k. ((inl (empty ps), h.0.1), h.1, ap (λ z. Token kind.Semicolon ∷ z) e, k)
         | inr q ↦ λ e k. ((inl (also q), h.0.1), h.1, ap (λ z. Token kind.Semicolon ∷ z) e, k)
       ] h.2 h.3
   keeps_again t s c gs m =
       weaken (take_symbol (goal.Again s c ∷ gs) w m t) (KeepsClose c gs m t) (KeepsStep (goal.Again s c ∷ gs) w m t)
-          (keeps_close c t gs m) (λ x f ts m' h. let k = f ts m' h in ((inl end, k.0), k.1, k.2, k.3))
+      (keeps_close c t gs m) (λ x f ts m' h. let k = f ts m' h in ((inl end, k.0), k.1, k.2, k.3))
 
   more_maybe : (v : Verb) (s : Node) (c : Closer) (gs : List Goal) (m : Point) (ts : List Symbol) (m' : Point)
       → Reads (goal.One s (node.Token m.at) ∷ goal.After s (node.Token m.at) c ∷ gs) w (passed m) ts m'
@@ -214,26 +220,26 @@ module _ (w : Rest) where
   keeps_maybe (Token kind.Variable) s c gs m = λ ts m' h. more_maybe verb_variable s c gs m ts m' h
   keeps_maybe t s c gs m =
       weaken (take_symbol (goal.Maybe s c ∷ gs) w m t) (KeepsClose c gs m t) (KeepsStep (goal.Maybe s c ∷ gs) w m t)
-          (keeps_close c t gs m) (λ x f ts m' h. let k = f ts m' h in ((None, k.0), k.1, k.2, k.3))
+      (keeps_close c t gs m) (λ x f ts m' h. let k = f ts m' h in ((None, k.0), k.1, k.2, k.3))
 
   pub keeps_elements : (t : Symbol) (c : Node) (u : CellUse) (gs : List Goal) (m : Point) → Takes (goal.Elements c u ∷ gs) m t
   keeps_elements (Token kind.CloseRound) c u gs m = λ ts m' h. (none, ts, refl, h)
   keeps_elements t c u gs m =
       weaken (take_symbol (goal.Elements c u ∷ gs) w m t)
-          (KeepsObject (fresh m) node.First (goal.Elements (fresh m) u ∷ []) gs (counted (says c node.Rest (fresh m) m)) t)
-          (KeepsStep (goal.Elements c u ∷ gs) w m t)
-          (keeps_element t (fresh m) node.First (goal.Elements (fresh m) u ∷ []) gs (counted (says c node.Rest (fresh m) m)))
-          (λ x f ts m' h. let k = f ts m' h in (more k.0 k.3.0, k.3.1, ap (object_symbols k.0) k.3.2 ∙ k.2, k.3.3))
+      (KeepsObject (fresh m) node.First (goal.Elements (fresh m) u ∷ []) gs (counted (says c node.Rest (fresh m) m)) t)
+      (KeepsStep (goal.Elements c u ∷ gs) w m t)
+      (keeps_element t (fresh m) node.First (goal.Elements (fresh m) u ∷ []) gs (counted (says c node.Rest (fresh m) m)))
+      (λ x f ts m' h. let k = f ts m' h in (more k.0 k.3.0, k.3.1, ap (object_symbols k.0) k.3.2 ∙ k.2, k.3.3))
 
   pub keeps_object_collection : (t : Symbol) (s p : Node) (gs : List Goal) (m : Point)
       → Takes (goal.Collection (collection_use.Object s p) ∷ gs) m t
   keeps_object_collection (Token kind.CloseRound) s p gs m = λ ts m' h. (none, ts, refl, h)
   keeps_object_collection t s p gs m =
       weaken (take_symbol (goal.Collection (collection_use.Object s p) ∷ gs) w m t)
-          (KeepsObject (fresh m) node.First (goal.Elements (fresh m) (cell_use.Object s p (fresh m)) ∷ []) gs (counted m) t)
-          (KeepsStep (goal.Collection (collection_use.Object s p) ∷ gs) w m t)
-          (keeps_element t (fresh m) node.First (goal.Elements (fresh m) (cell_use.Object s p (fresh m)) ∷ []) gs (counted m))
-          (λ x f ts m' h. let k = f ts m' h in (more k.0 k.3.0, k.3.1, ap (object_symbols k.0) k.3.2 ∙ k.2, k.3.3))
+      (KeepsObject (fresh m) node.First (goal.Elements (fresh m) (cell_use.Object s p (fresh m)) ∷ []) gs (counted m) t)
+      (KeepsStep (goal.Collection (collection_use.Object s p) ∷ gs) w m t)
+      (keeps_element t (fresh m) node.First (goal.Elements (fresh m) (cell_use.Object s p (fresh m)) ∷ []) gs (counted m))
+      (λ x f ts m' h. let k = f ts m' h in (more k.0 k.3.0, k.3.1, ap (object_symbols k.0) k.3.2 ∙ k.2, k.3.3))
 
   pub keeps_subject_collection : (t : Symbol) (c : Closer) (gs : List Goal) (m : Point)
       → Takes (goal.Collection (collection_use.Subject c) ∷ gs) m t
@@ -241,19 +247,22 @@ module _ (w : Rest) where
       ((none, h.0.0, h.0.1), h.1, ap (λ z. Token kind.CloseRound ∷ z) h.2, h.3)
   keeps_subject_collection t c gs m =
       weaken (take_symbol (goal.Collection (collection_use.Subject c) ∷ gs) w m t)
-          (KeepsObject (fresh m) node.First (goal.Elements (fresh m) cell_use.Subject ∷ goal.Predicates (fresh m) c ∷ []) gs (counted m) t)
-          (KeepsStep (goal.Collection (collection_use.Subject c) ∷ gs) w m t)
-          (keeps_element t (fresh m) node.First (goal.Elements (fresh m) cell_use.Subject ∷ goal.Predicates (fresh m) c ∷ []) gs (counted m))
-          (λ x f ts m' h. let k = f ts m' h in
-          ((more k.0 k.3.0, k.3.3.0.0, k.3.3.0.1), k.3.3.1,
-          ap (λ z. object_symbols k.0 (element_symbols k.3.0 (Token kind.CloseRound ∷ z))) k.3.3.2 ∙ ap (object_symbols k.0) k.3.2 ∙ k.2, k.3.3.3))
+      (KeepsObject (fresh m) node.First (goal.Elements (fresh m) cell_use.Subject ∷ goal.Predicates (fresh m) c ∷ []) gs (counted m) t)
+      (KeepsStep (goal.Collection (collection_use.Subject c) ∷ gs) w m t)
+      (keeps_element t (fresh m) node.First (goal.Elements (fresh m) cell_use.Subject ∷ goal.Predicates (fresh m) c ∷ []) gs (counted m))
+      (λ x f ts m' h. let k = f ts m' h in (
+        (more k.0 k.3.0, k.3.3.0.0, k.3.3.0.1),
+        k.3.3.1,
+        ap (λ z. object_symbols k.0 (element_symbols k.3.0 (Token kind.CloseRound ∷ z))) k.3.3.2 ∙ ap (object_symbols k.0) k.3.2 ∙ k.2,
+        k.3.3.3,
+      ))
 
   -- Triples begin.
   abbrev pub KeepsTriples : Closer → List Goal → Point → Symbol → Stage → Type 0
   KeepsTriples c gs m t x =
       (ts : List Symbol) (m' : Point) → Reads x.goals x.rest x.point ts m'
       → (a : Triples) × (k : Closing c) × (r : List Symbol) × (triples_symbols a (close_symbols c k r) ≡ t ∷ ts)
-          × Reads gs w (close_end c k (triples_end a m)) r m'
+      × Reads gs w (close_end c k (triples_end a m)) r m'
 
   pub keeps_triples : (t : Symbol) (c : Closer) (gs : List Goal) (m : Point)
       → On (staged w (before gs (subject_of c m t))) (KeepsTriples c gs m t)
@@ -271,13 +280,23 @@ module _ (w : Rest) where
       (about subject_anon h.0.0, h.0.1, h.1, ap (λ z. Token kind.Anon ∷ z) h.2, h.3)
   keeps_triples (Token kind.OpenSquare) c gs m = λ ts m' h.
       elim h.3.0.0 as (λ v. maybe_symbols v (close_symbols c h.3.0.1 h.3.1) ≡ h.1
-          → Reads gs w (close_end c h.3.0.1 (maybe_end v (fresh m) (passed (list_end h.0.0 (fresh m) (passed (counted m)))))) h.3.1 m'
-          → (a : Triples) × (k : Closing c) × (r : List Symbol) × (triples_symbols a (close_symbols c k r) ≡ Token kind.OpenSquare ∷ ts)
-              × Reads gs w (close_end c k (triples_end a m)) r m') [
-        | None ↦ λ e k. (lone_list h.0.0, h.3.0.1, h.3.1,
-            ap (λ z. Token kind.OpenSquare ∷ list_symbols h.0.0 (Token kind.CloseSquare ∷ z)) e ∙ ap (λ z. Token kind.OpenSquare ∷ z) h.2, k)
-        | Some q ↦ λ e k. (about_list h.0.0 q, h.3.0.1, h.3.1,
-            ap (λ z. Token kind.OpenSquare ∷ list_symbols h.0.0 (Token kind.CloseSquare ∷ z)) e ∙ ap (λ z. Token kind.OpenSquare ∷ z) h.2, k)
+      → Reads gs w (close_end c h.3.0.1 (maybe_end v (fresh m) (passed (list_end h.0.0 (fresh m) (passed (counted m)))))) h.3.1 m'
+      → (a : Triples) × (k : Closing c) × (r : List Symbol) × (triples_symbols a (close_symbols c k r) ≡ Token kind.OpenSquare ∷ ts)
+      × Reads gs w (close_end c k (triples_end a m)) r m') [
+        | None ↦ λ e k. (
+          lone_list h.0.0,
+          h.3.0.1,
+          h.3.1,
+          ap (λ z. Token kind.OpenSquare ∷ list_symbols h.0.0 (Token kind.CloseSquare ∷ z)) e ∙ ap (λ z. Token kind.OpenSquare ∷ z) h.2,
+          k,
+        )
+        | Some q ↦ λ e k. (
+          about_list h.0.0 q,
+          h.3.0.1,
+          h.3.1,
+          ap (λ z. Token kind.OpenSquare ∷ list_symbols h.0.0 (Token kind.CloseSquare ∷ z)) e ∙ ap (λ z. Token kind.OpenSquare ∷ z) h.2,
+          k,
+        )
       ] h.3.2 h.3.3
   keeps_triples (Token kind.OpenRound) c gs m = λ ts m' h.
       (about (subject_collection h.0.0) h.0.1, h.0.2, h.1, ap (λ z. Token kind.OpenRound ∷ z) h.2, h.3)
@@ -287,8 +306,8 @@ module _ (w : Rest) where
   keeps_formula (Token kind.CloseBrace) u gs m = λ ts m' h. (void, ts, refl, h)
   keeps_formula t u gs m =
       weaken (take_symbol (goal.Formula u ∷ gs) w m t) (KeepsTriples (closer.Formula u) gs m t) (KeepsStep (goal.Formula u ∷ gs) w m t)
-          (keeps_triples t (closer.Formula u) gs m)
-          (λ x f ts m' h. let k = f ts m' h in (triples k.0 k.1, k.2, k.3, k.4))
+      (keeps_triples t (closer.Formula u) gs m)
+      (λ x f ts m' h. let k = f ts m' h in (triples k.0 k.1, k.2, k.3, k.4))
 
   pub keeps_suffix : (t : Symbol) (s p : Node) (x : ℕ) (gs : List Goal) (m : Point) → Takes (goal.Suffix s p x ∷ gs) m t
   keeps_suffix (Token kind.LangTag) s p x gs m = λ ts m' h. (tag, ts, refl, h)
@@ -361,10 +380,16 @@ operation_and_more o None ts r m m' e f h = (last_operation o, ap (operation_sym
 operation_and_more o (Some u) ts r m m' e f h = (operation_and o u, ap (operation_symbols o) f ∙ e, h)
 
 pub keeps_update : (t : Symbol) (m : Point) → Keeps [] rest_of.Update m t (take_symbol [] rest_of.Update m t)
-keeps_update (Token kind.Prefix) m = λ ts m' h. (update_prefix h.3.0,
-    ap (λ z. Token kind.Prefix ∷ Token kind.PnameNs ∷ Token kind.IriRef ∷ z) h.3.1 ∙ ap (λ z. Token kind.Prefix ∷ z) h.2, h.3.2)
-keeps_update (Token kind.Base) m = λ ts m' h. (update_base h.3.0,
-    ap (λ z. Token kind.Base ∷ Token kind.IriRef ∷ z) h.3.1 ∙ ap (λ z. Token kind.Base ∷ z) h.2, h.3.2)
+keeps_update (Token kind.Prefix) m = λ ts m' h. (
+  update_prefix h.3.0,
+  ap (λ z. Token kind.Prefix ∷ Token kind.PnameNs ∷ Token kind.IriRef ∷ z) h.3.1 ∙ ap (λ z. Token kind.Prefix ∷ z) h.2,
+  h.3.2,
+)
+keeps_update (Token kind.Base) m = λ ts m' h. (
+  update_base h.3.0,
+  ap (λ z. Token kind.Base ∷ Token kind.IriRef ∷ z) h.3.1 ∙ ap (λ z. Token kind.Base ∷ z) h.2,
+  h.3.2,
+)
 keeps_update Insert m = λ ts m' h.
     operation_and_more (insert_data h.0) h.3.0 (Insert ∷ ts) h.1 m m' (ap (λ z. Insert ∷ z) h.2) h.3.1 h.3.2
 keeps_update Delete m = λ ts m' h.
@@ -377,18 +402,30 @@ keeps_after_operation (Token kind.Semicolon) m = λ ts m' h. (Some h.0, ap (λ z
 keeps_after_operation _ m = tt
 
 pub keeps_statement : (t : Symbol) (m : Point) → Keeps [] rest_of.Statements m t (take_symbol [] rest_of.Statements m t)
-keeps_statement (Token kind.AtPrefix) m = λ ts m' h. (at_prefix ∷ h.3.0,
-    ap (λ z. Token kind.AtPrefix ∷ Token kind.PnameNs ∷ Token kind.IriRef ∷ Token kind.Dot ∷ z) h.3.1 ∙ ap (λ z. Token kind.AtPrefix ∷ z) h.2, h.3.2)
-keeps_statement (Token kind.AtBase) m = λ ts m' h. (at_base ∷ h.3.0,
-    ap (λ z. Token kind.AtBase ∷ Token kind.IriRef ∷ Token kind.Dot ∷ z) h.3.1 ∙ ap (λ z. Token kind.AtBase ∷ z) h.2, h.3.2)
-keeps_statement (Token kind.Prefix) m = λ ts m' h. (sparql_prefix ∷ h.3.0,
-    ap (λ z. Token kind.Prefix ∷ Token kind.PnameNs ∷ Token kind.IriRef ∷ z) h.3.1 ∙ ap (λ z. Token kind.Prefix ∷ z) h.2, h.3.2)
-keeps_statement (Token kind.Base) m = λ ts m' h. (sparql_base ∷ h.3.0,
-    ap (λ z. Token kind.Base ∷ Token kind.IriRef ∷ z) h.3.1 ∙ ap (λ z. Token kind.Base ∷ z) h.2, h.3.2)
+keeps_statement (Token kind.AtPrefix) m = λ ts m' h. (
+  at_prefix ∷ h.3.0,
+  ap (λ z. Token kind.AtPrefix ∷ Token kind.PnameNs ∷ Token kind.IriRef ∷ Token kind.Dot ∷ z) h.3.1 ∙ ap (λ z. Token kind.AtPrefix ∷ z) h.2,
+  h.3.2,
+)
+keeps_statement (Token kind.AtBase) m = λ ts m' h. (
+  at_base ∷ h.3.0,
+  ap (λ z. Token kind.AtBase ∷ Token kind.IriRef ∷ Token kind.Dot ∷ z) h.3.1 ∙ ap (λ z. Token kind.AtBase ∷ z) h.2,
+  h.3.2,
+)
+keeps_statement (Token kind.Prefix) m = λ ts m' h. (
+  sparql_prefix ∷ h.3.0,
+  ap (λ z. Token kind.Prefix ∷ Token kind.PnameNs ∷ Token kind.IriRef ∷ z) h.3.1 ∙ ap (λ z. Token kind.Prefix ∷ z) h.2,
+  h.3.2,
+)
+keeps_statement (Token kind.Base) m = λ ts m' h. (
+  sparql_base ∷ h.3.0,
+  ap (λ z. Token kind.Base ∷ Token kind.IriRef ∷ z) h.3.1 ∙ ap (λ z. Token kind.Base ∷ z) h.2,
+  h.3.2,
+)
 keeps_statement t m =
     weaken (take_symbol [] rest_of.Statements m t) (KeepsTriples rest_of.Statements closer.Statement [] m t) (KeepsStep [] rest_of.Statements m t)
-        (keeps_triples rest_of.Statements t closer.Statement [] m) (λ x f ts m' h. let k = f ts m' h in
-        (statement k.0 ∷ k.4.0, ap (λ z. triples_symbols k.0 (Token kind.Dot ∷ z)) k.4.1 ∙ k.3, k.4.2))
+    (keeps_triples rest_of.Statements t closer.Statement [] m) (λ x f ts m' h. let k = f ts m' h in
+    (statement k.0 ∷ k.4.0, ap (λ z. triples_symbols k.0 (Token kind.Dot ∷ z)) k.4.1 ∙ k.3, k.4.2))
 
 pub keeps_take : (gs : List Goal) (w : Rest) (m : Point) (t : Symbol) → Keeps gs w m t (take_symbol gs w m t)
 keeps_take [] rest_of.Statements m t = keeps_statement t m
@@ -401,7 +438,7 @@ string_ends : (t : Symbol) (s p : Node) (x : ℕ) (gs : List Goal) (w : Rest) (m
     → Keeps gs w (triple_at x s p (node.Token x) m) t o → Keeps (goal.Suffix s p x ∷ gs) w m t o
 string_ends t s p x gs w m o k =
     weaken o (KeepsStep gs w (triple_at x s p (node.Token x) m) t) (KeepsStep (goal.Suffix s p x ∷ gs) w m t) k
-        (λ y f ts m' h. (plain, t ∷ ts, refl, f ts m' h))
+    (λ y f ts m' h. (plain, t ∷ ts, refl, f ts m' h))
 
 keeps_string : (t : Symbol) (s p : Node) (x : ℕ) (gs : List Goal) (w : Rest) (m : Point)
     → Keeps (goal.Suffix s p x ∷ gs) w m t (step (goal.Suffix s p x ∷ gs) w m t)

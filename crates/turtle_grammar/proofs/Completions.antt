@@ -215,7 +215,7 @@ Reads (g ∷ gs) w m ts m' =
 -- the trees of a start symbol are what comes after no goal
 pub tree_of_rest : (start : Start) (d : RestTree (first_rest start)) (m : Point)
     → (tree : Tree start) × (tree_symbols start tree ≡ rest_symbols (first_rest start) d)
-        × (tree_end start tree ≡ rest_end (first_rest start) d start_point)
+    × (tree_end start tree ≡ rest_end (first_rest start) d start_point)
 tree_of_rest start_of.Document d m = (d, refl, refl)
 tree_of_rest start_of.Patch d m = (d, refl, refl)
 tree_of_rest start_of.Update d m = (d, refl, refl)

@@ -166,10 +166,10 @@ collection_adds (collection_use.Subject c) (Token kind.CloseRound) m = (quiet m 
 collection_adds (collection_use.Object s p) (Token kind.CloseRound) m = said s p node.Nil m
 collection_adds (collection_use.Subject c) t m =
     before_adds m (goal.Elements (fresh m) cell_use.Subject ∷ goal.Predicates (fresh m) c ∷ []) (one (fresh m) node.First (counted m) t)
-        (on_counted m (one (fresh m) node.First (counted m) t) (one_adds t (fresh m) node.First (counted m))) tt
+    (on_counted m (one (fresh m) node.First (counted m) t) (one_adds t (fresh m) node.First (counted m))) tt
 collection_adds (collection_use.Object s p) t m =
     before_adds m (goal.Elements (fresh m) (cell_use.Object s p (fresh m)) ∷ []) (one (fresh m) node.First (counted m) t)
-        (on_counted m (one (fresh m) node.First (counted m) t) (one_adds t (fresh m) node.First (counted m))) tt
+    (on_counted m (one (fresh m) node.First (counted m) t) (one_adds t (fresh m) node.First (counted m))) tt
 
 pub collected_adds : (u : CellUse) (c : Node) (m : Point) → Adds m (collected u (says c node.Rest node.Nil m))
 collected_adds cell_use.Subject c m = loud m _ _ refl refl refl
@@ -180,9 +180,9 @@ elements_adds : (t : Symbol) (c : Node) (u : CellUse) (m : Point) → OnStep (el
 elements_adds (Token kind.CloseRound) c u m = (collected_adds u c m, tt)
 elements_adds t c u m =
     before_adds m (goal.Elements (fresh m) u ∷ []) (one (fresh m) node.First (counted (says c node.Rest (fresh m) m)) t)
-        (on_cell m (Triple (record { subject = c; predicate = node.Rest; object = fresh m; within = m.within; end = m.at }))
-            (one (fresh m) node.First (counted (says c node.Rest (fresh m) m)) t) refl
-            (one_adds t (fresh m) node.First (counted (says c node.Rest (fresh m) m)))) tt
+    (on_cell m (Triple (record { subject = c; predicate = node.Rest; object = fresh m; within = m.within; end = m.at }))
+    (one (fresh m) node.First (counted (says c node.Rest (fresh m) m)) t) refl
+    (one_adds t (fresh m) node.First (counted (says c node.Rest (fresh m) m)))) tt
 
 subject_adds : (t : Symbol) (c : Closer) (m : Point) → OnStep (subject_of c m t) (AddsStep m)
 subject_adds (Token kind.IriRef) c m = (quiet m _ refl refl, tt)

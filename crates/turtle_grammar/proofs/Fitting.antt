@@ -97,16 +97,16 @@ collection_fine (collection_use.Subject c) (Token kind.CloseRound) m = refl
 collection_fine (collection_use.Object s p) (Token kind.CloseRound) m = refl
 collection_fine (collection_use.Subject c) t m =
     before_fine (goal.Elements (fresh m) cell_use.Subject ∷ goal.Predicates (fresh m) c ∷ []) (one (fresh m) node.First (counted m) t)
-        (one_fine t (fresh m) node.First (counted m)) refl
+    (one_fine t (fresh m) node.First (counted m)) refl
 collection_fine (collection_use.Object s p) t m =
     before_fine (goal.Elements (fresh m) (cell_use.Object s p (fresh m)) ∷ []) (one (fresh m) node.First (counted m) t)
-        (one_fine t (fresh m) node.First (counted m)) refl
+    (one_fine t (fresh m) node.First (counted m)) refl
 
 elements_fine : (t : Symbol) (c : Node) (u : CellUse) (m : Point) → is_fine (elements c u m t) ≡ true
 elements_fine (Token kind.CloseRound) c u m = refl
 elements_fine t c u m =
     before_fine (goal.Elements (fresh m) u ∷ []) (one (fresh m) node.First (counted (says c node.Rest (fresh m) m)) t)
-        (one_fine t (fresh m) node.First (counted (says c node.Rest (fresh m) m))) refl
+    (one_fine t (fresh m) node.First (counted (says c node.Rest (fresh m) m))) refl
 
 subject_fine : (t : Symbol) (c : Closer) (m : Point) → is_fine (subject_of c m t) ≡ true
 subject_fine (Token kind.IriRef) c m = refl
@@ -272,4 +272,4 @@ pub reach_fits : (start : Start) (ts : List Symbol) (gs : List Goal) (w : Rest) 
 reach_fits start [] gs w m n r h ok = (r, h)
 reach_fits start (t ∷ ts) gs w m n r h ok =
     more_fits start ts (braces_after n t) (step gs w m t) (step_fits start gs w m t n r h ok.0)
-        (λ x f. reach_fits start ts x.goals x.rest x.point (braces_after n t) f.0 f.1 ok.1)
+    (λ x f. reach_fits start ts x.goals x.rest x.point (braces_after n t) f.0 f.1 ok.1)

@@ -123,7 +123,7 @@ module _ (w : Rest) where
   abbrev pub Verbs : Goal → Node → Closer → Type 0
   Verbs g s c = (v : Verb) (gs : List Goal) (m : Point) (r : List Symbol)
       → reach (g ∷ gs) w m (verb_symbol v ∷ r)
-          ≡ reach (goal.One s (node.Token m.at) ∷ goal.After s (node.Token m.at) c ∷ gs) w (passed m) r
+      ≡ reach (goal.One s (node.Token m.at) ∷ goal.After s (node.Token m.at) c ∷ gs) w (passed m) r
 
   pub predicates_verb : (s : Node) (c : Closer) → Verbs (goal.Predicates s c) s c
   predicates_verb s c (predicate iri_ref) gs m r = refl
@@ -163,27 +163,27 @@ module _ (w : Rest) where
 
   pub ends_object : (a s p o : Node) (gs : List Goal) (r : List Symbol)
       → Ends a (closer.Object s p o) gs (Token kind.CloseSquare ∷ r)
-          (λ m. reach gs w (passed (says s p o m)) r)
+      (λ m. reach gs w (passed (says s p o m)) r)
   ends_object a s p o gs r = ((λ q m. refl), (λ m. refl), (λ m. refl))
 
   -- The first symbol of an element.
   pub first_object : (ts : List Symbol) (s p : Node) (gs : List Goal) (m : Point) → Starts ts
       → reach (goal.Collection (collection_use.Object s p) ∷ gs) w m ts
-          ≡ reach (goal.One (fresh m) node.First ∷ goal.Elements (fresh m) (cell_use.Object s p (fresh m)) ∷ gs) w (counted m) ts
+      ≡ reach (goal.One (fresh m) node.First ∷ goal.Elements (fresh m) (cell_use.Object s p (fresh m)) ∷ gs) w (counted m) ts
   first_object [] s p gs m h = absurd h
   first_object (Token kind.CloseRound ∷ r) s p gs m h = absurd h
   first_object (_ ∷ r) s p gs m h = refl
 
   pub first_of_subject : (ts : List Symbol) (c : Closer) (gs : List Goal) (m : Point) → Starts ts
       → reach (goal.Collection (collection_use.Subject c) ∷ gs) w m ts
-          ≡ reach (goal.One (fresh m) node.First ∷ goal.Elements (fresh m) cell_use.Subject ∷ goal.Predicates (fresh m) c ∷ gs) w (counted m) ts
+      ≡ reach (goal.One (fresh m) node.First ∷ goal.Elements (fresh m) cell_use.Subject ∷ goal.Predicates (fresh m) c ∷ gs) w (counted m) ts
   first_of_subject [] c gs m h = absurd h
   first_of_subject (Token kind.CloseRound ∷ r) c gs m h = absurd h
   first_of_subject (_ ∷ r) c gs m h = refl
 
   pub next_element : (ts : List Symbol) (c : Node) (u : CellUse) (gs : List Goal) (m : Point) → Starts ts
       → reach (goal.Elements c u ∷ gs) w m ts
-          ≡ reach (goal.One (fresh m) node.First ∷ goal.Elements (fresh m) u ∷ gs) w (counted (says c node.Rest (fresh m) m)) ts
+      ≡ reach (goal.One (fresh m) node.First ∷ goal.Elements (fresh m) u ∷ gs) w (counted (says c node.Rest (fresh m) m)) ts
   next_element [] c u gs m h = absurd h
   next_element (Token kind.CloseRound ∷ r) c u gs m h = absurd h
   next_element (_ ∷ r) c u gs m h = refl
@@ -254,8 +254,8 @@ module _ (w : Rest) where
         ∙ run_elements os (fresh (passed m)) (cell_use.Object s p (fresh (passed m))) gs _ r
     run_object (property_list q) s p gs m r h calm =
         run_list q (goal.Predicates (fresh m) (closer.Object s p (fresh m))) (fresh m) (closer.Object s p (fresh m)) gs (passed (counted m)) (Token kind.CloseSquare ∷ r)
-            (λ n. reach gs w (passed (says s p (fresh m) n)) r) (ends_object (fresh m) s p (fresh m) gs r) tt
-            (predicates_verb (fresh m) (closer.Object s p (fresh m)))
+        (λ n. reach gs w (passed (says s p (fresh m) n)) r) (ends_object (fresh m) s p (fresh m) gs r) tt
+        (predicates_verb (fresh m) (closer.Object s p (fresh m)))
     run_object (literal l) s p gs m r h calm = run_literal l s p gs m r h calm
     run_object variable s p gs m r h calm = refl
     run_object (formula f) s p gs m r h calm =
@@ -263,7 +263,7 @@ module _ (w : Rest) where
 
     pub run_elements : (os : Objects) (c : Node) (u : CellUse) (gs : List Goal) (m : Point) (r : List Symbol)
         → reach (goal.Elements c u ∷ gs) w m (element_symbols os (Token kind.CloseRound ∷ r))
-            ≡ reach gs w (collected u (element_end os c m)) r
+        ≡ reach gs w (collected u (element_end os c m)) r
     run_elements none c u gs m r = refl
     run_elements (more o os) c u gs m r =
         next_element (object_symbols o (element_symbols os (Token kind.CloseRound ∷ r))) c u gs m (starts_object o _)
@@ -322,21 +322,21 @@ module _ (w : Rest) where
         ∙ run_list q (goal.Predicates (subject_node s m) c) (subject_node s m) c gs _ r y (e (subject_node s m)) f (predicates_verb (subject_node s m) c)
     run_triples (lone_list q) c gs m r y e f =
         run_list q (goal.Predicates (fresh m) closer.Subject) (fresh m) closer.Subject (goal.Maybe (fresh m) c ∷ gs) (passed (counted m)) (Token kind.CloseSquare ∷ r)
-            (λ n. reach (goal.Maybe (fresh m) c ∷ gs) w (passed n) r) (ends_subject (fresh m) _ r) tt (predicates_verb (fresh m) closer.Subject)
+        (λ n. reach (goal.Maybe (fresh m) c ∷ gs) w (passed n) r) (ends_subject (fresh m) _ r) tt (predicates_verb (fresh m) closer.Subject)
         ∙ (e (fresh m)).2 _
     run_triples (about_list q p) c gs m r y e f =
         run_list q (goal.Predicates (fresh m) closer.Subject) (fresh m) closer.Subject (goal.Maybe (fresh m) c ∷ gs) (passed (counted m)) (Token kind.CloseSquare ∷ list_symbols p r)
-            (λ n. reach (goal.Maybe (fresh m) c ∷ gs) w (passed n) (list_symbols p r)) (ends_subject (fresh m) _ (list_symbols p r)) tt (predicates_verb (fresh m) closer.Subject)
+        (λ n. reach (goal.Maybe (fresh m) c ∷ gs) w (passed n) (list_symbols p r)) (ends_subject (fresh m) _ (list_symbols p r)) tt (predicates_verb (fresh m) closer.Subject)
         ∙ run_list p (goal.Maybe (fresh m) c) (fresh m) c gs _ r y (e (fresh m)) f (maybe_verb (fresh m) c)
 
     pub run_formula : (f : Formula) (u : FormulaUse) (gs : List Goal) (m : Point) (r : List Symbol)
         → reach (goal.Formula u ∷ gs) w m (formula_symbols f (Token kind.CloseBrace ∷ r))
-            ≡ reach gs w (formula_closed u (formula_end f m)) r
+        ≡ reach gs w (formula_closed u (formula_end f m)) r
     run_formula void u gs m r = refl
     run_formula (triples x t) u gs m r =
         formula_triples x u gs m (tail_symbols t (Token kind.CloseBrace ∷ r))
         ∙ run_triples x (closer.Formula u) gs m (tail_symbols t (Token kind.CloseBrace ∷ r))
-            (λ n. reach gs w (formula_closed u (tail_end t n)) r) (run_tail t u gs r) (free_tail t r)
+        (λ n. reach gs w (formula_closed u (tail_end t n)) r) (run_tail t u gs r) (free_tail t r)
 
     pub run_tail : (t : Tail) (u : FormulaUse) (gs : List Goal) (r : List Symbol) (s : Node)
         → Ends s (closer.Formula u) gs (tail_symbols t (Token kind.CloseBrace ∷ r)) (λ n. reach gs w (formula_closed u (tail_end t n)) r)
@@ -365,7 +365,7 @@ run_statement sparql_base m r = refl
 run_statement (statement x) m r =
     statement_triples x m (Token kind.Dot ∷ r)
     ∙ run_triples rest_of.Statements x closer.Statement [] m (Token kind.Dot ∷ r)
-        (λ n. reach [] rest_of.Statements (passed n) r) (λ s. ends_statement rest_of.Statements s [] r) tt
+    (λ n. reach [] rest_of.Statements (passed n) r) (λ s. ends_statement rest_of.Statements s [] r) tt
 
 pub run_document : (d : List Statement) (m : Point)
     → reach [] rest_of.Statements m (document_symbols d []) ≡ stage_to [] rest_of.Statements (document_end d m)

@@ -11,3 +11,5 @@ pub mod Answering
 pub mod Ends
 pub mod Waiting
 pub mod OneProduced
+pub mod Naming
+pub mod NamingSteps

@@ -78,9 +78,12 @@ stage_from b m (Some x) le h =
 string_said : (b : ℕ) (s p : Node) (x : ℕ) (m : Point) (o : Option Stage) → b ≤ x
     → On o (StepsFrom b (triple_at x s p (node.Token x) m)) → On o (StepsFrom b m)
 string_said b s p x m None le h = tt
-string_said b s p x m (Some y) le h =
-    (from_then b m (triple_at x s p (node.Token x) m) y.point
-        (record { later = _; produced = refl; ends = All-cons (λ z. b ≤ end_of z) _ [] le (All-nil _) }) h.0, h.1, h.2)
+string_said b s p x m (Some y) le h = (
+  from_then b m (triple_at x s p (node.Token x) m) y.point
+      (record { later = _; produced = refl; ends = All-cons (λ z. b ≤ end_of z) _ [] le (All-nil _) }) h.0,
+  h.1,
+  h.2,
+)
 
 string_from : (t : Symbol) (s p : Node) (x : ℕ) (gs : List Goal) (w : Rest) (m : Point) (n b : ℕ) → all_inner gs ≡ true
     → b < m.at → x + 1 ≡ m.at → On (step (goal.Suffix s p x ∷ gs) w m t) (StepsFrom b m)
@@ -90,8 +93,8 @@ string_from (Token kind.Carets) s p x gs w m n b i lt e =
     stage_from b m (take_symbol (goal.Suffix s p x ∷ gs) w m (Token kind.Carets)) (omega arith) (take_adds (goal.Suffix s p x ∷ gs) w m (Token kind.Carets) n i)
 string_from t s p x gs w m n b i lt e =
     string_said b s p x m (take_symbol gs w (triple_at x s p (node.Token x) m) t) (omega arith)
-        (stage_from b (triple_at x s p (node.Token x) m) (take_symbol gs w (triple_at x s p (node.Token x) m) t) (omega arith)
-            (take_adds gs w (triple_at x s p (node.Token x) m) t n (inner_fit gs w n i)))
+    (stage_from b (triple_at x s p (node.Token x) m) (take_symbol gs w (triple_at x s p (node.Token x) m) t) (omega arith)
+    (take_adds gs w (triple_at x s p (node.Token x) m) t n (inner_fit gs w n i)))
 
 step_from : (gs : List Goal) (w : Rest) (m : Point) (t : Symbol) (n b : ℕ) → GoalsFit w n gs → b < m.at → WaitsBefore m.at gs
     → On (step gs w m t) (StepsFrom b m)
@@ -117,7 +120,7 @@ reach_from : (start : Start) (ts : List Symbol) (gs : List Goal) (w : Rest) (m :
 reach_from start [] gs w m n b r g ok lt f = none_from b m
 reach_from start (t ∷ ts) gs w m n b r g ok lt f =
     more_from start ts (braces_after n t) b m (step gs w m t) (step_from gs w m t n b g lt f) (step_fits start gs w m t n r g ok.0)
-        (λ x fit more. reach_from start ts x.goals x.rest x.point (braces_after n t) b fit.0 fit.1 ok.1 more.0 more.1)
+    (λ x fit more. reach_from start ts x.goals x.rest x.point (braces_after n t) b fit.0 fit.1 ok.1 more.0 more.1)
 
 -- the first symbol adds nothing to a String
 adds_nothing : (t : Symbol) (ts : List Symbol) → EndsString (t ∷ ts) → adds_to_string t ≡ false
@@ -148,11 +151,11 @@ settled_from start (t ∷ ts) gs w m n r g ok ends_so u z e =
     let first : step gs w m t ≡ take_symbol y.goals y.rest y.point t = ends gs w m t (adds_nothing t ts ends_so) in
     let fit = settled_fit gs w m n g in
     let all = more_from start ts (braces_after n t) m.at y.point (take_symbol y.goals y.rest y.point t)
-        (stage_from m.at y.point (take_symbol y.goals y.rest y.point t) (omega arith) (take_adds y.goals y.rest y.point t n fit))
-        (take_fits start y.goals y.rest y.point t n (settled_rest gs w m start r) fit ok.0)
-        (λ x fits more. reach_from start ts x.goals x.rest x.point (braces_after n t) m.at fits.0 fits.1 ok.1 more.0 more.1) in
+    (stage_from m.at y.point (take_symbol y.goals y.rest y.point t) (omega arith) (take_adds y.goals y.rest y.point t n fit))
+    (take_fits start y.goals y.rest y.point t n (settled_rest gs w m start r) fit ok.0)
+    (λ x fits more. reach_from start ts x.goals x.rest x.point (braces_after n t) m.at fits.0 fits.1 ok.1 more.0 more.1) in
     let gone : then (take_symbol y.goals y.rest y.point t) (λ x. reach x.goals x.rest x.point ts) ≡ stage_to [] u z =
-        ap (λ o. then o (λ x. reach x.goals x.rest x.point ts)) (sym first) ∙ e in
+    ap (λ o. then o (λ x. reach x.goals x.rest x.point ts)) (sym first) ∙ e in
     let got : On (stage_to [] u z) (ReachesFrom m.at y.point) = subst (λ o. On o (ReachesFrom m.at y.point)) gone all in
     got
 
@@ -191,14 +194,14 @@ module _ (start : Start) (ts : List Symbol) where
       let now = run_settled start ts x e ok in
       let d = derives_only start (ts ++ h.rest) (ps ++ h.later) h.derives in
       let gone : reach x.goals x.rest x.point h.rest ≡ stage_to [] d.0 d.1 =
-          sym (reach-append ts h.rest [] (first_rest start) start_point ∙ ap (λ o. then o (λ y. reach y.goals y.rest y.point h.rest)) e) ∙ d.2 in
+      sym (reach-append ts h.rest [] (first_rest start) start_point ∙ ap (λ o. then o (λ y. reach y.goals y.rest y.point h.rest)) e) ∙ d.2 in
       let added = settled_from start h.rest x.goals x.rest x.point (braces_from 0 ts) now.0.0 now.0.1
-          (allowed_rest start ts h.rest 0 h.derives.allowed) h.ends_string d.0 d.1 gone in
+      (allowed_rest start ts h.rest 0 h.derives.allowed) h.ends_string d.0 d.1 gone in
       let size : x.point.at ≡ length ts = now.1.at_is in
       one_cut (length ts) ps h.later (ended_goals x.goals x.rest x.point).point.produced added.later
-          (sym d.3 ∙ added.produced) h.so_far h.after
-          (subst (λ i. AllBefore i (ended_goals x.goals x.rest x.point).point.produced) size (settled_before x.goals x.rest x.point now.1.all_before now.1.waits))
-          (subst (λ i. All (λ x. i ≤ end_of x) added.later) size added.ends)
+      (sym d.3 ∙ added.produced) h.so_far h.after
+      (subst (λ i. AllBefore i (ended_goals x.goals x.rest x.point).point.produced) size (settled_before x.goals x.rest x.point now.1.all_before now.1.waits))
+      (subst (λ i. All (λ x. i ≤ end_of x) added.later) size added.ends)
 
   one_by : (a z : List Production) → Produces start ts a → Produces start ts z → (o : Option Stage) → run start ts ≡ o → a ≡ z
   one_by a z h k None e = absurd (stuck start ts e (record { rest = h.rest; productions = a ++ h.later; derives = h.derives }))

@@ -47,7 +47,7 @@ module _ (b : List Production) where
   pub produces_shift : (x : Production) (m : Point) → produces x (shift b m) ≡ shift b (produces x m)
   produces_shift x m =
       ap (λ (z : List Production). let p : Point = record { at = m.at; unnamed = m.unnamed; within = m.within; produced = z } in p)
-          (append_assoc b m.produced (x ∷ []))
+      (append_assoc b m.produced (x ∷ []))
 
   pub says_shift : (s p o : Node) (m : Point) → says s p o (shift b m) ≡ shift b (says s p o m)
   says_shift s p o m =
@@ -141,8 +141,8 @@ module _ (b : List Production) where
       to_end (collected_shift u (says c node.Rest node.Nil m) _ (says_shift c node.Rest node.Nil m))
   elements_shift t c u m =
       before_shift (goal.Elements (fresh m) u ∷ []) (one (fresh m) node.First (counted (says c node.Rest (fresh m) m)) t) _
-          (ap (λ (z : Point). one (fresh m) node.First (counted z) t) (says_shift c node.Rest (fresh m) m)
-          ∙ one_shift t (fresh m) node.First (counted (says c node.Rest (fresh m) m)))
+      (ap (λ (z : Point). one (fresh m) node.First (counted z) t) (says_shift c node.Rest (fresh m) m)
+      ∙ one_shift t (fresh m) node.First (counted (says c node.Rest (fresh m) m)))
 
   subject_shift : (c : Closer) (t : Symbol) (m : Point) → subject_of c (shift b m) t ≡ shift_step b (subject_of c m t)
   subject_shift c (Token kind.IriRef) m = refl

@@ -73,7 +73,7 @@ module _ (start : Start) (ts : List Symbol) (ps : List Production) (old : Machin
     all_allowed : AreAllowed start 0 (ts ++ t ∷ [])
     all_allowed =
         let here : is_allowed start (braces_from 0 ts) t ≡ true =
-            ap (λ s. is_allowed s (braces_from 0 ts) t) (sym h.start_is) ∙ ap (λ n. is_allowed old.start n t) (sym h.braces) ∙ allowed in
+        ap (λ s. is_allowed s (braces_from 0 ts) t) (sym h.start_is) ∙ ap (λ n. is_allowed old.start n t) (sym h.braces) ∙ allowed in
         allowed-append start ts (t ∷ []) 0 h.allowed (here, tt)
 
     module _ (x : Stage) (taken : step_of (cleared old.engine) t ≡ Some x) where
@@ -87,9 +87,10 @@ module _ (start : Start) (ts : List Symbol) (ps : List Production) (old : Machin
           → GoesOn start (ts ++ t ∷ []) × IsTooDeep (ts ++ t ∷ []) (length ts)
       too_deep n e high =
           let size : length (ts ++ t ∷ []) ≡ length ts + 1 = length_more ts t in
-          let all : n ≡ depth_from 0 (take (length ts + 1) (ts ++ t ∷ [])) = depth_now n e ∙ ap (depth_from 0) (sym (take_all_more ts t)) in
-          (goes_on start (ts ++ t ∷ []) _ reached all_allowed,
-          (let lt : length ts < length (ts ++ t ∷ []) = omega arith in lt, subst (λ (d : ℕ). DEPTH_LIMIT < d) all high))
+          let all : n ≡ depth_from 0 (take (length ts + 1) (ts ++ t ∷ [])) = depth_now n e ∙ ap (depth_from 0) (sym (take_all_more ts t)) in (
+            goes_on start (ts ++ t ∷ []) _ reached all_allowed,
+            (let lt : length ts < length (ts ++ t ∷ []) = omega arith in lt, subst (λ (d : ℕ). DEPTH_LIMIT < d) all high),
+          )
 
       pub reads_on : (new : Machine) → new.engine ≡ x → new.start ≡ old.start → new.braces ≡ braces_after old.braces t
           → new.depth ≡ depth_after old.depth t → new.depth ≤ DEPTH_LIMIT

@@ -81,14 +81,14 @@ module _ (start : Start) where
       → Reads x.goals x.rest x.point us m → Reads [] (first_rest start) start_point (ts ++ us) m
   through ts x us m e h =
       let all : KeepsAll [] (first_rest start) start_point ts (Some x) =
-          subst (λ o. KeepsAll [] (first_rest start) start_point ts o) e (keeps_all ts [] (first_rest start) start_point) in
+      subst (λ o. KeepsAll [] (first_rest start) start_point ts o) e (keeps_all ts [] (first_rest start) start_point) in
       all us m h
 
   pub fits : (ts : List Symbol) (x : Stage) → run start ts ≡ Some x → AreAllowed start 0 ts → Fits start (braces_from 0 ts) x
   fits ts x e ok =
       let all : On (Some x) (Fits start (braces_from 0 ts)) =
-          subst (λ o. On o (Fits start (braces_from 0 ts))) e
-              (reach_fits start ts [] (first_rest start) start_point 0 (rest_fits start) tt ok) in
+      subst (λ o. On o (Fits start (braces_from 0 ts))) e
+      (reach_fits start ts [] (first_rest start) start_point 0 (rest_fits start) tt ok) in
       all
 
   pub goes_on : (ts : List Symbol) (x : Stage) → run start ts ≡ Some x → AreAllowed start 0 ts → GoesOn start ts
@@ -113,7 +113,7 @@ module _ (start : Start) where
   pub stuck : (ts : List Symbol) → run start ts ≡ None → GoesOn start ts → ⊥
   stuck ts e g =
       let a : run start (ts ++ g.rest) ≡ None =
-          reach-append ts g.rest [] (first_rest start) start_point ∙ ap (λ o. then o (λ x. reach x.goals x.rest x.point g.rest)) e in
+      reach-append ts g.rest [] (first_rest start) start_point ∙ ap (λ o. then o (λ x. reach x.goals x.rest x.point g.rest)) e in
       let d = derives_only (ts ++ g.rest) g.productions g.derives in
       stage_none d.0 d.1 (sym d.2 ∙ a)
 
@@ -165,7 +165,7 @@ module _ (start : Start) where
   pub goes_on_less : (ts : List Symbol) (j k : ℕ) → j ≤ k → GoesOn start (take k ts) → GoesOn start (take j ts)
   goes_on_less ts j k le g =
       let split : take k ts ≡ take j ts ++ take (k - j) (drop j ts) =
-          ap (λ n. take n ts) (let e : k ≡ j + (k - j) = omega arith in e) ∙ take-add j (k - j) ts in
+      ap (λ n. take n ts) (let e : k ≡ j + (k - j) = omega arith in e) ∙ take-add j (k - j) ts in
       goes_on_front (take j ts) (take (k - j) (drop j ts)) (subst (GoesOn start) split g)
 
   not_before : (ts : List Symbol) (j k : ℕ) → IsFault start ts j → IsFault start ts k → j < k → ⊥

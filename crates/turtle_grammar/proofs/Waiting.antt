@@ -118,9 +118,9 @@ ended_more k m (Some x) e h f =
     let added = f.0 in
     let grown : x.point.at ≡ m.at + 1 = added.passes in
     let old : AllBefore x.point.at m.produced =
-        All-weaker (λ p. end_of p < m.at) (λ p. end_of p < x.point.at) (λ p lt. omega arith) m.produced h in
+    All-weaker (λ p. end_of p < m.at) (λ p. end_of p < x.point.at) (λ p lt. omega arith) m.produced h in
     let new : AllBefore x.point.at added.later =
-        All-weaker (λ p. end_of p ≡ m.at) (λ p. end_of p < x.point.at) (λ p eq. omega arith) added.later added.ends in
+    All-weaker (λ p. end_of p ≡ m.at) (λ p. end_of p < x.point.at) (λ p eq. omega arith) added.later added.ends in
     record {
       at_is = grown ∙ ap (λ n. n + 1) e;
       all_before = subst (AllBefore x.point.at) (sym added.produced) (All-append (λ p. end_of p < x.point.at) m.produced added.later old new);
@@ -135,8 +135,8 @@ string_ended (Token kind.Carets) s p x gs w m n k i e h f =
     ended_more k m (take_symbol (goal.Suffix s p x ∷ gs) w m (Token kind.Carets)) e h (take_adds (goal.Suffix s p x ∷ gs) w m (Token kind.Carets) n i)
 string_ended t s p x gs w m n k i e h f =
     ended_more k (triple_at x s p (node.Token x) m) (take_symbol gs w (triple_at x s p (node.Token x) m) t) e
-        (All-push (λ y. end_of y < m.at) m.produced _ h (let lt : x < m.at = omega arith in lt))
-        (take_adds gs w (triple_at x s p (node.Token x) m) t n (inner_fit gs w n i))
+    (All-push (λ y. end_of y < m.at) m.produced _ h (let lt : x < m.at = omega arith in lt))
+    (take_adds gs w (triple_at x s p (node.Token x) m) t n (inner_fit gs w n i))
 
 step_ended : (gs : List Goal) (w : Rest) (m : Point) (t : Symbol) (n k : ℕ) → GoalsFit w n gs
     → m.at ≡ k → AllBefore m.at m.produced → WaitsBefore m.at gs → On (step gs w m t) (Ended (k + 1))
@@ -166,22 +166,24 @@ reach_settled start [] gs w m n k r g ok e h f =
     ((r, g), record { at_is = e ∙ (let z : k ≡ k + 0 = omega arith in z); all_before = h; waits = f })
 reach_settled start (t ∷ ts) gs w m n k r g ok e h f =
     same_end start (braces_from (braces_after n t) ts) (k + 1 + length ts) (k + length (t ∷ ts)) (reach gs w m (t ∷ ts))
-        (let z : k + 1 + length ts ≡ k + length (t ∷ ts) = omega arith in z)
-        (more_settled start ts (braces_after n t) (k + 1) (step gs w m t)
-            (both (Fits start (braces_after n t)) (Ended (k + 1)) (step gs w m t) (step_fits start gs w m t n r g ok.0) (step_ended gs w m t n k g e h f))
-            (λ x b. reach_settled start ts x.goals x.rest x.point (braces_after n t) (k + 1) b.0.0 b.0.1 ok.1 b.1.at_is b.1.all_before b.1.waits))
+    (let z : k + 1 + length ts ≡ k + length (t ∷ ts) = omega arith in z)
+    (more_settled start ts (braces_after n t) (k + 1) (step gs w m t)
+    (both (Fits start (braces_after n t)) (Ended (k + 1)) (step gs w m t) (step_fits start gs w m t n r g ok.0) (step_ended gs w m t n k g e h f))
+    (λ x b. reach_settled start ts x.goals x.rest x.point (braces_after n t) (k + 1) b.0.0 b.0.1 ok.1 b.1.at_is b.1.all_before b.1.waits))
 
 pub run_settled : (start : Start) (ts : List Symbol) (x : Stage) → run start ts ≡ Some x → AreAllowed start 0 ts
     → Settled start (braces_from 0 ts) (length ts) x
 run_settled start ts x e ok =
     let all : On (Some x) (Settled start (braces_from 0 ts) (0 + length ts)) =
-        subst (λ o. On o (Settled start (braces_from 0 ts) (0 + length ts))) e
-            (reach_settled start ts [] (first_rest start) start_point 0 0 (rest_fits start) tt ok refl (All-nil _) tt) in
-    (all.0, record {
-      at_is = all.1.at_is ∙ (let z : 0 + length ts ≡ length ts = omega arith in z);
-      all_before = all.1.all_before;
-      waits = all.1.waits;
-    })
+    subst (λ o. On o (Settled start (braces_from 0 ts) (0 + length ts))) e
+    (reach_settled start ts [] (first_rest start) start_point 0 0 (rest_fits start) tt ok refl (All-nil _) tt) in (
+      all.0,
+      record {
+        at_is = all.1.at_is ∙ (let z : 0 + length ts ≡ length ts = omega arith in z);
+        all_before = all.1.all_before;
+        waits = all.1.waits;
+      },
+    )
 
 -- From the point m to the point n what is produced ends at later symbols.
 record AddsLater (m n : Point) : Type 0 where
@@ -256,7 +258,7 @@ goal_later (goal.Collection (collection_use.Object s p)) m e = later_of m _ (lou
 goal_later (goal.Elements c u) m e = later_of m _ (collected_adds u c m)
 goal_later (goal.PrefixName b) m e =
     later_then m (prefix_end m) _ (later_then m (passed m) _ (later_of m _ (quiet m _ refl refl)) (later_of (passed m) _ (loud (passed m) _ (Prefix m.at (m.at + 1)) refl refl refl)))
-        (dot_later b (prefix_end m))
+    (dot_later b (prefix_end m))
 goal_later (goal.PrefixIri b i) m e =
     later_then m (passed (produces (Prefix i m.at) m)) _ (later_of m _ (loud m _ (Prefix i m.at) refl refl refl)) (dot_later b _)
 goal_later (goal.BaseIri b) m e = later_then m (base_end m) _ (later_of m _ (loud m _ (Base m.at) refl refl refl)) (dot_later b _)
@@ -372,7 +374,7 @@ waits start ts ps machine h =
     let fit = settled_fit gs w m (braces_from 0 ts) now.0.1 in
     let adds = ending_later y.goals y.rest y.point (settled_calm gs w m (braces_from 0 ts) now.0.1) in
     let end : (ending_point y.goals y.rest y.point).produced ≡ (ps ++ waiting_productions (waiting_triple machine.engine)) ++ adds.later =
-        adds.produced ∙ ap (λ z. z ++ adds.later) (settled_produced gs w m) in
+    adds.produced ∙ ap (λ z. z ++ adds.later) (settled_produced gs w m) in
     let at_now : m.at ≡ length ts = now.1.at_is in
     let at_end : y.point.at ≡ length ts = settled_at gs w m ∙ at_now in
     record {
@@ -381,8 +383,8 @@ waits start ts ps machine h =
       ends_string = ending_ends y.goals y.rest;
       derives = subst (λ z. Derives start (ts ++ ending_of y.goals y.rest) z) end
           (derived start (ts ++ ending_of y.goals y.rest) (ending_point y.goals y.rest y.point)
-              (through start ts _ _ _ h.reached (reads_settled gs w m _ _ (reads_ending y.goals y.rest y.point)))
-              (allowed-append start ts _ 0 h.allowed (allowed_ending start y.goals y.rest (braces_from 0 ts) (settled_rest gs w m start now.0.0) fit)));
+          (through start ts _ _ _ h.reached (reads_settled gs w m _ _ (reads_ending y.goals y.rest y.point)))
+          (allowed-append start ts _ 0 h.allowed (allowed_ending start y.goals y.rest (braces_from 0 ts) (settled_rest gs w m start now.0.0) fit)));
       so_far = subst (λ i. AllBefore i (ps ++ waiting_productions (waiting_triple machine.engine))) at_now
           (subst (AllBefore m.at) (settled_produced gs w m) (settled_before gs w m now.1.all_before now.1.waits));
       after = subst (λ i. All (λ x. i ≤ end_of x) adds.later) at_end adds.ends;

@@ -1,11 +1,11 @@
 -- Laws of derivations and of reading, for the proofs of the crates above.
-use Rattle.std.specs.Prelude.{ℕ, ◌+◌, ◌≤◌, ◌<◌, ◌≡◌, List, ◌++◌, length, take}
+use Rattle.std.specs.Prelude.{ℕ, ◌+◌, ◌≤◌, ◌<◌, ◌≡◌, List, [], ◌++◌, length, take}
 use Rattle.turtle_grammar.specs.declared.symbol.Start.{Start}
 use Rattle.turtle_grammar.specs.declared.symbol.Symbol.{Symbol}
 use Rattle.turtle_grammar.specs.declared.production.Production.{Production}
 use Rattle.turtle_grammar.specs.declared.machine.Machine.{Machine}
 use Rattle.turtle_grammar.specs.Derivations.{Derives, GoesOn, IsFault, IsShallow}
-use Rattle.turtle_grammar.specs.Readings.{HasRead, Produces}
+use Rattle.turtle_grammar.specs.Readings.{HasRead, Produces, NamesNothing}
 
 -- what a list of symbols produces is one list
 abbrev pub HasOneDerivation : Type 0
@@ -54,3 +54,9 @@ abbrev pub ReadIsShallow : Type 0
 ReadIsShallow =
     (start : Start) (symbols : List Symbol) (productions : List Production) (machine : Machine)
     → HasRead start symbols productions machine → IsShallow symbols (length symbols)
+
+-- where nothing has been read, nothing is unfinished
+abbrev pub NothingNamesNothing : Type 0
+NothingNamesNothing =
+    (start : Start) (productions : List Production) (machine : Machine)
+    → HasRead start [] productions machine → NamesNothing machine

@@ -1,8 +1,9 @@
--- What a tree produces: the directives and the symbolic triples, in order (RDF 1.1 Turtle, section 7).
+-- What a tree produces: the directives and the symbolic triples, in order (RDF 1.1 Turtle,
+-- section 7).
 --
 -- A tree is walked in the order of its tokens. A bracket takes its number before its inside and is
--- the object of its triple after it; a cell takes its number before its element; the `rdf:rest` of a
--- cell is produced before the next element.
+-- the object of its triple after it; a cell takes its number before its element; the `rdf:rest` of
+-- a cell is produced before the next element.
 use Rattle.std.specs.Prelude.{ℕ, ◌+◌, List, [], ◌∷◌, ◌++◌}
 use Rattle.turtle_grammar.specs.declared.production.Node.{Node}
 use Rattle.turtle_grammar.specs.declared.production.Node.TheVariants as node
@@ -26,8 +27,8 @@ use Rattle.turtle_grammar.specs.Trees.{statement, Operation, insert_data, delete
 use Rattle.turtle_grammar.specs.Trees.{Update, no_operation, update_base, update_prefix}
 use Rattle.turtle_grammar.specs.Trees.{last_operation, operation_and}
 
--- A point of the walk: how many tokens and how many unnamed nodes came before it, what a triple here
--- is part of, and what was produced before it.
+-- A point of the walk: how many tokens and how many unnamed nodes came before it, what a triple
+-- here is part of, and what was produced before it.
 pub record Point : Type 0 where
   pub at : ℕ
   pub unnamed : ℕ
@@ -40,7 +41,10 @@ start_point = record { at = 0; unnamed = 0; within = within.Document; produced =
 -- after one more token
 abbrev pub passed : Point → Point
 passed m = record {
-  at = m.at + 1; unnamed = m.unnamed; within = m.within; produced = m.produced;
+  at = m.at + 1;
+  unnamed = m.unnamed;
+  within = m.within;
+  produced = m.produced;
 }
 
 -- the next unnamed node, and the point where it is taken
@@ -49,7 +53,10 @@ fresh m = node.Unnamed m.unnamed
 
 abbrev pub counted : Point → Point
 counted m = record {
-  at = m.at; unnamed = m.unnamed + 1; within = m.within; produced = m.produced;
+  at = m.at;
+  unnamed = m.unnamed + 1;
+  within = m.within;
+  produced = m.produced;
 }
 
 abbrev pub moved : Within → Point → Point
@@ -57,7 +64,10 @@ moved w m = record { at = m.at; unnamed = m.unnamed; within = w; produced = m.pr
 
 abbrev pub produces : Production → Point → Point
 produces x m = record {
-  at = m.at; unnamed = m.unnamed; within = m.within; produced = m.produced ++ x ∷ [];
+  at = m.at;
+  unnamed = m.unnamed;
+  within = m.within;
+  produced = m.produced ++ x ∷ [];
 }
 
 -- the triple that ends at this token
@@ -106,7 +116,7 @@ abbrev mutual
   object_end (literal l) s p m = literal_end l s p m
   object_end (formula f) s p m =
       passed (says s p (node.Formula m.at) (moved m.within
-          (formula_end f (moved (within.Formula m.at) (passed m)))))
+      (formula_end f (moved (within.Formula m.at) (passed m)))))
   object_end o s p m = says_token s p m
 
   -- The elements of a collection, after its `(`.

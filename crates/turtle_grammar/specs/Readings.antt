@@ -18,6 +18,7 @@ use Rattle.turtle_grammar.specs.declared.machine.Machine.{Machine}
 use Rattle.turtle_grammar.specs.declared.fault.TheConstants.{DEPTH_LIMIT}
 use Rattle.turtle_grammar.specs.Derivations.{Derives, GoesOn, IsFault, IsTooDeep, IsShallow}
 use Rattle.turtle_grammar.specs.Derivations.{AreAllowed, braces_from, depth_from}
+use Rattle.turtle_grammar.specs.Names.{Names, IsAmong, GoalsName}
 use Rattle.turtle_grammar.specs.Stacks.{run, at_point, with_produced}
 
 -- the index of the token at which a production ends
@@ -43,8 +44,9 @@ pub record Produces (start : Start) (symbols : List Symbol) (productions : List 
   pub so_far : All (λ x. end_of x < length symbols) productions
   pub after : All (λ x. length symbols ≤ end_of x) later
 
--- The machine has read these symbols from the start symbol on, and they produced this. What follows
--- a last String may still add to it.
+-- The machine has read these symbols from the start symbol on, and they produced this; what follows
+-- a last String may still add to it. Which stack it has then is its own affair (specs/Stacks): its
+-- clauses and laws say what follows from this.
 pub record HasRead (start : Start) (symbols : List Symbol) (productions : List Production)
     (machine : Machine) : Type 0 where
   pub start_is : machine.start ≡ start
@@ -72,6 +74,31 @@ abbrev pub CollectsOn : Symbol → Machine → List Production → Machine → L
 CollectsOn symbol old before new after =
     (start : Start) (symbols : List Symbol) → HasRead start symbols before old
     → HasRead start (symbols ++ symbol ∷ []) after new
+
+-- what is unfinished names tokens from `since` on
+abbrev pub NamesFrom : ℕ → List Symbol → Machine → Type 0
+NamesFrom since symbols machine =
+    GoalsName (IsAmong since (length symbols)) machine.engine.goals
+
+-- nothing is unfinished that names a token
+abbrev pub NamesNothing : Machine → Type 0
+NamesNothing machine = (since : ℕ) (symbols : List Symbol) → NamesFrom since symbols machine
+
+-- Where what is unfinished names tokens from `since` on, it does so after this symbol, and the
+-- productions of the symbol name tokens from `since` up to it.
+abbrev pub NamesOn : Symbol → Machine → Machine → Type 0
+NamesOn symbol old new =
+    (since : ℕ) (start : Start) (symbols : List Symbol) (productions : List Production)
+    → HasRead start symbols productions old → since ≤ length symbols
+    → NamesFrom since symbols old
+    → NamesFrom since (symbols ++ symbol ∷ []) new
+    × All (Names (IsAmong since (length symbols + 1))) (produced_by new)
+
+-- and so does the triple of a String that waits
+abbrev pub WaitingNames : SymbolicTriple → Machine → Type 0
+WaitingNames waiting machine =
+    (since : ℕ) (symbols : List Symbol) → NamesFrom since symbols machine
+    → Names (IsAmong since (length symbols)) (Triple waiting)
 
 -- whatever was read, it doesn't go on with this symbol
 abbrev pub StopsAt : Symbol → Machine → Type 0

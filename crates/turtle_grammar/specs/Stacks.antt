@@ -61,7 +61,7 @@ one s p m (Token kind.OpenRound) =
     step_to (goal.Collection (collection_use.Object s p) ∷ []) (passed m)
 one s p m (Token kind.OpenBrace) =
     step_to (goal.Formula (formula_use.Object s p m.at m.within) ∷ [])
-        (moved (within.Formula m.at) (passed m))
+    (moved (within.Formula m.at) (passed m))
 one s p m _ = None
 
 -- the end of a formula
@@ -130,12 +130,12 @@ collection (collection_use.Subject c) m (Token kind.CloseRound) =
     step_to (goal.Predicates node.Nil c ∷ []) (passed m)
 collection (collection_use.Subject c) m t =
     before (goal.Elements (fresh m) cell_use.Subject ∷ goal.Predicates (fresh m) c ∷ [])
-        (one (fresh m) node.First (counted m) t)
+    (one (fresh m) node.First (counted m) t)
 collection (collection_use.Object s p) m (Token kind.CloseRound) =
     step_to [] (passed (says s p node.Nil m))
 collection (collection_use.Object s p) m t =
     before (goal.Elements (fresh m) (cell_use.Object s p (fresh m)) ∷ [])
-        (one (fresh m) node.First (counted m) t)
+    (one (fresh m) node.First (counted m) t)
 
 -- After an element, the one of the cell c.
 abbrev pub elements : Node → CellUse → Point → Symbol → Option Step
@@ -158,7 +158,7 @@ subject_of c m (Token kind.Anon) =
     step_to (goal.Predicates (fresh m) c ∷ []) (passed (counted m))
 subject_of c m (Token kind.OpenSquare) =
     step_to (goal.Predicates (fresh m) closer.Subject ∷ goal.Maybe (fresh m) c ∷ [])
-        (passed (counted m))
+    (passed (counted m))
 subject_of c m (Token kind.OpenRound) =
     step_to (goal.Collection (collection_use.Subject c) ∷ []) (passed m)
 subject_of c m _ = None
@@ -319,7 +319,10 @@ with_rest w x = record { goals = x.goals; rest = w; point = x.point }
 
 abbrev pub with_produced : List Production → Point → Point
 with_produced productions m = record {
-  at = m.at; unnamed = m.unnamed; within = m.within; produced = productions;
+  at = m.at;
+  unnamed = m.unnamed;
+  within = m.within;
+  produced = productions;
 }
 
 abbrev pub cleared : Stage → Stage

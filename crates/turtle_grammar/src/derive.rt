@@ -2,7 +2,8 @@
 
 ghost use Rattle.std.specs.Prelude.{◌≡◌, List, IfErr, OnOk, length};
 ghost use Rattle.turtle_grammar.specs.Derivations.{Derives, IsShallow};
-ghost use Rattle.turtle_grammar.specs.Readings.{Answers, AreOrNoMemory, IsRefused, CollectsOn, fault_at};
+ghost use Rattle.turtle_grammar.specs.Readings.{Answers, AreOrNoMemory, IsRefused, CollectsOn};
+ghost use Rattle.turtle_grammar.specs.Readings.{fault_at};
 ghost use Rattle.turtle_grammar.specs.declared.production.Production.{Production};
 
 use crate::fault::{GrammarFault, Refusal};

@@ -9,8 +9,8 @@ use pod_base::{Mem, NoMemory};
 use std::alloc::Global;
 use std::marker::Model;
 
-/// The goals, the top last, what comes after them, and the point of the walk. `produced` is what the
-/// present step produced.
+/// The goals, the top last, what comes after them, and the point of the walk. `produced` is what
+/// the present step produced.
 #[derive(Drop)]
 pub struct Engine {
     stack: Vec<Goal>,
@@ -78,13 +78,7 @@ impl Engine {
     }
 
     /// The triple that ends at this index.
-    pub fn say_at(
-        &mut self,
-        end: usize,
-        subject: Node,
-        predicate: Node,
-        object: Node,
-    ) -> Mem<()>
+    pub fn say_at(&mut self, end: usize, subject: Node, predicate: Node, object: Node) -> Mem<()>
         ensures { OnOk result (self.new
             ≡ at_point (triple_at end subject predicate object self.old.point) self.old) }
     {

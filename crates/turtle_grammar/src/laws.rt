@@ -4,7 +4,7 @@
 
 ghost use Rattle.turtle_grammar.specs.Laws.{HasOneDerivation, HasOneProduce, PrefixesGoOn};
 ghost use Rattle.turtle_grammar.specs.Laws.{HasOneFault, DerivedHasNoFault, ReadGoesOn};
-ghost use Rattle.turtle_grammar.specs.Laws.{DerivedGoesOn, ReadIsShallow};
+ghost use Rattle.turtle_grammar.specs.Laws.{DerivedGoesOn, ReadIsShallow, NothingNamesNothing};
 
 /// What a list of symbols derives is one list, and so is what it produces up to its last symbol.
 pub fn one_derivation()
@@ -24,8 +24,10 @@ pub fn one_fault()
     ensures none { DerivedHasNoFault }
 {}
 
-/// What the machine has read goes on, and no bracket of it is too deep.
+/// What the machine has read goes on, no bracket of it is too deep, and before the first symbol
+/// nothing is unfinished.
 pub fn readings()
     ensures go_on { ReadGoesOn }
     ensures shallow { ReadIsShallow }
+    ensures at_start { NothingNamesNothing }
 {}

@@ -1,6 +1,6 @@
 //! The machine that reads symbols one by one.
 
-ghost use Rattle.std.specs.Prelude.{◌≡◌, ◌≤◌, ◌<◌, [], IfOk, IfErr, OnOk};
+ghost use Rattle.std.specs.Prelude.{◌≡◌, ◌≤◌, ◌<◌, [], IfOk, IfErr, IfSome, OnOk};
 ghost use Rattle.std.specs.Bool.{OnTrue, OnFalse};
 ghost use Rattle.turtle_grammar.specs.Derivations.{is_allowed, braces_after, depth_after};
 ghost use Rattle.turtle_grammar.specs.declared.fault.TheConstants.{DEPTH_LIMIT};
@@ -73,6 +73,7 @@ impl Machine {
     ghost use Rattle.turtle_grammar.specs.Readings.{HasRead, ReadsOn, IsRefused};
     ghost use Rattle.turtle_grammar.specs.Stacks.{Takes, step_of, cleared};
     ghost use Rattle.turtle_grammar.specs.Readings.{IsDerived, IsUnfinished, Waits, produced_by};
+    ghost use Rattle.turtle_grammar.specs.Readings.{NamesOn, NamesNothing, WaitingNames};
 
     /// The machine before the first symbol. It has no memory yet.
     pub fn new(alloc: Global, start: Start) -> Machine
@@ -90,6 +91,7 @@ impl Machine {
     pub fn step(&mut self, symbol: Symbol) -> Result<(), Refusal>
         ensures read { OnOk result (ReadsOn symbol self.old self.new) }
         ensures refused { IfErr result (λ refusal. IsRefused refusal symbol self.old) }
+        ensures names { OnOk result (NamesOn symbol self.old self.new) }
     {
         if !is_allowed(self.start, self.braces, symbol) {
             return Err(Refusal::Grammar);
@@ -128,7 +130,8 @@ impl Machine {
 
     /// The triple of the last symbol, where it is a String to which nothing is added.
     pub fn waiting(&self) -> Option<SymbolicTriple>
-        ensures { Waits result self.now }
+        ensures waits { Waits result self.now }
+        ensures names { IfSome result (λ triple. WaitingNames triple self.now) }
     {
         self.engine.waiting()
     }
@@ -137,6 +140,7 @@ impl Machine {
     pub fn is_complete(&self) -> bool
         ensures complete { OnTrue result (IsDerived self.now) }
         ensures unfinished { OnFalse result (IsUnfinished self.now) }
+        ensures names { OnTrue result (NamesNothing self.now) }
     {
         self.engine.is_empty()
     }

@@ -1,5 +1,5 @@
-//! The goals inside statements: objects, predicates, collections and formulas. Each function takes the
-//! symbol, or returns false where its goal can't begin with it.
+//! The goals inside statements: objects, predicates, collections and formulas. Each function takes
+//! the symbol, or returns false where its goal can't begin with it.
 
 ghost use Rattle.std.specs.Prelude.{◌≡◌, ◌+◌, ◌∷◌, [], IfOk, OnOk, None};
 
@@ -31,7 +31,8 @@ impl Engine {
 
     /// The present token is passed, and then this is wanted.
     pub fn pass_to(&mut self, goal: Goal) -> Mem<bool>
-        ensures { IfOk result (λ taken. Takes (Some (wants goal (at_point (passed self.old.point) self.old))) taken self.new) }
+        ensures { IfOk result (λ taken. Takes
+            (Some (wants goal (at_point (passed self.old.point) self.old))) taken self.new) }
     {
         self.pass()?;
         self.want(goal)?;
@@ -44,9 +45,16 @@ impl Engine {
     {
         match symbol {
             Symbol::Token(
-                TokenKind::IriRef | TokenKind::PnameLn | TokenKind::PnameNs | TokenKind::BlankLabel
-                | TokenKind::Integer | TokenKind::Decimal | TokenKind::Double | TokenKind::True
-                | TokenKind::False | TokenKind::Variable,
+                TokenKind::IriRef
+                | TokenKind::PnameLn
+                | TokenKind::PnameNs
+                | TokenKind::BlankLabel
+                | TokenKind::Integer
+                | TokenKind::Decimal
+                | TokenKind::Double
+                | TokenKind::True
+                | TokenKind::False
+                | TokenKind::Variable,
             ) => {
                 self.say_and_pass(subject, predicate, Node::Token(self.at()))?;
                 Ok(true)
@@ -172,7 +180,10 @@ impl Engine {
     {
         match symbol {
             Symbol::Token(
-                TokenKind::IriRef | TokenKind::PnameLn | TokenKind::PnameNs | TokenKind::A
+                TokenKind::IriRef
+                | TokenKind::PnameLn
+                | TokenKind::PnameNs
+                | TokenKind::A
                 | TokenKind::Variable,
             ) => self.objects(subject, closer),
             _ => Ok(false),
@@ -185,7 +196,10 @@ impl Engine {
     {
         match symbol {
             Symbol::Token(
-                TokenKind::IriRef | TokenKind::PnameLn | TokenKind::PnameNs | TokenKind::A
+                TokenKind::IriRef
+                | TokenKind::PnameLn
+                | TokenKind::PnameNs
+                | TokenKind::A
                 | TokenKind::Variable,
             ) => self.objects(subject, closer),
             _ => self.close(closer, symbol),
@@ -238,7 +252,10 @@ impl Engine {
             (collection (collection_use.Subject closer) self.old.point symbol)) taken self.new) }
     {
         match symbol {
-            Symbol::Token(TokenKind::CloseRound) => self.pass_to(Goal::Predicates(Node::Nil, closer)),
+            Symbol::Token(TokenKind::CloseRound) => self.pass_to(Goal::Predicates(
+                Node::Nil,
+                closer,
+            )),
             _ => {
                 let cell = self.number()?;
                 self.want(Goal::Predicates(cell, closer))?;
@@ -248,12 +265,7 @@ impl Engine {
         }
     }
 
-    pub fn object_collection(
-        &mut self,
-        subject: Node,
-        predicate: Node,
-        symbol: Symbol,
-    ) -> Mem<bool>
+    pub fn object_collection(&mut self, subject: Node, predicate: Node, symbol: Symbol) -> Mem<bool>
         ensures { IfOk result (λ taken. Takes (behind self.old (collection
             (collection_use.Object subject predicate) self.old.point symbol)) taken self.new) }
     {
@@ -306,11 +318,12 @@ impl Engine {
     {
         match symbol {
             Symbol::Token(
-                TokenKind::IriRef | TokenKind::PnameLn | TokenKind::PnameNs | TokenKind::BlankLabel
+                TokenKind::IriRef
+                | TokenKind::PnameLn
+                | TokenKind::PnameNs
+                | TokenKind::BlankLabel
                 | TokenKind::Variable,
-            ) => {
-                self.pass_to(Goal::Predicates(Node::Token(self.at()), closer))
-            }
+            ) => { self.pass_to(Goal::Predicates(Node::Token(self.at()), closer)) }
             Symbol::Token(TokenKind::Anon) => {
                 let node = self.number()?;
                 self.pass_to(Goal::Predicates(node, closer))

@@ -1,7 +1,6 @@
 //! Statements, directives and updates, and one step of the whole machine.
 
 ghost use Rattle.std.specs.Prelude.{◌≡◌, ◌++◌, IfOk, OnOk, Some};
-
 ghost use Rattle.turtle_grammar.specs.Stacks.{adds_to_string};
 
 use crate::engine::Engine;
@@ -15,7 +14,10 @@ use turtle_lex::TokenKind;
 fn adds_to_string(symbol: Symbol) -> bool
     ensures { result ≡ adds_to_string symbol }
 {
-    matches!(symbol, Symbol::Token(TokenKind::LangTag | TokenKind::Carets))
+    matches!(
+        symbol,
+        Symbol::Token(TokenKind::LangTag | TokenKind::Carets)
+    )
 }
 
 impl Engine {
@@ -29,9 +31,9 @@ impl Engine {
     /// The IRIREF of a directive is passed; a `.` may have to follow.
     fn pass_iri(&mut self, has_dot: bool) -> Mem<bool>
         ensures { IfOk result (λ taken. Takes (Some (record {
-            goals = dot_goals has_dot ++ self.old.goals;
-            rest = self.old.rest;
-            point = passed self.old.point;
+          goals = dot_goals has_dot ++ self.old.goals;
+          rest = self.old.rest;
+          point = passed self.old.point;
         })) taken self.new) }
     {
         self.pass()?;
