@@ -94,8 +94,8 @@ fn code(rt: &HostRuntime, alloc: Global, form: &[u8], times: bool) -> anyhow::Re
     Ok(())
 }
 
-/// Decodes and encodes a snapshot of so many rows of 300 bytes, and one of a tenth as many graphs of 50
-/// triples.
+/// Decodes and encodes a snapshot of so many rows of 300 bytes, and one of a tenth as many graphs of
+/// 50 triples.
 pub fn code_snapshots(
     rt: &HostRuntime,
     alloc: Global,

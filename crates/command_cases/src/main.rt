@@ -1,9 +1,9 @@
-//! Runs cases of stored forms: reads one from each line of standard input, and prints it with the value
-//! of the form as one more field. The first field of a case is the call, and each of the others a piece
-//! of the form: its bytes as hexadecimal digits, and behind a space what they are.
+//! Runs cases of stored forms: reads one from each line of standard input, and prints it with the
+//! value of the form as one more field. The first field of a case is the call, and each of the others
+//! a piece of the form: its bytes as hexadecimal digits, and after a space what they are.
 //!
-//! Behind the value stand `=` and the size of its form in format 2, and `same` where encoding it gives
-//! the bytes again.
+//! What is shown is a copy of the value. After it come `=`, for an entry the size of its form in format
+//! 2, and `same` where encoding the value gives the bytes again.
 #![tactic(auto)]
 
 mod show;
@@ -13,7 +13,7 @@ use pod_command::{
     Entry, ReadBack, Snapshot, decode_entry, decode_entry_1, decode_snapshot, encode_entry,
     encode_snapshot, entry_size,
 };
-use show::{show_entry, show_snapshot};
+use show::{known, show_entry, show_snapshot};
 use std::alloc::{AllocError, Global};
 use std::io;
 
@@ -70,7 +70,8 @@ fn snapshot(alloc: Global, form: &[u8]) -> Result<String, AllocError> {
     match found {
         Ok(snapshot) => {
             let again = verdict(encode_snapshot(alloc, &snapshot), form)?;
-            let shown = show_snapshot(alloc, &snapshot)?;
+            let copy = known(snapshot.copy(alloc))?;
+            let shown = show_snapshot(alloc, &copy)?;
             format!(in alloc; "{shown} = {again}")
         }
         Err(fault) => refusal(alloc, fault),
@@ -82,7 +83,8 @@ fn entry(alloc: Global, form: &[u8]) -> Result<String, AllocError> {
     match found {
         Ok(entry) => {
             let again = verdict(encode_entry(alloc, &entry), form)?;
-            let shown = show_entry(alloc, &entry)?;
+            let copy = known(entry.copy(alloc))?;
+            let shown = show_entry(alloc, &copy)?;
             format!(in alloc; "{shown} = {} {again}", entry_size(&entry))
         }
         Err(fault) => refusal(alloc, fault),

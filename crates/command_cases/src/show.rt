@@ -1,5 +1,5 @@
-//! Entries and snapshots as text: their fields in order, with a space between two. Before each item of a
-//! list stands `|`, and before each basis `&`.
+//! Entries and snapshots as text: their fields in order, with a space between two. Each edit or row
+//! comes after `|`, and each basis after `&`.
 
 use case_lines::shown_whole;
 use pod_base::{Agent, Bytes, Mem, Method};
@@ -18,8 +18,8 @@ fn push_graph(alloc: Global, out: &mut String, graph: &Graph) -> Result<(), Allo
     out.push_str(shown.as_str())
 }
 
-/// What was to be had, unless out of memory.
-fn known<T>(found: Mem<T>) -> Result<T, AllocError> {
+/// The value, unless out of memory.
+pub fn known<T>(found: Mem<T>) -> Result<T, AllocError> {
     match found {
         Ok(value) => Ok(value),
         Err(_) => Err(AllocError),
@@ -55,7 +55,12 @@ fn push_bytes(
 }
 
 fn push_row(alloc: Global, out: &mut String, row: &Row) -> Result<(), AllocError> {
-    let shown = format!(in alloc; "{} {} {} ", row.path.as_str(), kind(row.kind), row.modified.0)?;
+    let shown = format!(in alloc;
+        "{} {} {} ",
+        row.path.as_str(),
+        kind(row.kind),
+        row.modified.0
+    )?;
     out.push_str(shown.as_str())?;
     match &row.content {
         Content::Graph(graph) => push_graph(alloc, out, graph),
@@ -102,8 +107,7 @@ fn who(who: &Who) -> &str {
 
 fn push_basis(alloc: Global, out: &mut String, basis: &Basis) -> Result<(), AllocError> {
     let rule = term(alloc, &basis.rule)?;
-    let shown =
-        format!(in alloc; " & {} {rule} {}", basis.acl.as_str(), who(&basis.who))?;
+    let shown = format!(in alloc; " & {} {rule} {}", basis.acl.as_str(), who(&basis.who))?;
     out.push_str(shown.as_str())
 }
 

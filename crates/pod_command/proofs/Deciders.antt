@@ -1,23 +1,22 @@
 -- The tests of readers decide what the values of the types are.
-use Rattle.std.proofs.Common.{◌≡◌, ◌⊎◌, ℕ, Bool, true, false, cond, eqb, not, ◌&&◌, List, [], ◌∷◌, ◌++◌, Option, Some, None, Result, Ok, Err, refl, sym, ap, subst, ◌∙◌, inl, inr}
+use Rattle.std.proofs.Common.{◌≡◌, ◌⊎◌, ℕ, Bool, true, false, cond, eqb, not, ◌&&◌, List, [], ◌∷◌, ◌++◌, Option, Some, None, Result, Ok, Err, refl, sym, ap, ◌∙◌, inl, inr}
 use Rattle.std.specs.Bool.{Decides}
-use Rattle.std.specs.Prelude.{IsTrue, bytes_eq}
-use Rattle.std.specs.List.{list_all, All, AllByRecursion}
+use Rattle.std.specs.List.{list_all, AllByRecursion}
 use Rattle.std.specs.List.Sorted.{IsStrictlySortedBy}
 use Rattle.std.specs.Cmp.{IsTotalOrder}
 use Rattle.std.specs.Str.{IsUtf8, is_utf8}
 use Rattle.std.specs.declared.cmp.Ordering.{Ordering}
 use Rattle.std.specs.declared.cmp.Ordering.TheVariants.{Less, Equal, Greater}
-use Rattle.std.proofs.lemmas.Bool.{eqb-true, eq-eqb}
+use Rattle.std.proofs.lemmas.Bool.{eqb-true}
 use Rattle.std.proofs.lemmas.Cmp.{on_total, nat_list_cmp_total}
 use Rattle.std.proofs.lemmas.List.Elements.{All-from_recursion, recursion_from_All}
 use Rattle.std.proofs.lemmas.Slice.Eq.{bytes_eq-Decides}
 use Rattle.std.proofs.lemmas.Str.{IsUtf8-from_is_utf8, is_utf8-from_IsUtf8}
 use Rattle.iri_ref.specs.Characters.{colon, is_letter, is_scheme_character, is_allowed, is_scheme}
-use Rattle.iri_ref.specs.Components.{BeginsWithScheme, HasScheme, IsAbsolute}
+use Rattle.iri_ref.specs.Components.{HasScheme, IsAbsolute}
 use Rattle.pod_path.specs.Norm.{IsPath, path_text_of}
 use Rattle.pod_path.specs.declared.fault.PathFault.{PathFault}
-use Rattle.rdf_graph.specs.Graph.{IsGraph, IsOrdered}
+use Rattle.rdf_graph.specs.Graph.{IsGraph}
 use Rattle.rdf_graph.specs.Triple.{IsRdf, triple_cmp}
 use Rattle.rdf_graph.specs.TripleLaws.{triple_cmp_total}
 use Rattle.rdf_graph.specs.Term.{IsIri, IsLiteral}

@@ -1,5 +1,5 @@
 -- Each type is read by its form.
-use Rattle.std.proofs.Common.{◌≡◌, ℕ, List, [], ◌∷◌, ◌++◌, Option, Some, None, refl, sym, ap, ◌∙◌}
+use Rattle.std.proofs.Common.{◌≡◌, ℕ, List, [], ◌∷◌, ◌++◌, Some, refl}
 use Rattle.pod_base.specs.declared.agent.Agent.{Agent}
 use Rattle.pod_base.specs.declared.agent.Agent.TheVariants as agents
 use Rattle.pod_base.specs.declared.method.Method.{Method}
@@ -11,12 +11,11 @@ use Rattle.rdf_graph.specs.declared.triple.Triple.{Triple}
 use Rattle.std.specs.Str.{IsUtf8, is_utf8}
 use Rattle.iri_ref.specs.Components.{IsAbsolute}
 use Rattle.pod_path.specs.Norm.{IsPath}
-use Rattle.pod_command.specs.Encodable.{IsChanging, HasFittingContent, FitsKind, AreInOrder, path_cmp}
-use Rattle.pod_command.specs.Readers.{both, both_by, mapped, just, tagged, number_at, piece_at, list_at}
+use Rattle.pod_command.specs.Encodable.{IsChanging, FitsKind, AreInOrder, path_cmp}
+use Rattle.pod_command.specs.Readers.{both, tagged, number_at}
 use Rattle.pod_command.specs.Reading.{is_absolute, is_path, is_graph, is_rising, text_at, iri_at, path_at, literal_of, tagged_of, term_after, term_at, triple_of, triple_at, graph_at, kind_after, kind_at, graph_content_at, bytes_of, bytes_content_at, content_at, row_of, row_at, change_of, touch_of, edit_after, edit_at, agent_after, agent_at, who_after, who_at, basis_of, basis_at, method_after, method_at, Origin, Requested, origin_at, request_at, rows_at}
-use Rattle.pod_command.specs.Storable.{IsNumber, IsCounted, IsText, IsIriText, IsPathText, IsListOf, IsStorableTerm, IsStorableTriple, IsStorableGraph, IsStorableContent, IsStorableRow, IsStorableEdit, IsStorableAgent, IsStorableWho, IsStorableBasis}
+use Rattle.pod_command.specs.Storable.{IsNumber, IsText, IsIriText, IsPathText, IsListOf, IsStorableTerm, IsStorableTriple, IsStorableGraph, IsStorableContent, IsStorableRow, IsStorableEdit, IsStorableAgent, IsStorableWho, IsStorableBasis}
 use Rattle.pod_command.specs.StoredForms.{number_bytes, text_bytes, list_bytes, term_bytes, triple_bytes, graph_bytes, kind_byte, content_bytes, row_bytes, edit_bytes, agent_bytes, who_bytes, basis_bytes, method_byte}
-use Rattle.pod_command.specs.declared.basis.Basis.{Basis}
 use Rattle.pod_command.specs.declared.basis.Who.{Who}
 use Rattle.pod_command.specs.declared.basis.Who.TheVariants as whos
 use Rattle.pod_command.specs.declared.edit.Edit.{Edit}
@@ -25,8 +24,7 @@ use Rattle.pod_command.specs.declared.row.Content.{Content}
 use Rattle.pod_command.specs.declared.row.Content.TheVariants as contents
 use Rattle.pod_command.specs.declared.row.Kind.{Kind}
 use Rattle.pod_command.specs.declared.row.Kind.TheVariants as kinds
-use Rattle.pod_command.specs.declared.row.Row.{Row}
-use Rattle.pod_command.proofs.ReadLaws.{Reads, AfterTags, Taken, placed_takes, both_reads, both_by_reads, mapped_reads, mapped_again, same_reads, checked_reads, tag_case, no_tags, tagged_reads, just_reads, number_reads, piece_reads, list_reads}
+use Rattle.pod_command.proofs.ReadLaws.{Reads, AfterTags, placed_takes, both_reads, both_by_reads, mapped_reads, mapped_again, same_reads, checked_reads, tag_case, no_tags, tagged_reads, just_reads, number_reads, piece_reads, list_reads}
 use Rattle.pod_command.proofs.Deciders.{utf8_decides, absolute_decides, path_decides, graph_decides, rows_decide}
 
 pub text_reads : Reads IsText text_bytes text_at

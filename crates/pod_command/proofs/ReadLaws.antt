@@ -3,13 +3,13 @@
 use Rattle.std.proofs.Common.{◌≡◌, ◌⊎◌, ℕ, zero, suc, ◌+◌, ◌^◌, ◌<◌, ◌≤◌, Bool, true, false, cond, eqb, ltb, List, [], ◌∷◌, ◌++◌, length, get_or, take, drop, Option, Some, None, refl, sym, ap, subst, ◌∙◌, append_assoc, arith, inl, inr}
 use Rattle.std.specs.Bool.{Decides}
 use Rattle.std.specs.List.{flat_map, AllByRecursion}
-use Rattle.std.specs.Int.{w64, from_be_bytes, to_be_bytes}
-use Rattle.std.proofs.lemmas.Bool.{cases_lt, cases_eq, eqb-true, eq-eqb, ltb-false, le-ltb}
+use Rattle.std.specs.Int.{w64, from_be_bytes}
+use Rattle.std.proofs.lemmas.Bool.{cases_lt, eqb-true, ltb-false, le-ltb}
 use Rattle.std.proofs.lemmas.List.{take_at, drop_at, take-append-drop, length-append, length-take, get_or-drop, get_or-take, get_or_past, append-nil, nil_from_length}
 use Rattle.std.proofs.lemmas.List.Concat.{flat_map-cons}
 use Rattle.std.proofs.lemmas.Nat.{be_bytes_8, from_be_bytes-to_be_bytes_8}
 use Rattle.std.proofs.lemmas.Option.{same_Some, cond_some}
-use Rattle.pod_command.specs.Readers.{◌>>=◌, both_by, both, mapped, checked, just, byte_at, tagged, after_tag, no_tag, number_at, piece_at, times_at, list_at, whole}
+use Rattle.pod_command.specs.Readers.{◌>>=◌, both_by, both, mapped, checked, just, tagged, after_tag, no_tag, number_at, piece_at, times_at, list_at, whole}
 use Rattle.pod_command.specs.Storable.{IsNumber, IsCounted, IsListOf}
 use Rattle.pod_command.specs.StoredForms.{number_bytes, text_bytes, list_bytes}
 

@@ -1,15 +1,13 @@
 -- Whole entries and snapshots are read by their forms.
-use Rattle.std.proofs.Common.{◌≡◌, ℕ, List, [], ◌∷◌, ◌++◌, Option, Some, None, Result, Ok, Err, refl, sym, ap, ◌∙◌, arith}
+use Rattle.std.proofs.Common.{◌≡◌, ℕ, List, [], ◌∷◌, ◌++◌, Option, Some, Result, Ok, Err, refl, sym, ap, ◌∙◌, arith}
 use Rattle.std.specs.Prelude.{IfOk, IsErrOf}
-use Rattle.std.proofs.lemmas.Option.{same_Some}
 use Rattle.pod_command.specs.Bare.{bare_entry, without_bases, bare_snapshot}
 use Rattle.pod_command.specs.Encodable.{IsEncodable, IsEncodableSnapshot, HasFittingContent, IsFittingEdit}
-use Rattle.pod_command.specs.Readers.{Gives, mapped, tagged, after_tag, no_tag, whole}
-use Rattle.pod_command.specs.Reading.{Origin, Requested, entry_of_1, entry_of_2, old_entry_at, new_entry_at, entry_1_in, entry_in, snapshot_of, snapshot_at, snapshot_in}
+use Rattle.pod_command.specs.Readers.{Gives, tagged, after_tag, no_tag}
+use Rattle.pod_command.specs.Reading.{entry_of_1, entry_of_2, old_entry_at, new_entry_at, entry_1_in, entry_in, snapshot_of, snapshot_at, snapshot_in}
 use Rattle.pod_command.specs.Storable.{IsListOf, IsStorable, IsStorableBasis, IsStorableEdit, IsStorableRow, IsStorableSnapshot}
 use Rattle.pod_command.specs.StoredForms.{origin_bytes, request_bytes, entry_1_bytes, entry_bytes, snapshot_bytes}
 use Rattle.std.specs.List.{AllByRecursion}
-use Rattle.pod_command.specs.declared.basis.Basis.{Basis}
 use Rattle.pod_command.specs.declared.edit.Edit.{Edit}
 use Rattle.pod_command.specs.declared.edit.Edit.TheVariants as edits
 use Rattle.pod_command.specs.declared.entry.Entry.{Entry}

@@ -1,6 +1,6 @@
 -- Entries and snapshots without the spare room of their lists. Two that agree in all else are equal
 -- values, and have one bare form.
-use Rattle.std.specs.Prelude.{ℕ, []}
+use Rattle.std.specs.Prelude.{[]}
 use Rattle.pod_base.specs.Listed.{Listed, listed}
 use Rattle.pod_command.specs.declared.entry.Entry.{Entry}
 use Rattle.pod_command.specs.declared.snapshot.Snapshot.{Snapshot}

@@ -1,5 +1,5 @@
 -- Which entries and snapshots have a stored form.
-use Rattle.std.specs.Prelude.{ℕ, List, ◌<◌}
+use Rattle.std.specs.Prelude.{List}
 use Rattle.std.specs.List.{AllByRecursion}
 use Rattle.std.specs.List.Sorted.{IsStrictlySortedBy}
 use Rattle.std.specs.Ordering.{on}

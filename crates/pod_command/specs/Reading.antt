@@ -1,5 +1,6 @@
 -- The readers of stored forms.
-use Rattle.std.specs.Prelude.{◌≡◌, ℕ, Bool, true, false, not, ◌&&◌, List, [], ◌∷◌, Option, Some, None, Result, Ok, Err}
+use Rattle.std.specs.Prelude.{ℕ, Bool, true, false, not, ◌&&◌, List, [], ◌∷◌, Option}
+use Rattle.std.specs.Prelude.{Result, Ok, Err}
 use Rattle.std.specs.Prelude.{bytes_eq, ◌==◌, if◌then◌else◌}
 use Rattle.std.specs.List.{list_all}
 use Rattle.std.specs.Str.{is_utf8}
@@ -18,8 +19,8 @@ use Rattle.rdf_graph.specs.declared.term.Term.{Term}
 use Rattle.rdf_graph.specs.declared.term.Term.TheVariants as terms
 use Rattle.rdf_graph.specs.declared.triple.Triple.{Triple}
 use Rattle.pod_command.specs.Encodable.{path_cmp}
-use Rattle.pod_command.specs.Readers.{both, both_by, mapped, checked, just, tagged, after_tag, no_tag, whole}
-use Rattle.pod_command.specs.Readers.{number_at, piece_at, list_at}
+use Rattle.pod_command.specs.Readers.{Reader, both, both_by, mapped, checked, just, tagged}
+use Rattle.pod_command.specs.Readers.{after_tag, no_tag, whole, number_at, piece_at, list_at}
 use Rattle.pod_command.specs.declared.basis.Basis.{Basis}
 use Rattle.pod_command.specs.declared.basis.Who.{Who}
 use Rattle.pod_command.specs.declared.basis.Who.TheVariants as whos
@@ -36,7 +37,8 @@ use Rattle.pod_command.specs.declared.snapshot.Snapshot.{Snapshot}
 -- whether what is left of a scheme comes next, and a colon
 abbrev pub is_rest_of_scheme : List ℕ → Bool
 is_rest_of_scheme [] = false
-is_rest_of_scheme (c ∷ cs) = if c == colon then true else (is_scheme_character c && is_rest_of_scheme cs)
+is_rest_of_scheme (c ∷ cs) =
+    if c == colon then true else (is_scheme_character c && is_rest_of_scheme cs)
 
 -- whether a text begins with a scheme and a colon
 abbrev pub begins_with_scheme : List ℕ → Bool
@@ -89,13 +91,13 @@ is_rdf t = is_iri t.p && not (is_literal t.s)
 unfoldable pub is_graph : List Triple → Bool
 is_graph triples = is_rising triple_cmp triples && list_all is_rdf triples
 
-unfoldable pub text_at : List ℕ → Option (List ℕ × List ℕ)
+unfoldable pub text_at : Reader (List ℕ)
 text_at bytes = checked is_utf8 piece_at bytes
 
-unfoldable pub iri_at : List ℕ → Option (List ℕ × List ℕ)
+unfoldable pub iri_at : Reader (List ℕ)
 iri_at bytes = checked is_absolute text_at bytes
 
-unfoldable pub path_at : List ℕ → Option (List ℕ × List ℕ)
+unfoldable pub path_at : Reader (List ℕ)
 path_at bytes = checked is_path text_at bytes
 
 abbrev pub literal_of : List ℕ × List ℕ → Term
@@ -104,26 +106,26 @@ literal_of p = terms.Literal p.0 p.1
 abbrev pub tagged_of : List ℕ × List ℕ → Term
 tagged_of p = terms.Tagged p.0 p.1
 
-unfoldable pub term_after : ℕ → List ℕ → Option (Term × List ℕ)
+unfoldable pub term_after : ℕ → Reader Term
 term_after =
     after_tag 0 (mapped terms.Iri iri_at)
     (after_tag 1 (mapped terms.Blank text_at)
     (after_tag 2 (mapped literal_of (both text_at iri_at))
     (after_tag 3 (mapped tagged_of (both text_at text_at)) no_tag)))
 
-unfoldable pub term_at : List ℕ → Option (Term × List ℕ)
+unfoldable pub term_at : Reader Term
 term_at bytes = tagged term_after bytes
 
 abbrev pub triple_of : Term × (Term × Term) → Triple
 triple_of p = record { s = p.0; p = p.1.0; o = p.1.1 }
 
-unfoldable pub triple_at : List ℕ → Option (Triple × List ℕ)
+unfoldable pub triple_at : Reader Triple
 triple_at bytes = mapped triple_of (both term_at (both term_at term_at)) bytes
 
-unfoldable pub graph_at : List ℕ → Option (List Triple × List ℕ)
+unfoldable pub graph_at : Reader (List Triple)
 graph_at bytes = checked is_graph (list_at triple_at) bytes
 
-unfoldable pub kind_after : ℕ → List ℕ → Option (Kind × List ℕ)
+unfoldable pub kind_after : ℕ → Reader Kind
 kind_after =
     after_tag 0 (just kinds.Container)
     (after_tag 1 (just kinds.Graph)
@@ -131,20 +133,20 @@ kind_after =
     (after_tag 3 (just kinds.Bytes)
     (after_tag 4 (just kinds.Meta) no_tag))))
 
-unfoldable pub kind_at : List ℕ → Option (Kind × List ℕ)
+unfoldable pub kind_at : Reader Kind
 kind_at bytes = tagged kind_after bytes
 
-unfoldable pub graph_content_at : List ℕ → Option (Content × List ℕ)
+unfoldable pub graph_content_at : Reader Content
 graph_content_at bytes = mapped contents.Graph graph_at bytes
 
 abbrev pub bytes_of : List ℕ × List ℕ → Content
 bytes_of p = contents.Bytes p.0 p.1
 
-unfoldable pub bytes_content_at : List ℕ → Option (Content × List ℕ)
+unfoldable pub bytes_content_at : Reader Content
 bytes_content_at bytes = mapped bytes_of (both text_at piece_at) bytes
 
 -- content of this kind
-abbrev pub content_at : Kind → List ℕ → Option (Content × List ℕ)
+abbrev pub content_at : Kind → Reader Content
 content_at kinds.Container = graph_content_at
 content_at kinds.Graph = graph_content_at
 content_at kinds.Acl = graph_content_at
@@ -154,69 +156,71 @@ content_at kinds.Meta = graph_content_at
 abbrev pub row_of : List ℕ × (Kind × (ℕ × Content)) → Row
 row_of p = record { path = p.0; kind = p.1.0; modified = record { 0 = p.1.1.0 }; content = p.1.1.1 }
 
-unfoldable pub row_at : List ℕ → Option (Row × List ℕ)
-row_at bytes = mapped row_of (both path_at (both_by kind_at (λ kind. both number_at (content_at kind)))) bytes
+unfoldable pub row_at : Reader Row
+row_at bytes =
+    mapped row_of (both path_at (both_by kind_at (λ kind. both number_at (content_at kind)))) bytes
 
 abbrev pub change_of : List ℕ × (ℕ × (List Triple × List Triple)) → Edit
-change_of p = edits.Change p.0 (record { removed = p.1.1.0; added = p.1.1.1 }) (record { 0 = p.1.0 })
+change_of p =
+    edits.Change p.0 (record { removed = p.1.1.0; added = p.1.1.1 }) (record { 0 = p.1.0 })
 
 abbrev pub touch_of : List ℕ × ℕ → Edit
 touch_of p = edits.Touch p.0 (record { 0 = p.1 })
 
-unfoldable pub edit_after : ℕ → List ℕ → Option (Edit × List ℕ)
+unfoldable pub edit_after : ℕ → Reader Edit
 edit_after =
     after_tag 0 (mapped edits.Put row_at)
     (after_tag 1 (mapped change_of (both path_at (both number_at (both graph_at graph_at))))
     (after_tag 2 (mapped touch_of (both path_at number_at))
     (after_tag 3 (mapped edits.Remove path_at) no_tag)))
 
-unfoldable pub edit_at : List ℕ → Option (Edit × List ℕ)
+unfoldable pub edit_at : Reader Edit
 edit_at bytes = tagged edit_after bytes
 
-unfoldable pub agent_after : ℕ → List ℕ → Option (Agent × List ℕ)
+unfoldable pub agent_after : ℕ → Reader Agent
 agent_after = after_tag 0 (just agents.Public) (after_tag 1 (mapped agents.Known text_at) no_tag)
 
-unfoldable pub agent_at : List ℕ → Option (Agent × List ℕ)
+unfoldable pub agent_at : Reader Agent
 agent_at bytes = tagged agent_after bytes
 
-unfoldable pub who_after : ℕ → List ℕ → Option (Who × List ℕ)
+unfoldable pub who_after : ℕ → Reader Who
 who_after =
     after_tag 0 (just whos.Agent)
     (after_tag 1 (just whos.Everyone)
     (after_tag 2 (just whos.Authenticated)
     (after_tag 3 (mapped whos.Group text_at) no_tag)))
 
-unfoldable pub who_at : List ℕ → Option (Who × List ℕ)
+unfoldable pub who_at : Reader Who
 who_at bytes = tagged who_after bytes
 
 abbrev pub basis_of : List ℕ × (Term × Who) → Basis
 basis_of p = record { acl = p.0; rule = p.1.0; who = p.1.1 }
 
-unfoldable pub basis_at : List ℕ → Option (Basis × List ℕ)
+unfoldable pub basis_at : Reader Basis
 basis_at bytes = mapped basis_of (both path_at (both term_at who_at)) bytes
 
-unfoldable pub method_after : ℕ → List ℕ → Option (Method × List ℕ)
+unfoldable pub method_after : ℕ → Reader Method
 method_after =
     after_tag 0 (just methods.Post)
     (after_tag 1 (just methods.Put)
     (after_tag 2 (just methods.Patch)
     (after_tag 3 (just methods.Delete) no_tag)))
 
-unfoldable pub method_at : List ℕ → Option (Method × List ℕ)
+unfoldable pub method_at : Reader Method
 method_at bytes = tagged method_after bytes
 
 -- number, connection, number of the request, and agent
 abbrev pub Origin : Type 0
 Origin = ℕ × (ℕ × (ℕ × Agent))
 
-unfoldable pub origin_at : List ℕ → Option (Origin × List ℕ)
+unfoldable pub origin_at : Reader Origin
 origin_at bytes = both number_at (both number_at (both number_at agent_at)) bytes
 
 -- moment, method and path
 abbrev pub Requested : Type 0
 Requested = ℕ × (Method × List ℕ)
 
-unfoldable pub request_at : List ℕ → Option (Requested × List ℕ)
+unfoldable pub request_at : Reader Requested
 request_at bytes = both number_at (both method_at path_at) bytes
 
 -- the entry of these parts
@@ -240,11 +244,13 @@ entry_of_1 p = made_entry p.0 p.1.0 (listed p.1.1 0) (listed [] 0)
 abbrev pub entry_of_2 : Origin × (Requested × (List Edit × List Basis)) → Entry
 entry_of_2 p = made_entry p.0 p.1.0 (listed p.1.1.0 0) (listed p.1.1.1 0)
 
-unfoldable pub old_entry_at : List ℕ → Option (Entry × List ℕ)
+unfoldable pub old_entry_at : Reader Entry
 old_entry_at bytes = mapped entry_of_1 (both origin_at (both request_at (list_at edit_at))) bytes
 
-unfoldable pub new_entry_at : List ℕ → Option (Entry × List ℕ)
-new_entry_at bytes = mapped entry_of_2 (both origin_at (both request_at (both (list_at edit_at) (list_at basis_at)))) bytes
+unfoldable pub new_entry_at : Reader Entry
+new_entry_at bytes =
+    mapped entry_of_2
+    (both origin_at (both request_at (both (list_at edit_at) (list_at basis_at)))) bytes
 
 -- all of the bytes, in format 1 and in format 2
 unfoldable pub entry_1_in : List ℕ → Option Entry
@@ -253,13 +259,13 @@ entry_1_in bytes = whole (tagged (after_tag 1 old_entry_at no_tag)) bytes
 unfoldable pub entry_in : List ℕ → Option Entry
 entry_in bytes = whole (tagged (after_tag 2 new_entry_at no_tag)) bytes
 
-unfoldable pub rows_at : List ℕ → Option (List Row × List ℕ)
+unfoldable pub rows_at : Reader (List Row)
 rows_at bytes = checked (is_rising path_cmp) (list_at row_at) bytes
 
 abbrev pub snapshot_of : ℕ × (List ℕ × (List ℕ × List Row)) → Snapshot
 snapshot_of p = record { seq = p.0; base = p.1.0; owner = p.1.1.0; rows = listed p.1.1.1 0 }
 
-unfoldable pub snapshot_at : List ℕ → Option (Snapshot × List ℕ)
+unfoldable pub snapshot_at : Reader Snapshot
 snapshot_at bytes = mapped snapshot_of (both number_at (both iri_at (both text_at rows_at))) bytes
 
 unfoldable pub snapshot_in : List ℕ → Option Snapshot

@@ -1,5 +1,5 @@
--- What the values of the types are. Clauses see numbers, texts and lists of any kind; those of a value
--- are bounded, UTF-8, absolute, normal and so on.
+-- What the values of the types are. Clauses see numbers, texts and lists of any kind; those of a
+-- value are bounded, UTF-8, absolute, normal and so on.
 use Rattle.std.specs.Prelude.{ℕ, List, length, ◌<◌, ◌^◌}
 use Rattle.std.specs.List.{AllByRecursion}
 use Rattle.std.specs.Str.{IsUtf8}
@@ -68,7 +68,8 @@ pub record IsStorableRow (r : Row) : Type 0 where
 abbrev pub IsStorableEdit : Edit → Type 0
 IsStorableEdit (edits.Put row) = IsStorableRow row
 IsStorableEdit (edits.Change path change modified) =
-    IsPathText path × (IsNumber modified.0 × (IsStorableGraph change.removed × IsStorableGraph change.added))
+    IsPathText path
+    × (IsNumber modified.0 × (IsStorableGraph change.removed × IsStorableGraph change.added))
 IsStorableEdit (edits.Touch path modified) = IsPathText path × IsNumber modified.0
 IsStorableEdit (edits.Remove path) = IsPathText path
 

@@ -59,12 +59,14 @@ content_bytes (contents.Graph triples) = graph_bytes triples
 content_bytes (contents.Bytes ctype bytes) = text_bytes ctype ++ text_bytes bytes
 
 unfoldable pub row_bytes : Row → List ℕ
-row_bytes r = text_bytes r.path ++ (kind_byte r.kind ∷ (number_bytes r.modified.0 ++ content_bytes r.content))
+row_bytes r =
+    text_bytes r.path ++ (kind_byte r.kind ∷ (number_bytes r.modified.0 ++ content_bytes r.content))
 
 unfoldable pub edit_bytes : Edit → List ℕ
 edit_bytes (edits.Put row) = 0 ∷ row_bytes row
 edit_bytes (edits.Change path change modified) =
-    1 ∷ (text_bytes path ++ (number_bytes modified.0 ++ (graph_bytes change.removed ++ graph_bytes change.added)))
+    1 ∷ (text_bytes path
+    ++ (number_bytes modified.0 ++ (graph_bytes change.removed ++ graph_bytes change.added)))
 edit_bytes (edits.Touch path modified) = 2 ∷ (text_bytes path ++ number_bytes modified.0)
 edit_bytes (edits.Remove path) = 3 ∷ text_bytes path
 
@@ -94,7 +96,8 @@ method_byte methods.Other = 4
 
 -- who made the change: its number, the connection, the request's number in it, and the agent
 unfoldable pub origin_bytes : Entry → List ℕ
-origin_bytes e = number_bytes e.seq ++ (number_bytes e.conn ++ (number_bytes e.number ++ agent_bytes e.agent))
+origin_bytes e =
+    number_bytes e.seq ++ (number_bytes e.conn ++ (number_bytes e.number ++ agent_bytes e.agent))
 
 -- what was requested: the moment, the method and the path
 unfoldable pub request_bytes : Entry → List ℕ
@@ -107,8 +110,11 @@ entry_1_bytes e = 1 ∷ (origin_bytes e ++ (request_bytes e ++ list_bytes edit_b
 -- an entry in format 2
 unfoldable pub entry_bytes : Entry → List ℕ
 entry_bytes e =
-    2 ∷ (origin_bytes e ++ (request_bytes e ++ (list_bytes edit_bytes e.edits.items ++ list_bytes basis_bytes e.bases.items)))
+    2 ∷ (origin_bytes e ++ (request_bytes e
+    ++ (list_bytes edit_bytes e.edits.items ++ list_bytes basis_bytes e.bases.items)))
 
 -- a snapshot, in both formats
 unfoldable pub snapshot_bytes : Snapshot → List ℕ
-snapshot_bytes s = 0 ∷ (number_bytes s.seq ++ (text_bytes s.base ++ (text_bytes s.owner ++ list_bytes row_bytes s.rows.items)))
+snapshot_bytes s =
+    0 ∷ (number_bytes s.seq
+    ++ (text_bytes s.base ++ (text_bytes s.owner ++ list_bytes row_bytes s.rows.items)))

@@ -3,7 +3,8 @@ ghost use Rattle.std.specs.Prelude.{◌≡◌, ◌++◌, length, OnOk};
 ghost use Rattle.rdf_graph.specs.Size.{saturated};
 ghost use Rattle.pod_command.specs.Encodable.{IsFittingEdit};
 ghost use Rattle.pod_command.specs.Readers.{Gives, both, mapped};
-ghost use Rattle.pod_command.specs.Reading.{change_of, edit_after, edit_at, graph_at, path_at, touch_of};
+ghost use Rattle.pod_command.specs.Reading.{change_of, edit_after, edit_at, graph_at, path_at};
+ghost use Rattle.pod_command.specs.Reading.{touch_of};
 ghost use Rattle.pod_command.specs.Readers.{number_at};
 ghost use Rattle.pod_command.specs.Storable.{IsStorableEdit};
 ghost use Rattle.pod_command.specs.StoredForms.{edit_bytes};
@@ -123,7 +124,8 @@ fn change_of(alloc: Global, bytes: &[u8]) -> Result<(Edit, &[u8]), ReadBack>
 
 /// A touch.
 fn touch_of(alloc: Global, bytes: &[u8]) -> Result<(Edit, &[u8]), ReadBack>
-    ensures { Gives (λ x. (x.0, x.1.now)) result (mapped touch_of (both path_at number_at) bytes.now) }
+    ensures { Gives (λ x. (x.0, x.1.now)) result
+        (mapped touch_of (both path_at number_at) bytes.now) }
 {
     let (path, rest) = path_of(alloc, bytes)?;
     let (modified, rest) = number_of(rest)?;

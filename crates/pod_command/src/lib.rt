@@ -7,11 +7,12 @@
 //! let snapshot = decode_snapshot(alloc, first_record)?;    // the whole pod
 //! ```
 //!
-//! Encoding gives the form of the value (clause `form`), and decoding the only value that has the form
-//! (`form`, `only`); `NotCanonical` comes exactly where there is none (`refused`). What is decoded can be
-//! encoded (`encodable`), and what is encoded can be decoded (`storable`). [`laws`] says that no two
-//! values have one form. The forms are `specs/StoredForms.antt`; which values have one is
-//! `specs/Storable.antt`. The crate stands on `pod_base`, `iri_ref`, `pod_path` and `rdf_graph`.
+//! Encoding gives the form of the value (clause `form`), and decoding the only value that has the
+//! form (`form`, `only`); `NotCanonical` comes exactly where there is none (`refused`). What is
+//! decoded can be encoded (`encodable`), and what is encoded can be decoded (`storable`). [`laws`]
+//! says that no two values have one form. The forms are `specs/StoredForms.antt`; which values have
+//! one is `specs/Storable.antt`. The crate stands on `pod_base`, `iri_ref`, `pod_path` and
+//! `rdf_graph`.
 #![tactic(auto)]
 
 mod basis;
@@ -39,6 +40,3 @@ pub use read_back::ReadBack;
 pub use row::{Content, Kind, Row};
 pub use snapshot::Snapshot;
 pub use snapshot_form::{decode_snapshot, encode_snapshot};
-
-#[cfg(test)]
-mod tests;

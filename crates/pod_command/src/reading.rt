@@ -1,7 +1,7 @@
 //! Numbers, texts, IRIs and paths, from the head of stored bytes.
 //!
-//! Each function returns the value and the bytes after it. The memory of a value is its own: it keeps
-//! no stored bytes alive.
+//! Each function returns the value and the bytes after it. The memory of a value is its own: it
+//! keeps no stored bytes alive.
 ghost use Rattle.std.specs.Prelude.{◌≡◌, ◌==◌, length};
 ghost use Rattle.std.specs.Prelude.{if◌then◌else◌, Some, None};
 ghost use Rattle.pod_command.specs.Readers.{Gives, byte_at, number_at, piece_at};

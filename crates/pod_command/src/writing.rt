@@ -69,12 +69,19 @@ pub(crate) fn plus(first: u64, second: u64) -> u64
     first.saturating_add(second)
 }
 
-/// The size of a byte.
+/// The number as a size.
 #[tactic(auto, unfolding(rdf_graph::specs::Size::saturated))]
+fn size_of(number: u64) -> u64
+    ensures { result ≡ saturated number }
+{
+    number
+}
+
+/// The size of a byte.
 pub(crate) fn byte_size() -> u64
     ensures { result ≡ saturated 1 }
 {
-    1
+    size_of(1)
 }
 
 /// The size of a byte and of what follows it, at most 2^64 - 1.
@@ -85,11 +92,11 @@ pub(crate) fn after_byte(rest: u64) -> u64
 }
 
 /// The size of a number.
-#[tactic(auto, unfolding(rdf_graph::specs::Size::saturated, crate::specs::StoredForms::number_bytes))]
+#[tactic(auto, unfolding(crate::specs::StoredForms::number_bytes))]
 pub(crate) fn number_size() -> u64
     ensures { (number : ℕ) → result ≡ saturated (length (number_bytes number)) }
 {
-    8
+    size_of(8)
 }
 
 /// The size of bytes after their number.

@@ -1,4 +1,4 @@
-use Rattle.std.proofs.Common.{ap, sym, ◌∙◌, arith}
+use Rattle.std.proofs.Common.{sym, ◌∙◌, arith}
 use Rattle.std.proofs.lemmas.Option.{same_Some}
 use Rattle.pod_command.specs.Reading.{entry_1_in}
 use Rattle.pod_command.proofs.Whole.{old_taken, old_found, encodable, if_given, not_given}

@@ -1,4 +1,3 @@
-use Rattle.std.proofs.Common.{◌≡◌, ◌++◌, ◌∷◌, []}
 use Rattle.std.proofs.lemmas.Result.{err_from_is_err_and}
 use Rattle.pod_command.specs.Readers.{times_at}
 use Rattle.pod_command.proofs.Loops.{goes_on, ends, is_done}
