@@ -7,11 +7,9 @@ mod classes;
 mod disks;
 mod opened;
 mod renewal;
-mod store;
 mod tears;
 
 use case_lines::bytes;
-use journal_log::Side;
 use pod_base::{Mem, NoMemory};
 use std::alloc::{AllocError, Global};
 use std::io;
@@ -52,51 +50,8 @@ fn of_journal(alloc: Global, fields: &[&str]) -> Mem<String> {
     }
 }
 
-/// The numbers of a field, separated by commas.
-fn numbers(alloc: Global, field: &str) -> Mem<Vec<u64>> {
-    let mut list = Vec::new(alloc);
-    for piece in field.split(',') {
-        list.push(number(piece))?;
-    }
-    Ok(list)
-}
-
-/// The side that a field names.
-fn side(field: &str) -> Side {
-    if field == "first" {
-        Side::First
-    } else {
-        Side::Second
-    }
-}
-
-/// The cases of a journal on two disks.
-fn of_store(alloc: Global, fields: &[&str]) -> Mem<String> {
-    match fields {
-        ["store", first, second] => {
-            store::opened(alloc, bytes(alloc, first)?, bytes(alloc, second)?)
-        }
-        ["store_calls", first, second] => {
-            store::open_calls(alloc, bytes(alloc, first)?, bytes(alloc, second)?)
-        }
-        ["store_init"] => store::init_calls(alloc),
-        ["store_changes", first, second, failing, beside, changes @ ..] => {
-            let images = (bytes(alloc, first)?, bytes(alloc, second)?);
-            let failing = (numbers(alloc, failing)?, numbers(alloc, beside)?);
-            store::changed(alloc, images, failing, changes)
-        }
-        ["store_crash", first, second, failing, beside, on, count, tears, changes @ ..] => {
-            let images = (bytes(alloc, first)?, bytes(alloc, second)?);
-            let failing = (numbers(alloc, failing)?, numbers(alloc, beside)?);
-            let crash = (side(on), number(count), *tears);
-            store::crashes(alloc, images, failing, crash, changes)
-        }
-        _ => of_journal(alloc, fields),
-    }
-}
-
 fn answer(alloc: Global, fields: &[&str]) -> Result<String, AllocError> {
-    match of_store(alloc, fields) {
+    match of_journal(alloc, fields) {
         Ok(text) => Ok(text),
         Err(NoMemory) => Err(AllocError),
     }
