@@ -120,8 +120,8 @@ impl Pair {
         self.snapshot
     }
 
-    /// Whether a gate may be open though what follows it isn't to count: the last gate of the active
-    /// journal, or the first gate of a checkpoint. Then [`repair`](Pair::repair) has to close it
+    /// Whether a gate may be open though what follows it isn't to count: the last gate of the
+    /// active journal, or the first gate of a checkpoint. Then [`repair`](Pair::repair) closes it
     /// before anything else.
     pub fn needs_repair(&self) -> bool
         ensures { result ≡ (self.now.checkpoint || self.now.journal.doubt) }
