@@ -1,16 +1,12 @@
 -- Each step keeps the meaning of the stack: what is read after it was read with the symbol before.
-use Rattle.std.proofs.Common.{◌≡◌, ℕ, ◌+◌, List, [], ◌∷◌, ◌++◌, Bool, true, false, Option, Some, None, ◌⊎◌, inl, inr, refl, ap, ◌∙◌}
+use Rattle.std.proofs.Common.{◌≡◌, ℕ, List, [], ◌∷◌, ◌++◌, Bool, true, false, Option, Some, None, inl, inr, refl, ap, ◌∙◌}
 use Rattle.turtle_lex.specs.declared.token.TokenKind.TheVariants as kind
-use Rattle.turtle_grammar.specs.declared.symbol.Start.{Start}
-use Rattle.turtle_grammar.specs.declared.symbol.Start.TheVariants as start_of
 use Rattle.turtle_grammar.specs.declared.symbol.Symbol.{Symbol}
 use Rattle.turtle_grammar.specs.declared.symbol.Symbol.TheVariants.{Token, Insert, Delete, Data}
 use Rattle.turtle_grammar.specs.declared.production.Node.{Node}
 use Rattle.turtle_grammar.specs.declared.production.Node.TheVariants as node
 use Rattle.turtle_grammar.specs.declared.production.Within.{Within}
-use Rattle.turtle_grammar.specs.declared.production.Within.TheVariants as within
 use Rattle.turtle_grammar.specs.declared.goal.FormulaUse.{FormulaUse}
-use Rattle.turtle_grammar.specs.declared.goal.FormulaUse.TheVariants as formula_use
 use Rattle.turtle_grammar.specs.declared.goal.Closer.{Closer}
 use Rattle.turtle_grammar.specs.declared.goal.Closer.TheVariants as closer
 use Rattle.turtle_grammar.specs.declared.goal.CellUse.{CellUse}
@@ -20,45 +16,39 @@ use Rattle.turtle_grammar.specs.declared.goal.Goal.{Goal}
 use Rattle.turtle_grammar.specs.declared.goal.Goal.TheVariants as goal
 use Rattle.turtle_grammar.specs.declared.goal.Rest.{Rest}
 use Rattle.turtle_grammar.specs.declared.goal.Rest.TheVariants as rest_of
-use Rattle.turtle_grammar.specs.Trees.{Iri, iri_ref, pname_ln, pname_ns}
-use Rattle.turtle_grammar.specs.Trees.{Literal, string, tagged_string, typed_string, integer}
+use Rattle.turtle_grammar.specs.Trees.{iri_ref, pname_ln, pname_ns}
+use Rattle.turtle_grammar.specs.Trees.{string, tagged_string, typed_string, integer}
 use Rattle.turtle_grammar.specs.Trees.{decimal, double, true_word, false_word}
 use Rattle.turtle_grammar.specs.Trees.{Verb, predicate, a_word, verb_variable}
-use Rattle.turtle_grammar.specs.Trees.{Subject, subject_iri, subject_label, subject_anon}
+use Rattle.turtle_grammar.specs.Trees.{subject_iri, subject_label, subject_anon}
 use Rattle.turtle_grammar.specs.Trees.{subject_collection, subject_variable}
 use Rattle.turtle_grammar.specs.Trees.{Object, iri, label, anon, collection, property_list}
-use Rattle.turtle_grammar.specs.Trees.{literal, variable, formula, Objects, none, more}
-use Rattle.turtle_grammar.specs.Trees.{PredicateObjectList, predicates, Properties, end, empty}
+use Rattle.turtle_grammar.specs.Trees.{literal, variable, formula, none, more}
+use Rattle.turtle_grammar.specs.Trees.{predicates, end, empty}
 use Rattle.turtle_grammar.specs.Trees.{also, Triples, about, lone_list, about_list}
-use Rattle.turtle_grammar.specs.Trees.{Formula, void, triples, Tail, last, dot}
-use Rattle.turtle_grammar.specs.Trees.{Statement, at_prefix, at_base, sparql_prefix, sparql_base}
+use Rattle.turtle_grammar.specs.Trees.{void, triples, last, dot}
+use Rattle.turtle_grammar.specs.Trees.{at_prefix, at_base, sparql_prefix, sparql_base}
 use Rattle.turtle_grammar.specs.Trees.{statement, Operation, insert_data, delete_data}
-use Rattle.turtle_grammar.specs.Trees.{Update, no_operation, update_base, update_prefix}
+use Rattle.turtle_grammar.specs.Trees.{Update, update_base, update_prefix}
 use Rattle.turtle_grammar.specs.Trees.{last_operation, operation_and}
-use Rattle.turtle_grammar.specs.TreeSymbols.{iri_symbol, literal_symbols, verb_symbol}
-use Rattle.turtle_grammar.specs.TreeSymbols.{subject_symbols, object_symbols, element_symbols}
-use Rattle.turtle_grammar.specs.TreeSymbols.{other_symbols, list_symbols, property_symbols}
-use Rattle.turtle_grammar.specs.TreeSymbols.{triples_symbols, formula_symbols, tail_symbols}
-use Rattle.turtle_grammar.specs.TreeSymbols.{statement_symbols, document_symbols}
-use Rattle.turtle_grammar.specs.TreeSymbols.{operation_symbols, update_symbols}
-use Rattle.turtle_grammar.specs.Productions.{Point, start_point, passed, fresh, counted, moved}
-use Rattle.turtle_grammar.specs.Productions.{produces, prefix_end, base_end, data_end}
-use Rattle.turtle_grammar.specs.Productions.{triple_at, says, says_token, literal_end}
-use Rattle.turtle_grammar.specs.Productions.{collection_node, subject_node, subject_end}
-use Rattle.turtle_grammar.specs.Productions.{collection_end, object_end, element_end, other_end}
-use Rattle.turtle_grammar.specs.Productions.{list_end, property_end, triples_end, formula_end}
-use Rattle.turtle_grammar.specs.Productions.{tail_end, statement_end, document_end}
-use Rattle.turtle_grammar.specs.Productions.{operation_end, update_end}
-use Rattle.turtle_grammar.specs.Derivations.{Tree, tree_symbols, tree_end}
-use Rattle.turtle_grammar.specs.Stacks.{Step, Stage, stage_to, staged, before, then, reach, run}
-use Rattle.turtle_grammar.specs.Stacks.{step, take_symbol, begins, one, closes, subject_of}
-use Rattle.turtle_grammar.specs.Stacks.{formula_closed, collected, first_rest, dot_goals}
-use Rattle.turtle_grammar.specs.Stacks as stacks
+use Rattle.turtle_grammar.specs.TreeSymbols.{verb_symbol}
+use Rattle.turtle_grammar.specs.TreeSymbols.{object_symbols, element_symbols}
+use Rattle.turtle_grammar.specs.TreeSymbols.{list_symbols}
+use Rattle.turtle_grammar.specs.TreeSymbols.{triples_symbols}
+use Rattle.turtle_grammar.specs.TreeSymbols.{operation_symbols}
+use Rattle.turtle_grammar.specs.Productions.{Point, passed, fresh, counted}
+use Rattle.turtle_grammar.specs.Productions.{triple_at, says}
+use Rattle.turtle_grammar.specs.Productions.{object_end}
+use Rattle.turtle_grammar.specs.Productions.{list_end, triples_end}
+use Rattle.turtle_grammar.specs.Productions.{operation_end}
+use Rattle.turtle_grammar.specs.Stacks.{Stage, staged, before, then, reach}
+use Rattle.turtle_grammar.specs.Stacks.{step, take_symbol, one, closes, subject_of}
+use Rattle.turtle_grammar.specs.Stacks.{dot_goals}
 use Rattle.turtle_grammar.proofs.Completions.{Ending, plain, tag, datatype, ending_symbols, ending_end}
-use Rattle.turtle_grammar.proofs.Completions.{ended, Closing, close_symbols, close_end, Completion}
+use Rattle.turtle_grammar.proofs.Completions.{Closing, close_symbols, close_end}
 use Rattle.turtle_grammar.proofs.Completions.{again_symbols, again_end, maybe_symbols, maybe_end}
-use Rattle.turtle_grammar.proofs.Completions.{dot_symbols, dot_end, completion_symbols, completion_end}
-use Rattle.turtle_grammar.proofs.Completions.{RestTree, rest_symbols, rest_end, Reads}
+use Rattle.turtle_grammar.proofs.Completions.{dot_symbols, dot_end}
+use Rattle.turtle_grammar.proofs.Completions.{rest_symbols, rest_end, Reads}
 
 abbrev pub On : Option Stage → (Stage → Type 0) → Type 0
 On None P = Unit {0}

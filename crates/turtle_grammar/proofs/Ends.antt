@@ -1,19 +1,16 @@
 -- What a step produces ends at its symbol, and the triple of a waiting String before it.
-use Rattle.std.proofs.Common.{◌≡◌, ℕ, ◌+◌, ◌-◌, ◌<◌, ◌≤◌, List, [], ◌∷◌, ◌++◌, length, Bool, true, false, cond, Option, Some, None, refl, sym, ap, ◌∙◌, subst, append_assoc, arith}
+use Rattle.std.proofs.Common.{◌≡◌, ℕ, ◌+◌, List, [], ◌∷◌, ◌++◌, Bool, true, false, Option, Some, None, refl, sym, ap, ◌∙◌, subst, append_assoc}
 use Rattle.std.proofs.lemmas.List.{append-nil}
-use Rattle.std.proofs.lemmas.List.Elements.{All-nil, All-cons, All-push, All-append, All-weaker}
+use Rattle.std.proofs.lemmas.List.Elements.{All-nil, All-cons}
 use Rattle.std.specs.List.{All}
 use Rattle.turtle_grammar.specs.declared.production.Production.{Production}
 use Rattle.turtle_grammar.specs.declared.production.Production.TheVariants.{Prefix, Base, Triple}
 use Rattle.turtle_lex.specs.declared.token.TokenKind.TheVariants as kind
-use Rattle.turtle_grammar.specs.declared.symbol.Start.{Start}
-use Rattle.turtle_grammar.specs.declared.symbol.Start.TheVariants as start_of
 use Rattle.turtle_grammar.specs.declared.symbol.Symbol.{Symbol}
-use Rattle.turtle_grammar.specs.declared.symbol.Symbol.TheVariants.{Token, Insert, Delete, Data}
+use Rattle.turtle_grammar.specs.declared.symbol.Symbol.TheVariants.{Token, Data}
 use Rattle.turtle_grammar.specs.declared.production.Node.{Node}
 use Rattle.turtle_grammar.specs.declared.production.Node.TheVariants as node
 use Rattle.turtle_grammar.specs.declared.production.Within.{Within}
-use Rattle.turtle_grammar.specs.declared.production.Within.TheVariants as within
 use Rattle.turtle_grammar.specs.declared.goal.FormulaUse.{FormulaUse}
 use Rattle.turtle_grammar.specs.declared.goal.FormulaUse.TheVariants as formula_use
 use Rattle.turtle_grammar.specs.declared.goal.Closer.{Closer}
@@ -24,17 +21,15 @@ use Rattle.turtle_grammar.specs.declared.goal.CollectionUse.{CollectionUse}
 use Rattle.turtle_grammar.specs.declared.goal.CollectionUse.TheVariants as collection_use
 use Rattle.turtle_grammar.specs.declared.goal.Goal.{Goal}
 use Rattle.turtle_grammar.specs.declared.goal.Goal.TheVariants as goal
-use Rattle.turtle_grammar.specs.declared.goal.Rest.{Rest}
-use Rattle.turtle_grammar.specs.declared.goal.Rest.TheVariants as rest_of
-use Rattle.turtle_grammar.specs.Productions.{Point, passed, fresh, counted, moved, produces}
-use Rattle.turtle_grammar.specs.Productions.{triple_at, says}
+use Rattle.turtle_grammar.specs.Productions.{Point, passed, fresh, counted, produces}
+use Rattle.turtle_grammar.specs.Productions.{says}
 use Rattle.turtle_grammar.specs.Readings.{end_of}
-use Rattle.turtle_grammar.specs.Stacks.{Step, Stage, step_to, stage_to, staged, before, one, closes}
-use Rattle.turtle_grammar.specs.Stacks.{verb_or, after, again, predicates, perhaps, suffix, datatype}
+use Rattle.turtle_grammar.specs.Stacks.{Step, before, one, closes}
+use Rattle.turtle_grammar.specs.Stacks.{verb_or, after, again, perhaps, suffix, datatype}
 use Rattle.turtle_grammar.specs.Stacks.{collected, collection, elements, subject_of, formula}
 use Rattle.turtle_grammar.specs.Stacks.{formula_closed, prefix_name, prefix_iri, base_iri, dot_only}
-use Rattle.turtle_grammar.specs.Stacks.{data_word, brace, begins, statement, update, after_operation}
-use Rattle.turtle_grammar.specs.Stacks.{take_symbol, step, dot_goals}
+use Rattle.turtle_grammar.specs.Stacks.{data_word, brace, begins, statement}
+use Rattle.turtle_grammar.specs.Stacks.{dot_goals}
 
 -- a String that waits at the top is the symbol at i
 abbrev pub WaitsAt : ℕ → List Goal → Type 0

@@ -1,6 +1,6 @@
 -- Each step keeps what the shortest ending needs: the words of an operation are wanted at the top
 -- alone, where no brace is open.
-use Rattle.std.proofs.Common.{◌≡◌, ℕ, ◌+◌, ◌-◌, ◌<◌, List, [], ◌∷◌, ◌++◌, Bool, true, false, cond, nat_lt, Option, Some, None, refl, sym, ap, ◌∙◌, subst, arith}
+use Rattle.std.proofs.Common.{◌≡◌, ℕ, ◌<◌, List, [], ◌∷◌, ◌++◌, Bool, true, false, cond, Option, Some, None, refl, ap, ◌∙◌, arith}
 use Rattle.std.proofs.lemmas.Bool.{ltb-true}
 use Rattle.turtle_lex.specs.declared.token.TokenKind.TheVariants as kind
 use Rattle.turtle_grammar.specs.declared.symbol.Start.{Start}
@@ -10,9 +10,7 @@ use Rattle.turtle_grammar.specs.declared.symbol.Symbol.TheVariants.{Token, Inser
 use Rattle.turtle_grammar.specs.declared.production.Node.{Node}
 use Rattle.turtle_grammar.specs.declared.production.Node.TheVariants as node
 use Rattle.turtle_grammar.specs.declared.production.Within.{Within}
-use Rattle.turtle_grammar.specs.declared.production.Within.TheVariants as within
 use Rattle.turtle_grammar.specs.declared.goal.FormulaUse.{FormulaUse}
-use Rattle.turtle_grammar.specs.declared.goal.FormulaUse.TheVariants as formula_use
 use Rattle.turtle_grammar.specs.declared.goal.Closer.{Closer}
 use Rattle.turtle_grammar.specs.declared.goal.Closer.TheVariants as closer
 use Rattle.turtle_grammar.specs.declared.goal.CellUse.{CellUse}
@@ -23,15 +21,15 @@ use Rattle.turtle_grammar.specs.declared.goal.Goal.{Goal}
 use Rattle.turtle_grammar.specs.declared.goal.Goal.TheVariants as goal
 use Rattle.turtle_grammar.specs.declared.goal.Rest.{Rest}
 use Rattle.turtle_grammar.specs.declared.goal.Rest.TheVariants as rest_of
-use Rattle.turtle_grammar.specs.Productions.{Point, passed, fresh, counted, says, triple_at}
+use Rattle.turtle_grammar.specs.Productions.{Point, fresh, counted, says, triple_at}
 use Rattle.turtle_grammar.specs.Derivations.{AreAllowed, is_allowed, has_word, braces_after, braces_from}
-use Rattle.turtle_grammar.specs.Stacks.{Step, Stage, stage_to, staged, before, then, reach}
-use Rattle.turtle_grammar.specs.Stacks.{step, take_symbol, begins, one, closes, subject_of, top}
-use Rattle.turtle_grammar.specs.Stacks.{verb_or, after, again, perhaps, suffix, datatype, collection}
+use Rattle.turtle_grammar.specs.Stacks.{Step, Stage, staged, before, then, reach}
+use Rattle.turtle_grammar.specs.Stacks.{step, take_symbol, begins, one, closes, subject_of}
+use Rattle.turtle_grammar.specs.Stacks.{verb_or, after, again, suffix, datatype, collection}
 use Rattle.turtle_grammar.specs.Stacks.{elements, formula, prefix_name, prefix_iri, base_iri, dot_goals}
 use Rattle.turtle_grammar.specs.Stacks.{dot_only, data_word, brace, statement, update, after_operation}
 use Rattle.turtle_grammar.proofs.Backward.{On}
-use Rattle.turtle_grammar.proofs.Endings.{is_word, is_inner, all_inner, WantsWord, GoalsFit, RestFits}
+use Rattle.turtle_grammar.proofs.Endings.{is_word, is_inner, all_inner, GoalsFit, RestFits}
 use Rattle.turtle_grammar.proofs.Endings.{false_true, split}
 
 -- the goals of a step: a String may wait at the top, and no word of an operation is wanted

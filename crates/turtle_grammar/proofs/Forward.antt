@@ -1,10 +1,10 @@
 -- The machine goes through the symbols of each tree, and produces what the tree produces.
-use Rattle.std.proofs.Common.{◌≡◌, ℕ, ◌+◌, List, [], ◌∷◌, Option, Some, None, refl, sym, ◌∙◌}
+use Rattle.std.proofs.Common.{◌≡◌, ℕ, List, [], ◌∷◌, Option, None, refl, ◌∙◌}
 use Rattle.turtle_lex.specs.declared.token.TokenKind.TheVariants as kind
 use Rattle.turtle_grammar.specs.declared.symbol.Start.{Start}
 use Rattle.turtle_grammar.specs.declared.symbol.Start.TheVariants as start_of
 use Rattle.turtle_grammar.specs.declared.symbol.Symbol.{Symbol}
-use Rattle.turtle_grammar.specs.declared.symbol.Symbol.TheVariants.{Token, Insert, Delete, Data}
+use Rattle.turtle_grammar.specs.declared.symbol.Symbol.TheVariants.{Token}
 use Rattle.turtle_grammar.specs.declared.production.Node.{Node}
 use Rattle.turtle_grammar.specs.declared.production.Node.TheVariants as node
 use Rattle.turtle_grammar.specs.declared.production.Within.TheVariants as within
@@ -42,8 +42,8 @@ use Rattle.turtle_grammar.specs.TreeSymbols.{statement_symbols, document_symbols
 use Rattle.turtle_grammar.specs.TreeSymbols.{operation_symbols, update_symbols}
 use Rattle.turtle_grammar.specs.Productions.{Point, start_point, passed, fresh, counted, moved}
 use Rattle.turtle_grammar.specs.Productions.{triple_at, says, says_token, literal_end}
-use Rattle.turtle_grammar.specs.Productions.{collection_node, subject_node, subject_end}
-use Rattle.turtle_grammar.specs.Productions.{collection_end, object_end, element_end, other_end}
+use Rattle.turtle_grammar.specs.Productions.{subject_node, subject_end}
+use Rattle.turtle_grammar.specs.Productions.{object_end, element_end, other_end}
 use Rattle.turtle_grammar.specs.Productions.{list_end, property_end, triples_end, formula_end}
 use Rattle.turtle_grammar.specs.Productions.{tail_end, statement_end, document_end}
 use Rattle.turtle_grammar.specs.Productions.{operation_end, update_end}

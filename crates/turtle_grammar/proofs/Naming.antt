@@ -1,18 +1,14 @@
 -- What a step names: tokens that the goals name, and its own.
-use Rattle.std.proofs.Common.{◌≡◌, ℕ, ◌+◌, ◌<◌, ◌≤◌, List, [], ◌∷◌, ◌++◌, length, Bool, true, false, Option, Some, None, refl, sym, ap, ◌∙◌, subst, arith}
-use Rattle.std.proofs.lemmas.List.Elements.{All-nil, All-push}
+use Rattle.std.proofs.Common.{ℕ, List, [], ◌∷◌, ◌++◌, Bool, true, false, Option, Some, None}
+use Rattle.std.proofs.lemmas.List.Elements.{All-push}
 use Rattle.std.specs.List.{All}
-use Rattle.turtle_grammar.specs.declared.production.Production.{Production}
-use Rattle.turtle_grammar.specs.declared.production.Production.TheVariants.{Prefix, Base, Triple}
+use Rattle.turtle_grammar.specs.declared.production.Production.TheVariants.{Prefix, Base}
 use Rattle.turtle_lex.specs.declared.token.TokenKind.TheVariants as kind
-use Rattle.turtle_grammar.specs.declared.symbol.Start.{Start}
-use Rattle.turtle_grammar.specs.declared.symbol.Start.TheVariants as start_of
 use Rattle.turtle_grammar.specs.declared.symbol.Symbol.{Symbol}
 use Rattle.turtle_grammar.specs.declared.symbol.Symbol.TheVariants.{Token, Insert, Delete, Data}
 use Rattle.turtle_grammar.specs.declared.production.Node.{Node}
 use Rattle.turtle_grammar.specs.declared.production.Node.TheVariants as node
 use Rattle.turtle_grammar.specs.declared.production.Within.{Within}
-use Rattle.turtle_grammar.specs.declared.production.Within.TheVariants as within
 use Rattle.turtle_grammar.specs.declared.goal.FormulaUse.{FormulaUse}
 use Rattle.turtle_grammar.specs.declared.goal.FormulaUse.TheVariants as formula_use
 use Rattle.turtle_grammar.specs.declared.goal.Closer.{Closer}
@@ -25,10 +21,10 @@ use Rattle.turtle_grammar.specs.declared.goal.Goal.{Goal}
 use Rattle.turtle_grammar.specs.declared.goal.Goal.TheVariants as goal
 use Rattle.turtle_grammar.specs.declared.goal.Rest.{Rest}
 use Rattle.turtle_grammar.specs.declared.goal.Rest.TheVariants as rest_of
-use Rattle.turtle_grammar.specs.Productions.{Point, passed, fresh, counted, moved, produces, triple_at, says}
+use Rattle.turtle_grammar.specs.Productions.{Point, fresh, counted, moved, triple_at, says}
 use Rattle.turtle_grammar.specs.Names.{NodeNames, Names, FormulaNames, CloserNames, CellNames, CollectionNames, GoalNames, GoalsName}
-use Rattle.turtle_grammar.specs.Stacks.{Step, Stage, step_to, stage_to, staged, before, one, closes}
-use Rattle.turtle_grammar.specs.Stacks.{verb_or, after, again, predicates, perhaps, suffix, datatype}
+use Rattle.turtle_grammar.specs.Stacks.{Step, Stage, staged, before, one, closes}
+use Rattle.turtle_grammar.specs.Stacks.{verb_or, after, again, perhaps, suffix, datatype}
 use Rattle.turtle_grammar.specs.Stacks.{collected, collection, elements, subject_of, formula}
 use Rattle.turtle_grammar.specs.Stacks.{formula_closed, prefix_name, prefix_iri, base_iri, dot_only}
 use Rattle.turtle_grammar.specs.Stacks.{data_word, brace, begins, statement, update, after_operation}

@@ -1,5 +1,5 @@
 -- What a step of the machine names, as its caller sees it.
-use Rattle.std.proofs.Common.{◌≡◌, ℕ, ◌+◌, ◌<◌, ◌≤◌, List, [], ◌∷◌, ◌++◌, length, Option, Some, None, refl, sym, ap, ◌∙◌, subst, arith}
+use Rattle.std.proofs.Common.{◌≡◌, ℕ, ◌+◌, ◌<◌, ◌≤◌, List, [], ◌∷◌, ◌++◌, length, Option, Some, None, sym, ap, subst, arith}
 use Rattle.std.specs.Prelude.{IfSome}
 use Rattle.std.proofs.lemmas.List.{length-append}
 use Rattle.std.proofs.lemmas.List.Elements.{All-nil}
@@ -14,7 +14,7 @@ use Rattle.turtle_grammar.specs.declared.goal.Goal.{Goal}
 use Rattle.turtle_grammar.specs.declared.goal.Goal.TheVariants as goal
 use Rattle.turtle_grammar.specs.declared.machine.Machine.{Machine}
 use Rattle.turtle_grammar.specs.Names.{Names, IsAmong, GoalsName}
-use Rattle.turtle_grammar.specs.Stacks.{Stage, step_of, run, cleared, at_point, with_produced, waiting_goals, waiting_triple}
+use Rattle.turtle_grammar.specs.Stacks.{Stage, step_of, cleared, with_produced, waiting_goals, waiting_triple}
 use Rattle.turtle_grammar.specs.Readings.{HasRead, NamesFrom, NamesNothing, WaitingNames}
 use Rattle.turtle_grammar.proofs.Backward.{On}
 use Rattle.turtle_grammar.proofs.Waiting.{run_settled}

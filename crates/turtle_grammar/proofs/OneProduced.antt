@@ -1,38 +1,23 @@
 -- What symbols produce is one list, whatever follows them.
-use Rattle.std.proofs.Common.{◌≡◌, ℕ, ◌+◌, ◌-◌, ◌<◌, ◌≤◌, List, [], ◌∷◌, ◌++◌, length, Bool, true, false, Option, Some, None, refl, sym, ap, ◌∙◌, subst, append_assoc, arith}
+use Rattle.std.proofs.Common.{◌≡◌, ℕ, ◌+◌, ◌<◌, ◌≤◌, List, [], ◌∷◌, ◌++◌, length, true, false, Option, Some, None, refl, sym, ap, ◌∙◌, subst, append_assoc, arith}
 use Rattle.std.proofs.lemmas.List.{append-nil}
 use Rattle.std.proofs.lemmas.List.Elements.{All-nil, All-head, All-tail, All-cons, All-append, All-weaker}
 use Rattle.std.specs.List.{All}
 use Rattle.turtle_grammar.specs.declared.symbol.Start.{Start}
-use Rattle.turtle_grammar.specs.declared.production.SymbolicTriple.{SymbolicTriple}
-use Rattle.turtle_grammar.specs.declared.machine.Machine.{Machine}
 use Rattle.turtle_grammar.specs.declared.production.Production.{Production}
-use Rattle.turtle_grammar.specs.declared.production.Production.TheVariants.{Prefix, Base, Triple}
 use Rattle.turtle_lex.specs.declared.token.TokenKind.TheVariants as kind
 use Rattle.turtle_grammar.specs.declared.symbol.Start.{Start}
-use Rattle.turtle_grammar.specs.declared.symbol.Start.TheVariants as start_of
 use Rattle.turtle_grammar.specs.declared.symbol.Symbol.{Symbol}
-use Rattle.turtle_grammar.specs.declared.symbol.Symbol.TheVariants.{Token, Insert, Delete, Data}
+use Rattle.turtle_grammar.specs.declared.symbol.Symbol.TheVariants.{Token}
 use Rattle.turtle_grammar.specs.declared.production.Node.{Node}
 use Rattle.turtle_grammar.specs.declared.production.Node.TheVariants as node
-use Rattle.turtle_grammar.specs.declared.production.Within.{Within}
-use Rattle.turtle_grammar.specs.declared.production.Within.TheVariants as within
-use Rattle.turtle_grammar.specs.declared.goal.FormulaUse.{FormulaUse}
-use Rattle.turtle_grammar.specs.declared.goal.FormulaUse.TheVariants as formula_use
-use Rattle.turtle_grammar.specs.declared.goal.Closer.{Closer}
-use Rattle.turtle_grammar.specs.declared.goal.Closer.TheVariants as closer
-use Rattle.turtle_grammar.specs.declared.goal.CellUse.{CellUse}
-use Rattle.turtle_grammar.specs.declared.goal.CellUse.TheVariants as cell_use
-use Rattle.turtle_grammar.specs.declared.goal.CollectionUse.{CollectionUse}
-use Rattle.turtle_grammar.specs.declared.goal.CollectionUse.TheVariants as collection_use
 use Rattle.turtle_grammar.specs.declared.goal.Goal.{Goal}
 use Rattle.turtle_grammar.specs.declared.goal.Goal.TheVariants as goal
 use Rattle.turtle_grammar.specs.declared.goal.Rest.{Rest}
-use Rattle.turtle_grammar.specs.declared.goal.Rest.TheVariants as rest_of
 use Rattle.turtle_grammar.specs.Productions.{Point, start_point, triple_at}
-use Rattle.turtle_grammar.specs.Derivations.{AreAllowed, is_allowed, braces_after, braces_from, Derives}
+use Rattle.turtle_grammar.specs.Derivations.{AreAllowed, braces_after, braces_from}
 use Rattle.turtle_grammar.specs.Readings.{end_of, EndsString, Produces}
-use Rattle.turtle_grammar.specs.Stacks.{Stage, stage_to, take_symbol, take_of, step, then, reach, run, first_rest}
+use Rattle.turtle_grammar.specs.Stacks.{Stage, stage_to, take_symbol, step, then, reach, run, first_rest}
 use Rattle.turtle_grammar.specs.Stacks.{ended_goals, adds_to_string}
 use Rattle.turtle_grammar.proofs.Backward.{On}
 use Rattle.turtle_grammar.proofs.Endings.{all_inner, GoalsFit, RestFits}
@@ -40,7 +25,7 @@ use Rattle.turtle_grammar.proofs.Fitting.{Fits, take_fits, step_fits, inner_fit}
 use Rattle.turtle_grammar.proofs.Settling.{ends}
 use Rattle.turtle_grammar.proofs.Theorem.{reach-append, derives_only, stuck, allowed_front, allowed_rest}
 use Rattle.turtle_grammar.proofs.Ends.{Adds}
-use Rattle.turtle_grammar.proofs.Waiting.{AddsStage, take_adds, AllBefore, WaitsBefore, Ended, waits_next, run_settled, settled_fit, settled_rest, settled_at, settled_before}
+use Rattle.turtle_grammar.proofs.Waiting.{AddsStage, take_adds, AllBefore, WaitsBefore, waits_next, run_settled, settled_fit, settled_rest, settled_at, settled_before}
 
 -- from the point m to the point n all that is produced ends at b or later
 record AddsFrom (b : ℕ) (m n : Point) : Type 0 where

@@ -1,5 +1,5 @@
 -- A String that waits, and what follows it.
-use Rattle.std.proofs.Common.{◌≡◌, ℕ, List, [], ◌∷◌, Bool, true, false, Option, refl}
+use Rattle.std.proofs.Common.{◌≡◌, List, ◌∷◌, true, false, refl}
 use Rattle.turtle_lex.specs.declared.token.TokenKind.TheVariants as kind
 use Rattle.turtle_grammar.specs.declared.symbol.Symbol.{Symbol}
 use Rattle.turtle_grammar.specs.declared.symbol.Symbol.TheVariants.{Token}

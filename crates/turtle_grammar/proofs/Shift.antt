@@ -1,16 +1,13 @@
 -- What was produced before a step stays in front of what it produces.
-use Rattle.std.proofs.Common.{◌≡◌, ℕ, ◌+◌, List, [], ◌∷◌, ◌++◌, Bool, true, false, Option, Some, None, refl, sym, ap, ◌∙◌, append_assoc}
+use Rattle.std.proofs.Common.{◌≡◌, ℕ, List, [], ◌∷◌, ◌++◌, Bool, Option, Some, None, refl, ap, ◌∙◌, append_assoc}
 use Rattle.turtle_grammar.specs.declared.production.Production.{Production}
 use Rattle.turtle_grammar.specs.declared.production.Production.TheVariants.{Prefix, Base, Triple}
 use Rattle.turtle_lex.specs.declared.token.TokenKind.TheVariants as kind
-use Rattle.turtle_grammar.specs.declared.symbol.Start.{Start}
-use Rattle.turtle_grammar.specs.declared.symbol.Start.TheVariants as start_of
 use Rattle.turtle_grammar.specs.declared.symbol.Symbol.{Symbol}
-use Rattle.turtle_grammar.specs.declared.symbol.Symbol.TheVariants.{Token, Insert, Delete, Data}
+use Rattle.turtle_grammar.specs.declared.symbol.Symbol.TheVariants.{Token, Data}
 use Rattle.turtle_grammar.specs.declared.production.Node.{Node}
 use Rattle.turtle_grammar.specs.declared.production.Node.TheVariants as node
 use Rattle.turtle_grammar.specs.declared.production.Within.{Within}
-use Rattle.turtle_grammar.specs.declared.production.Within.TheVariants as within
 use Rattle.turtle_grammar.specs.declared.goal.FormulaUse.{FormulaUse}
 use Rattle.turtle_grammar.specs.declared.goal.FormulaUse.TheVariants as formula_use
 use Rattle.turtle_grammar.specs.declared.goal.Closer.{Closer}
@@ -26,7 +23,7 @@ use Rattle.turtle_grammar.specs.declared.goal.Rest.TheVariants as rest_of
 use Rattle.turtle_grammar.specs.Productions.{Point, passed, fresh, counted, moved, produces}
 use Rattle.turtle_grammar.specs.Productions.{triple_at, says}
 use Rattle.turtle_grammar.specs.Stacks.{Step, Stage, step_to, stage_to, staged, before, one, closes}
-use Rattle.turtle_grammar.specs.Stacks.{verb_or, after, again, predicates, perhaps, suffix, datatype}
+use Rattle.turtle_grammar.specs.Stacks.{verb_or, after, again, perhaps, suffix, datatype}
 use Rattle.turtle_grammar.specs.Stacks.{collected, collection, elements, subject_of, formula}
 use Rattle.turtle_grammar.specs.Stacks.{formula_closed, prefix_name, prefix_iri, base_iri, dot_only}
 use Rattle.turtle_grammar.specs.Stacks.{data_word, brace, begins, statement, update, after_operation}

@@ -1,21 +1,19 @@
 -- One step of the machine, as its caller sees it.
-use Rattle.std.proofs.Common.{◌≡◌, ℕ, ◌+◌, ◌-◌, ◌<◌, ◌≤◌, Bool, true, false, List, [], ◌∷◌, ◌++◌, length, take, drop}
-use Rattle.std.proofs.Common.{Option, Some, None, ◌⊎◌, inl, inr, refl, sym, ap, ◌∙◌, subst, arith}
+use Rattle.std.proofs.Common.{◌≡◌, ℕ, ◌+◌, ◌<◌, ◌≤◌, true, false, List, [], ◌∷◌, ◌++◌, length, take}
+use Rattle.std.proofs.Common.{Some, None, inl, inr, refl, sym, ap, ◌∙◌, subst, arith}
 use Rattle.std.proofs.lemmas.List.{append-nil, take-append-le, length-append}
 use Rattle.std.proofs.lemmas.Bool.{cases_lt}
-use Rattle.std.proofs.Math.Nat.{eq-or-lt_of_le}
 use Rattle.std.proofs.Math.Seq.{take-length}
 use Rattle.turtle_grammar.specs.declared.symbol.Start.{Start}
 use Rattle.turtle_grammar.specs.declared.symbol.Symbol.{Symbol}
 use Rattle.turtle_grammar.specs.declared.production.Production.{Production}
 use Rattle.turtle_grammar.specs.declared.fault.TheConstants.{DEPTH_LIMIT}
 use Rattle.turtle_grammar.specs.declared.machine.Machine.{Machine}
-use Rattle.turtle_grammar.specs.Productions.{Point}
 use Rattle.turtle_grammar.specs.Derivations.{AreAllowed, is_allowed, braces_after, braces_from}
-use Rattle.turtle_grammar.specs.Derivations.{depth_after, depth_from, Derives, GoesOn, IsTooDeep, IsShallow}
+use Rattle.turtle_grammar.specs.Derivations.{depth_after, depth_from, GoesOn, IsTooDeep, IsShallow}
 use Rattle.turtle_grammar.specs.Stacks.{Stage, step, step_of, run, cleared, at_point, with_produced}
 use Rattle.turtle_grammar.specs.Readings.{HasRead, produced_by}
-use Rattle.turtle_grammar.proofs.Shift.{shift, shift_stage, step_shift}
+use Rattle.turtle_grammar.proofs.Shift.{shift_stage, step_shift}
 use Rattle.turtle_grammar.proofs.Theorem.{run_next, goes_on, stuck, refused, allowed-append}
 
 braces-append : (ts : List Symbol) (t : Symbol) (n : ℕ) → braces_from n (ts ++ t ∷ []) ≡ braces_after (braces_from n ts) t

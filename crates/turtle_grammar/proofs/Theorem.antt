@@ -1,8 +1,8 @@
 -- The machine and the grammar: it takes the symbols that go on, and no goal is left where they are
 -- derived.
-use Rattle.std.proofs.Common.{◌≡◌, ℕ, ◌+◌, ◌-◌, ◌<◌, ◌≤◌, Bool, true, false, List, [], ◌∷◌, ◌++◌, length, take, drop}
-use Rattle.std.proofs.Common.{Option, Some, None, ◌⊎◌, inl, inr, refl, sym, ap, ◌∙◌, subst, arith, append_assoc}
-use Rattle.std.proofs.lemmas.List.{append-nil, take_more, take_all, take-append-drop}
+use Rattle.std.proofs.Common.{◌≡◌, ℕ, ◌+◌, ◌-◌, ◌<◌, ◌≤◌, true, false, List, [], ◌∷◌, ◌++◌, length, take, drop}
+use Rattle.std.proofs.Common.{Option, Some, None, inl, inr, refl, sym, ap, ◌∙◌, subst, arith, append_assoc}
+use Rattle.std.proofs.lemmas.List.{append-nil, take-append-drop}
 use Rattle.std.proofs.lemmas.Bool.{cases_lt}
 use Rattle.std.proofs.Math.Nat.{eq-or-lt_of_le}
 use Rattle.std.proofs.Math.Seq.{take-add}
@@ -13,11 +13,11 @@ use Rattle.turtle_grammar.specs.declared.production.Production.{Production}
 use Rattle.turtle_grammar.specs.declared.goal.Goal.{Goal}
 use Rattle.turtle_grammar.specs.declared.goal.Rest.{Rest}
 use Rattle.turtle_grammar.specs.Productions.{Point, start_point}
-use Rattle.turtle_grammar.specs.Derivations.{Tree, tree_symbols, tree_end, AreAllowed, is_allowed}
+use Rattle.turtle_grammar.specs.Derivations.{tree_end, AreAllowed, is_allowed}
 use Rattle.turtle_grammar.specs.Derivations.{braces_after, braces_from, Derives, GoesOn, IsFault}
 use Rattle.turtle_grammar.specs.Stacks.{Stage, stage_to, reach, step, step_of, then, run, first_rest}
 use Rattle.turtle_grammar.proofs.Forward.{run_tree, last_rest}
-use Rattle.turtle_grammar.proofs.Completions.{Reads, RestTree, rest_symbols, rest_end, tree_of_rest}
+use Rattle.turtle_grammar.proofs.Completions.{Reads, tree_of_rest}
 use Rattle.turtle_grammar.proofs.Backward.{On, KeepsAll, keeps_all}
 use Rattle.turtle_grammar.proofs.Endings.{ending_of, ending_point, reads_ending, reads_none, allowed_ending, RestFits}
 use Rattle.turtle_grammar.proofs.Fitting.{Fits, reach_fits}

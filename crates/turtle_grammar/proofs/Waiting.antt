@@ -1,50 +1,41 @@
 -- What was produced up to a symbol, and what a String that waits adds to it.
-use Rattle.std.proofs.Common.{◌≡◌, ℕ, ◌+◌, ◌-◌, ◌<◌, ◌≤◌, List, [], ◌∷◌, ◌++◌, length, Bool, true, false, cond, Option, Some, None, refl, sym, ap, ◌∙◌, subst, append_assoc, arith}
+use Rattle.std.proofs.Common.{◌≡◌, ℕ, ◌+◌, ◌<◌, ◌≤◌, List, [], ◌∷◌, ◌++◌, length, Bool, true, false, cond, Option, Some, None, refl, sym, ap, ◌∙◌, subst, append_assoc, arith}
 use Rattle.std.proofs.lemmas.List.{append-nil}
-use Rattle.std.proofs.lemmas.List.Elements.{All-nil, All-cons, All-push, All-append, All-weaker}
+use Rattle.std.proofs.lemmas.List.Elements.{All-nil, All-push, All-append, All-weaker}
 use Rattle.std.specs.List.{All}
 use Rattle.turtle_grammar.specs.declared.symbol.Start.{Start}
-use Rattle.turtle_grammar.specs.declared.production.SymbolicTriple.{SymbolicTriple}
 use Rattle.turtle_grammar.specs.declared.machine.Machine.{Machine}
 use Rattle.turtle_grammar.specs.declared.production.Production.{Production}
-use Rattle.turtle_grammar.specs.declared.production.Production.TheVariants.{Prefix, Base, Triple}
+use Rattle.turtle_grammar.specs.declared.production.Production.TheVariants.{Prefix, Base}
 use Rattle.turtle_lex.specs.declared.token.TokenKind.TheVariants as kind
 use Rattle.turtle_grammar.specs.declared.symbol.Start.{Start}
-use Rattle.turtle_grammar.specs.declared.symbol.Start.TheVariants as start_of
 use Rattle.turtle_grammar.specs.declared.symbol.Symbol.{Symbol}
-use Rattle.turtle_grammar.specs.declared.symbol.Symbol.TheVariants.{Token, Insert, Delete, Data}
+use Rattle.turtle_grammar.specs.declared.symbol.Symbol.TheVariants.{Token, Insert, Delete}
 use Rattle.turtle_grammar.specs.declared.production.Node.{Node}
 use Rattle.turtle_grammar.specs.declared.production.Node.TheVariants as node
-use Rattle.turtle_grammar.specs.declared.production.Within.{Within}
-use Rattle.turtle_grammar.specs.declared.production.Within.TheVariants as within
-use Rattle.turtle_grammar.specs.declared.goal.FormulaUse.{FormulaUse}
-use Rattle.turtle_grammar.specs.declared.goal.FormulaUse.TheVariants as formula_use
 use Rattle.turtle_grammar.specs.declared.goal.Closer.{Closer}
 use Rattle.turtle_grammar.specs.declared.goal.Closer.TheVariants as closer
-use Rattle.turtle_grammar.specs.declared.goal.CellUse.{CellUse}
-use Rattle.turtle_grammar.specs.declared.goal.CellUse.TheVariants as cell_use
-use Rattle.turtle_grammar.specs.declared.goal.CollectionUse.{CollectionUse}
 use Rattle.turtle_grammar.specs.declared.goal.CollectionUse.TheVariants as collection_use
 use Rattle.turtle_grammar.specs.declared.goal.Goal.{Goal}
 use Rattle.turtle_grammar.specs.declared.goal.Goal.TheVariants as goal
 use Rattle.turtle_grammar.specs.declared.goal.Rest.{Rest}
 use Rattle.turtle_grammar.specs.declared.goal.Rest.TheVariants as rest_of
-use Rattle.turtle_grammar.specs.Productions.{Point, start_point, passed, fresh, counted, moved, produces}
+use Rattle.turtle_grammar.specs.Productions.{Point, start_point, passed, fresh, counted, produces}
 use Rattle.turtle_grammar.specs.Productions.{triple_at, says, prefix_end, base_end}
-use Rattle.turtle_grammar.specs.Derivations.{AreAllowed, is_allowed, braces_after, braces_from, Derives}
+use Rattle.turtle_grammar.specs.Derivations.{AreAllowed, braces_after, braces_from, Derives}
 use Rattle.turtle_grammar.specs.Readings.{end_of, EndsString, Produces, HasRead, waiting_productions}
-use Rattle.turtle_grammar.specs.Stacks.{Step, Stage, stage_to, staged, before, begins, update, after_operation}
+use Rattle.turtle_grammar.specs.Stacks.{Step, Stage, staged, before, begins, update, after_operation}
 use Rattle.turtle_grammar.specs.Stacks.{take_symbol, step, then, reach, run, first_rest, ended_goals}
-use Rattle.turtle_grammar.specs.Stacks.{waiting_goals, waiting_triple, formula_closed, collected}
-use Rattle.turtle_grammar.proofs.Completions.{plain, Reads, Closing, close_symbols, close_end, dot_end, dot_symbols}
-use Rattle.turtle_grammar.proofs.Completions.{Completion, completion_symbols, completion_end}
+use Rattle.turtle_grammar.specs.Stacks.{waiting_goals, waiting_triple}
+use Rattle.turtle_grammar.proofs.Completions.{plain, Reads, close_symbols, close_end, dot_end}
+use Rattle.turtle_grammar.proofs.Completions.{completion_end}
 use Rattle.turtle_grammar.proofs.Backward.{On}
-use Rattle.turtle_grammar.proofs.Endings.{is_word, is_inner, all_inner, WantsWord, GoalsFit, RestFits, false_true, split}
-use Rattle.turtle_grammar.proofs.Endings.{shortest, shortest_closing, shortest_list, ending_of, ending_point}
+use Rattle.turtle_grammar.proofs.Endings.{is_inner, all_inner, WantsWord, GoalsFit, RestFits, false_true, split}
+use Rattle.turtle_grammar.proofs.Endings.{shortest, shortest_closing, ending_of, ending_point}
 use Rattle.turtle_grammar.proofs.Endings.{reads_ending, allowed_ending}
 use Rattle.turtle_grammar.proofs.Fitting.{Fits, step_fits, inner_fit}
 use Rattle.turtle_grammar.proofs.Theorem.{derived, through, rest_fits, allowed-append}
-use Rattle.turtle_grammar.proofs.Ends.{WaitsAt, EndAt, Adds, AddsStep, OnStep, quiet, loud, waits_before}
+use Rattle.turtle_grammar.proofs.Ends.{WaitsAt, Adds, AddsStep, OnStep, quiet, loud, waits_before}
 use Rattle.turtle_grammar.proofs.Ends.{begins_adds, statement_adds, formula_closed_adds, collected_adds}
 
 -- inner goals are no String that waits

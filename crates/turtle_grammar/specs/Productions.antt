@@ -11,14 +11,11 @@ use Rattle.turtle_grammar.specs.declared.production.Within.{Within}
 use Rattle.turtle_grammar.specs.declared.production.Within.TheVariants as within
 use Rattle.turtle_grammar.specs.declared.production.Production.{Production}
 use Rattle.turtle_grammar.specs.declared.production.Production.TheVariants.{Prefix, Base, Triple}
-use Rattle.turtle_grammar.specs.Trees.{Iri, iri_ref, pname_ln, pname_ns}
-use Rattle.turtle_grammar.specs.Trees.{Literal, string, tagged_string, typed_string, integer}
-use Rattle.turtle_grammar.specs.Trees.{decimal, double, true_word, false_word}
-use Rattle.turtle_grammar.specs.Trees.{Verb, predicate, a_word, verb_variable}
-use Rattle.turtle_grammar.specs.Trees.{Subject, subject_iri, subject_label, subject_anon}
-use Rattle.turtle_grammar.specs.Trees.{subject_collection, subject_variable}
-use Rattle.turtle_grammar.specs.Trees.{Object, iri, label, anon, collection, property_list}
-use Rattle.turtle_grammar.specs.Trees.{literal, variable, formula, Objects, none, more}
+use Rattle.turtle_grammar.specs.Trees.{Literal, tagged_string, typed_string}
+use Rattle.turtle_grammar.specs.Trees.{Subject, subject_anon}
+use Rattle.turtle_grammar.specs.Trees.{subject_collection}
+use Rattle.turtle_grammar.specs.Trees.{Object, anon, collection, property_list}
+use Rattle.turtle_grammar.specs.Trees.{literal, formula, Objects, none, more}
 use Rattle.turtle_grammar.specs.Trees.{PredicateObjectList, predicates, Properties, end, empty}
 use Rattle.turtle_grammar.specs.Trees.{also, Triples, about, lone_list, about_list}
 use Rattle.turtle_grammar.specs.Trees.{Formula, void, triples, Tail, last, dot}

@@ -12,7 +12,7 @@ use Rattle.turtle_grammar.specs.declared.production.Within.{Within}
 use Rattle.turtle_grammar.specs.declared.production.Within.TheVariants as within
 use Rattle.turtle_grammar.specs.declared.production.SymbolicTriple.{SymbolicTriple}
 use Rattle.turtle_grammar.specs.declared.production.Production.{Production}
-use Rattle.turtle_grammar.specs.declared.production.Production.TheVariants.{Prefix, Base, Triple}
+use Rattle.turtle_grammar.specs.declared.production.Production.TheVariants.{Prefix}
 use Rattle.turtle_grammar.specs.declared.goal.FormulaUse.{FormulaUse}
 use Rattle.turtle_grammar.specs.declared.goal.FormulaUse.TheVariants as formula_use
 use Rattle.turtle_grammar.specs.declared.goal.Closer.{Closer}

@@ -1,6 +1,5 @@
 -- Syntax trees (RDF 1.1 Turtle, section 6.5, with the formulas and variables of N3 Patch, and the
 -- two DATA forms of SPARQL 1.1 Update). Each alternative of a production has a constructor.
-use Rattle.std.specs.Prelude.{List}
 
 -- iri ::= IRIREF | PNAME_LN | PNAME_NS
 pub data Iri : Type 0 where
