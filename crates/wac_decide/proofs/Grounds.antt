@@ -1,9 +1,10 @@
 -- The first rule that grants, and in it the first subject that covers the agent.
-use Rattle.std.proofs.Common.{◌≡◌, ℕ, Bool, true, false, cond, ◌&&◌, List, [], ◌∷◌, map, Option, Some, None, refl, sym, ap, subst, ◌∙◌, ◌⊎◌, inl, inr, ⊎_elim}
+use Rattle.std.proofs.Common.{◌≡◌, ◌<◌, length, ℕ, Bool, true, false, cond, ◌&&◌, List, [], ◌∷◌, map, Option, Some, None, refl, sym, ap, subst, ◌∙◌, ◌⊎◌, inl, inr, ⊎_elim}
 use Rattle.std.specs.Prelude.{IfSome, IfNone, is_some, slice_get, option_and_then}
 use Rattle.std.specs.List.{All, list_any, position}
 use Rattle.std.specs.Option.{option_map}
 use Rattle.std.proofs.lemmas.Bool.{false≢true}
+use Rattle.std.proofs.lemmas.Option.{slice_get_within}
 use Rattle.std.proofs.lemmas.List.Folds.{list_any_none}
 use Rattle.pod_base.specs.declared.agent.Agent.{Agent}
 use Rattle.pod_base.specs.declared.agent.Mode.{Mode}
@@ -11,7 +12,7 @@ use Rattle.acl_rules.specs.declared.rule.How.{How}
 use Rattle.acl_rules.specs.declared.rule.Rule.{Rule}
 use Rattle.acl_rules.specs.declared.rule.Subject.{Subject}
 use Rattle.wac_decide.specs.declared.decision.Ground.{Ground}
-use Rattle.wac_decide.specs.Decision.{covers, is_about, has_mode, has_subject, rule_grants, subjects_of, ground_in, first_ground, IsFirstGround}
+use Rattle.wac_decide.specs.Decision.{covers, is_about, has_mode, has_subject, rule_grants, subjects_of, subjects_at, ground_in, first_ground, IsFirstGround}
 use Rattle.wac_decide.specs.Grants.{Membership}
 use Rattle.wac_decide.proofs.Positions.{IsFirst, position_fails, first_of, some_position, passes_any, slice_get_member}
 
@@ -86,6 +87,22 @@ module _ (member : Membership) (rules : List Rule) (how : How) (at : List ℕ) (
       (λ none. subst (λ p. IfNone p (All (λ rule. grants rule ≡ false) rules)) (sym (e ∙ none.0)) none.1)
       (λ some. subst (λ p. IfNone p (All (λ rule. grants rule ≡ false) rules)) (sym (e ∙ some.1)) tt)
       decided
+
+  -- both numbers of a ground are in range
+  rule_in : (o : Option Ground) → IfSome o (IsFirstGround member rules how at agent mode) → IfSome o (λ ground. ground.rule < length rules)
+  rule_in None h = tt
+  rule_in (Some ground) h = slice_get_within rules ground.rule h.rule h.is_rule
+
+  subject_in : (o : Option Ground) → IfSome o (IsFirstGround member rules how at agent mode) → IfSome o (λ ground. ground.subject < length (subjects_at rules ground.rule))
+  subject_in None h = tt
+  subject_in (Some ground) h =
+      subst (λ (r : Option Rule). ground.subject < length (subjects_of r)) (sym h.is_rule) (slice_get_within h.rule.subjects ground.subject h.subject h.is_subject)
+
+  pub if_rule_within : (o : Option Ground) → o ≡ found → IfSome o (λ ground. ground.rule < length rules)
+  if_rule_within o e = rule_in o (if_ground o e)
+
+  pub if_subject_within : (o : Option Ground) → o ≡ found → IfSome o (λ ground. ground.subject < length (subjects_at rules ground.rule))
+  if_subject_within o e = subject_in o (if_ground o e)
 
   -- something grants exactly where a rule does
   pub some_grants : is_some found ≡ list_any grants rules

@@ -9,7 +9,7 @@ ghost use Rattle.pod_path.specs.Hierarchy.{uri_of, IsUriOf};
 ghost use Rattle.rdf_graph.specs.declared.triple.Triple.{Triple};
 ghost use Rattle.acl_rules.specs.Rules.{rules_of};
 ghost use Rattle.wac_decide.specs.Decision.{covers, is_about, has_mode, has_subject};
-ghost use Rattle.wac_decide.specs.Decision.{rule_grants, first_ground, IsFirstGround};
+ghost use Rattle.wac_decide.specs.Decision.{rule_grants, first_ground, IsFirstGround, subjects_at};
 ghost use Rattle.wac_decide.specs.Decision.{granted_modes, allow_modes};
 ghost use Rattle.wac_decide.specs.Grants.{Grants};
 ghost use Rattle.wac_decide.specs.Modes.{includes};
@@ -43,6 +43,9 @@ pub fn granted<G: Groups>(
         agent.now mode) }
     ensures none { IfNone result (All (λ rule. rule_grants (G.is_member groups.now) how at.now
         agent.now mode rule ≡ false) rules.now.list) }
+    ensures rule_within { IfSome result (λ ground. ground.rule < length rules.now.list) }
+    ensures subject_within { IfSome result (λ ground. ground.subject
+        < length (subjects_at rules.now.list ground.rule)) }
 
     // Where the rules are those of a graph, the graph grants.
     ensures grants { (base : List ℕ) (g : List Triple) → rules.now.list ≡ rules_of base g

@@ -5,7 +5,7 @@ use Rattle.wac_decide.specs.declared.decision.Ground.{Ground}
 use Rattle.wac_decide.specs.Decision.{first_ground}
 use Rattle.wac_decide.specs.Grants.{Grants}
 use Rattle.wac_decide.proofs.Granting.{some_is_granted}
-use Rattle.wac_decide.proofs.Grounds.{if_ground, if_none}
+use Rattle.wac_decide.proofs.Grounds.{if_ground, if_none, if_rule_within, if_subject_within}
 use Rattle.wac_decide.proofs.decision.granted.Goals as goal
 
 pub returns : goal.returns
@@ -18,6 +18,8 @@ returns g c =
       ground = ground;
       first = if_ground member list c.args.how c.args.at.now c.args.agent.now c.args.mode c.find_ground.result ground;
       none = if_none member list c.args.how c.args.at.now c.args.agent.now c.args.mode c.find_ground.result ground;
+      rule_within = if_rule_within member list c.args.how c.args.at.now c.args.agent.now c.args.mode c.find_ground.result ground;
+      subject_within = if_subject_within member list c.args.how c.args.at.now c.args.agent.now c.args.mode c.find_ground.result ground;
       grants = λ base graph of own.
           subst (λ (o : Option Ground). IsTrue (is_some o) ↔ Grants member base graph c.args.how c.args.at.now c.args.agent.now c.args.mode)
           (sym (ground ∙ ap found of)) (some_is_granted member base graph c.args.how c.args.at.now c.args.agent.now c.args.mode own);
