@@ -263,12 +263,13 @@ fn many_rules(alloc: Global, count: u32, agent_word: &str, mode: Mode) -> Mem<St
 fn add_rule(alloc: Global, graph: &mut Graph, number: u32) -> Mem<()> {
     let node = format!(in alloc; "/.acl#{number:03}")?;
     let agent = format!(in alloc; "@agent{number:03}")?;
-    add(
-        alloc,
-        graph,
-        [node.as_str(), "rdf:type", "acl:Authorization"],
-    )?;
-    add(alloc, graph, [node.as_str(), "acl:accessTo", "/"])?;
-    add(alloc, graph, [node.as_str(), "acl:mode", "acl:Read"])?;
-    add(alloc, graph, [node.as_str(), "acl:agent", agent.as_str()])
+    add_reader(alloc, graph, node.as_str(), agent.as_str())
+}
+
+/// Adds the rule of a node, which gives the agent the mode Read on `/`.
+fn add_reader(alloc: Global, graph: &mut Graph, node: &str, agent: &str) -> Mem<()> {
+    add(alloc, graph, node, "rdf:type", "acl:Authorization")?;
+    add(alloc, graph, node, "acl:accessTo", "/")?;
+    add(alloc, graph, node, "acl:mode", "acl:Read")?;
+    add(alloc, graph, node, "acl:agent", agent)
 }

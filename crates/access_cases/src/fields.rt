@@ -73,8 +73,7 @@ fn term(alloc: Global, word: &str) -> Mem<Term> {
 }
 
 /// Adds the triple of three words, where it is one of RDF.
-pub fn add(alloc: Global, graph: &mut Graph, words: [&str; 3]) -> Mem<()> {
-    let [s, p, o] = words;
+pub fn add(alloc: Global, graph: &mut Graph, s: &str, p: &str, o: &str) -> Mem<()> {
     let s = term(alloc, s)?;
     let p = term(alloc, p)?;
     let o = term(alloc, o)?;
@@ -91,7 +90,7 @@ pub fn graph(alloc: Global, field: &str) -> Mem<Graph> {
     for row in field.split(';') {
         let mut words = row.split(' ');
         if let (Some(s), Some(p), Some(o)) = (words.next(), words.next(), words.next()) {
-            add(alloc, &mut graph, [s, p, o])?;
+            add(alloc, &mut graph, s, p, o)?;
         }
     }
     Ok(graph)
