@@ -29,7 +29,7 @@ fn shuffled_number(step: usize, count: usize) -> usize {
 }
 
 /// The triples of all numbers below the count, out of order.
-fn make_triples(alloc: Global, count: usize) -> anyhow::Result<List<Triple>>
+pub fn make_triples(alloc: Global, count: usize) -> anyhow::Result<List<Triple>>
     ensures { IfOk result (λ triples. All IsRdf triples.items) }
 {
     let mut triples = Vec::new(alloc);

@@ -5,19 +5,25 @@
 #![tactic(auto)]
 
 mod building;
+mod coding;
+mod deciding;
 mod joining;
 mod opening;
 mod reading;
 mod serving;
+mod writing;
 
 use anyhow::bail;
 use building::build_graph;
+use coding::code_snapshots;
+use deciding::decide_access;
 use joining::join_conditions;
 use opening::open_journal;
 use reading::{Looks, read_versions};
 use serving::serve_stream;
 use std::alloc::Global;
 use std::env;
+use writing::write_graph;
 
 /// The argument of that number, or another where there is none or it is no number.
 fn number(rt: &HostRuntime, place: usize, other: usize) -> anyhow::Result<usize> {
@@ -28,9 +34,12 @@ fn number(rt: &HostRuntime, place: usize, other: usize) -> anyhow::Result<usize>
 /// Runs the figures of one thread with small counts.
 fn run_small(rt: &HostRuntime, alloc: Global) -> anyhow::Result<()> {
     build_graph(rt, alloc, 1_000, false)?;
+    code_snapshots(rt, alloc, 100, false)?;
     join_conditions(rt, alloc, 1_000, false)?;
+    decide_access(rt, alloc, 40, 100, false)?;
     open_journal(rt, alloc, false)?;
-    serve_stream(rt, alloc, 100, 1, false)
+    serve_stream(rt, alloc, 100, 1, false)?;
+    write_graph(rt, alloc, 1_000, false)
 }
 
 /// Prints how many looks gave a version, and the rates if asked.
@@ -58,10 +67,13 @@ fn main(rt: HostRuntime) -> anyhow::Result<()> {
     };
     let first = number(&rt, 2, 0)?;
     match word.as_str() {
+        "access" => decide_access(&rt, alloc, first, number(&rt, 3, 1)?, true),
+        "codec" => code_snapshots(&rt, alloc, first, true),
         "graph" => build_graph(&rt, alloc, first, true),
         "join" => join_conditions(&rt, alloc, first, true),
         "journal" => open_journal(&rt, alloc, true),
         "pipe" => serve_stream(&rt, alloc, first, number(&rt, 3, 1)?, true),
+        "turtle" => write_graph(&rt, alloc, first, true),
         "view" => {
             let looks = read_versions(&rt, alloc, first as u64)?;
             print_looks(&rt, looks, true)

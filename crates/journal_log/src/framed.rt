@@ -46,6 +46,15 @@ pub fn frame(alloc: Global, body: &[u8]) -> Mem<Framed>
 }
 
 impl Framed {
+    /// How many bytes the record has as it is written: its length before it and the gate after it
+    /// included.
+    pub fn len(&self) -> u64
+        ensures len { result ≡ length (framed_of self.now) }
+        ensures short { length self.now < 2 ^ 63 }
+    {
+        self.bytes().len() as u64
+    }
+
     // The bytes that are written.
     pub(crate) fn bytes(&self) -> &[u8]
         ensures framed { result.now ≡ framed_of self.now }

@@ -17,10 +17,10 @@ use Rattle.pod_path.specs.Characters.{is_path_character}
 use Rattle.iri_ref.specs.Characters.{is_question_mark}
 use Rattle.pod_path.specs.Escapes.{normalize_escapes, prepend}
 use Rattle.pod_path.specs.Norm.{is_empty, is_auxiliary_name, is_reserved_name, has_path_characters, IsPath, path_text_of, norm}
-use Rattle.pod_path.specs.Hierarchy.{root, is_root, is_container, is_auxiliary, without_end, trimmed, parent_of, twin_of, IsParentChain, IsUnder, IsInside, member_text, uri_of, IsUriOf, IsName, IsPlainName}
+use Rattle.pod_path.specs.Hierarchy.{root, is_root, is_container, is_auxiliary, without_end, without_last_slash, parent_of, twin_of, IsParentChain, IsUnder, IsInside, member_text, uri_of, IsUriOf, IsName, IsPlainName}
 use Rattle.pod_path.proofs.Escaping.{over, seam, plain, front_normal, still_lacks, still_some}
 use Rattle.pod_path.proofs.Names.{ends_is, ends_append, ends_starts, starts}
-use Rattle.pod_path.proofs.Ends.{not_ending, trimmed_some}
+use Rattle.pod_path.proofs.Ends.{not_ending, without_last_slash_some}
 use Rattle.pod_path.proofs.NormalPaths.{Parts, is_path, parts_of, norm_parts, limited, no_mark, path_lacks, lacks_before, read_unescaped, character_small}
 use Rattle.pod_path.proofs.Suffixes.{last_of, are, spelled_front, spelled_some, spelled_more, full_last, cut_last, Good, good_last, normal_of, free_of, unreserved_name, with_slash}
 use Rattle.pod_path.proofs.Twins.{not_equal, longer_root, closed_last, not_auxiliary, opened, open_root, open_plain}
@@ -40,13 +40,13 @@ container_more q rest some =
     ends_starts (q ++ rest) (slash ∷ []) ∙ ap (starts (slash ∷ [])) (reverse-append q rest)
     ∙ starts_front (reverse rest) (reverse q) (omega (arith, length_reverse rest)) ∙ sym (ends_starts rest (slash ∷ []))
 
-parent_is : (p t : List ℕ) → (p ≡ root → ⊥) → trimmed p ≡ t → parent_of p ≡ Some (up_to_last_slash t)
-parent_is p t other e = ap (λ (b : Bool). cond b None (Some (up_to_last_slash (trimmed p)))) (not_equal p root other) ∙ ap (λ (x : List ℕ). Some (up_to_last_slash x)) e
+parent_is : (p t : List ℕ) → (p ≡ root → ⊥) → without_last_slash p ≡ t → parent_of p ≡ Some (up_to_last_slash t)
+parent_is p t other e = ap (λ (b : Bool). cond b None (Some (up_to_last_slash (without_last_slash p)))) (not_equal p root other) ∙ ap (λ (x : List ℕ). Some (up_to_last_slash x)) e
 
 -- what follows a container, without a slash at its end
 record Inside (q rest : List ℕ) : Type 0 where
   x : List ℕ
-  trims : trimmed (q ++ rest) ≡ q ++ x
+  trims : without_last_slash (q ++ rest) ≡ q ++ x
   short : (v : List ℕ) (l : List ℕ) → x ≡ v ++ slash ∷ l → length (v ++ slash ∷ []) < length rest
 
 inside : (q rest : List ℕ) → 0 < length rest → Inside q rest
@@ -59,7 +59,7 @@ inside q rest some = by_test (is_container rest) refl
         let same : q ++ rest ≡ (q ++ x) ++ slash ∷ [] = ap (λ (y : List ℕ). q ++ y) whole ∙ sym (append_assoc q x (slash ∷ [])) in
         record {
           x = x;
-          trims = ap trimmed same ∙ trimmed_some (q ++ x);
+          trims = ap without_last_slash same ∙ without_last_slash_some (q ++ x);
           short = λ v l h. omega (arith, ap length whole, ap length h, length-append x (slash ∷ []), length-append v (slash ∷ l), length-append v (slash ∷ []));
         }
     by_test false e = record {
@@ -82,7 +82,7 @@ leads (suc n) p q rest short e closed some =
     let q_some : 0 < length q = omega (arith, ap length end, length-append y (slash ∷ [])) in
     let i = inside q rest some in
     let other : p ≡ root → ⊥ = λ h. longer_root q rest q_some some (sym e ∙ h) in
-    let trims : trimmed p ≡ q ++ i.x = ap trimmed e ∙ i.trims in
+    let trims : without_last_slash p ≡ q ++ i.x = ap without_last_slash e ∙ i.trims in
     elim (cut_last i.x) [
       | inl lacks ↦ (
           let whole : q ++ i.x ≡ y ++ slash ∷ i.x = ap (λ (t : List ℕ). t ++ i.x) end ∙ append_assoc y (slash ∷ []) i.x in
@@ -197,7 +197,7 @@ read_name name n h e = record { lacks = lacks_of (normalize_escapes name) e (sti
     some_of None q k = absurd cc
     some_of (Some x) q k = (let same : x ≡ n = cc in subst (λ (t : List ℕ). 0 < length t) same k)
 
-member_parent : (self n e : List ℕ) → IsTrue (is_container self) → Lacks is_slash n → 0 < length n → trimmed (self ++ (n ++ e)) ≡ self ++ n → parent_of (self ++ (n ++ e)) ≡ Some self
+member_parent : (self n e : List ℕ) → IsTrue (is_container self) → Lacks is_slash n → 0 < length n → without_last_slash (self ++ (n ++ e)) ≡ self ++ n → parent_of (self ++ (n ++ e)) ≡ Some self
 member_parent self n e closed lacks some trims =
     let y = without_end 1 self in
     let end : self ≡ y ++ slash ∷ [] = ends_is self (slash ∷ []) closed in
@@ -206,13 +206,13 @@ member_parent self n e closed lacks some trims =
     parent_is (self ++ (n ++ e)) (self ++ n) (longer_root self (n ++ e) self_some (omega (arith, length-append n e))) trims
     ∙ ap (λ (t : List ℕ). Some t) (ap up_to_last_slash whole ∙ up_to_cut y n lacks ∙ sym end)
 
-trims_open : (self n : List ℕ) → Lacks is_slash n → 0 < length n → trimmed (self ++ (n ++ [])) ≡ self ++ n
+trims_open : (self n : List ℕ) → Lacks is_slash n → 0 < length n → without_last_slash (self ++ (n ++ [])) ≡ self ++ n
 trims_open self n lacks some =
-    ap (λ (t : List ℕ). trimmed (self ++ t)) (append-nil n)
+    ap (λ (t : List ℕ). without_last_slash (self ++ t)) (append-nil n)
     ∙ ap (λ (b : Bool). cond b (without_end 1 (self ++ n)) (self ++ n)) (container_more self n some ∙ lacks_open n lacks)
 
-trims_closed : (self n : List ℕ) → trimmed (self ++ (n ++ slash ∷ [])) ≡ self ++ n
-trims_closed self n = ap trimmed (sym (append_assoc self n (slash ∷ []))) ∙ trimmed_some (self ++ n)
+trims_closed : (self n : List ℕ) → without_last_slash (self ++ (n ++ slash ∷ [])) ≡ self ++ n
+trims_closed self n = ap without_last_slash (sym (append_assoc self n (slash ∷ []))) ∙ without_last_slash_some (self ++ n)
 
 over_parts : (o p : Option (List ℕ)) (path : List ℕ) → over o p ≡ Some path → (x : List ℕ) × (y : List ℕ) × (o ≡ Some x) × (p ≡ Some y) × (path ≡ x ++ y)
 over_parts None p path h = absurd cc
@@ -417,8 +417,8 @@ inside_test p q (c ∷ cs) e whole closed is = (
 
 -- ---- parents of paths and of their twins
 
-pub parent_some : (p : List ℕ) → is_root p ≡ false → parent_of p ≡ Some (up_to_last_slash (trimmed p))
-parent_some p no_root = ap (λ (b : Bool). cond b None (Some (up_to_last_slash (trimmed p)))) no_root
+pub parent_some : (p : List ℕ) → is_root p ≡ false → parent_of p ≡ Some (up_to_last_slash (without_last_slash p))
+parent_some p no_root = ap (λ (b : Bool). cond b None (Some (up_to_last_slash (without_last_slash p)))) no_root
 
 pub parent_normal : (p q : List ℕ) → IsPath p → IsPath q → IsFront q p → norm p ≡ Ok p → norm q ≡ Ok q
 parent_normal p q hp hq f e = smaller_normal q p hq
@@ -447,7 +447,7 @@ twin_parent t x h e = by_tests (is_root t) (is_auxiliary t) (is_container t) ref
     by_tests false false false ea eb ec k =
         let same : t ++ slash ∷ [] ≡ x = cc in
         ap parent_of (sym same)
-        ∙ parent_is (t ++ slash ∷ []) t (longer_root t (slash ∷ []) (spelled_some t (parts_of t h).characters) (omega arith)) (trimmed_some t)
+        ∙ parent_is (t ++ slash ∷ []) t (longer_root t (slash ∷ []) (spelled_some t (parts_of t h).characters) (omega arith)) (without_last_slash_some t)
         ∙ sym (parent_is t t (other ea) (ap (λ (b : Bool). cond b (without_end 1 t) t) ec))
 
 pub none_weaker : {X E P Q : Type 0} (r : Result (Option X) E) → (P → Q) → IfOk r (λ found. IfNone found P) → IfOk r (λ found. IfNone found Q)

@@ -7,7 +7,7 @@ use Rattle.iri_ref.specs.Characters.{slash, is_slash, Lacks}
 use Rattle.iri_ref.specs.Resolution.{up_to_last_slash}
 use Rattle.iri_ref.proofs.Texts.{lacks_from_reads}
 use Rattle.iri_ref.proofs.Paths.{up_to_cut}
-use Rattle.pod_path.specs.Hierarchy.{without_end, trimmed}
+use Rattle.pod_path.specs.Hierarchy.{without_end, without_last_slash}
 use Rattle.pod_path.proofs.Names.{ends_is, ends_append, without_append}
 
 pub not_ending : (text end : List ℕ) → ((prefix : List ℕ) → text ≡ prefix ++ end → ⊥) → ends_with nat_eq text end ≡ false
@@ -17,11 +17,11 @@ not_ending text end none = by_test (ends_with nat_eq text end) refl
     by_test true e = absurd (none (without_end (length end) text) (ends_is text end e))
     by_test false e = refl
 
-pub trimmed_none : (path : List ℕ) → ((prefix : List ℕ) → path ≡ prefix ++ slash ∷ [] → ⊥) → path ≡ trimmed path
-trimmed_none path none = sym (ap (λ (b : Bool). cond b (without_end 1 path) path) (not_ending path (slash ∷ []) none))
+pub without_last_slash_none : (path : List ℕ) → ((prefix : List ℕ) → path ≡ prefix ++ slash ∷ [] → ⊥) → path ≡ without_last_slash path
+without_last_slash_none path none = sym (ap (λ (b : Bool). cond b (without_end 1 path) path) (not_ending path (slash ∷ []) none))
 
-pub trimmed_some : (prefix : List ℕ) → trimmed (prefix ++ slash ∷ []) ≡ prefix
-trimmed_some prefix =
+pub without_last_slash_some : (prefix : List ℕ) → without_last_slash (prefix ++ slash ∷ []) ≡ prefix
+without_last_slash_some prefix =
     ap (λ (b : Bool). cond b (without_end 1 (prefix ++ slash ∷ [])) (prefix ++ slash ∷ [])) (ends_append prefix (slash ∷ [])) ∙ without_append prefix (slash ∷ [])
 
 pub up_to_at : (text : List ℕ) (at : ℕ) → at < length text → get_or text at 0 ≡ slash → ((i : ℕ) → at < i → i < length text → get_or text i 0 ≡ slash → ⊥) → take (at + 1) text ≡ up_to_last_slash text

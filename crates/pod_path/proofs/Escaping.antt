@@ -10,7 +10,7 @@ use Rattle.iri_ref.proofs.Schemes.{other_kind}
 use Rattle.iri_ref.proofs.Texts.{and_left, and_right, and_both, all_append}
 use Rattle.pod_path.specs.Characters.{percent, is_unreserved}
 use Rattle.iri_ref.specs.Characters.{is_between}
-use Rattle.pod_path.specs.Escapes.{is_hex, hex_value, upper, normal_escape, prepend, normalize_escapes}
+use Rattle.pod_path.specs.Escapes.{is_hex, hex_digit_value, upper, normal_escape, prepend, normalize_escapes}
 
 -- ---- the part before the first mark
 
@@ -119,7 +119,7 @@ seam (x ∷ y ∷ z ∷ a) c b e h = by_test (eqb x percent) refl (is_hex y && i
 
 record IsDigit (c : ℕ) : Type 0 where
   hex : IsTrue (is_hex (upper c))
-  value : hex_value (upper c) ≡ hex_value c
+  value : hex_digit_value (upper c) ≡ hex_digit_value c
   stays : upper (upper c) ≡ upper c
 
 no_le : (a b : ℕ) → b < a → nat_le a b ≡ false
@@ -143,7 +143,7 @@ below a c b h = (leb-true a c (and_left _ (nat_le c b) h), leb-true c b (and_rig
 stays_upper : (c : ℕ) → c < 97 → IsTrue (is_hex c) → IsDigit c
 stays_upper c lt h =
     let same : upper c ≡ c = ap (λ (b : Bool). cond b (c - 32) c) (no_le 97 c lt) in
-    record { hex = subst (λ (d : ℕ). IsTrue (is_hex d)) (sym same) h; value = ap hex_value same; stays = ap upper same }
+    record { hex = subst (λ (d : ℕ). IsTrue (is_hex d)) (sym same) h; value = ap hex_digit_value same; stays = ap upper same }
 
 lowered : (c : ℕ) → 97 ≤ c → c ≤ 102 → IsDigit c
 lowered c le ge =
@@ -151,14 +151,14 @@ lowered c le ge =
     let d = c - 32 in
     let low : nat_le 97 d ≡ false = no_le 97 d (omega arith) in
     let hex : IsTrue (is_hex d) = or_right (is_between 48 d 57) _ (or_left (is_between 65 d 70) (is_between 97 d 102) (and_both _ _ (le-leb 65 d (omega arith)) (le-leb d 70 (omega arith)))) in
-    let value : hex_value d ≡ hex_value c =
+    let value : hex_digit_value d ≡ hex_digit_value c =
     ap (λ (b : Bool). cond b (d - 87) (cond (nat_le 65 d) (d - 55) (d - 48))) low
     ∙ ap (λ (b : Bool). cond b (d - 55) (d - 48)) (le-leb 65 d (omega arith))
     ∙ (let same : d - 55 ≡ c - 87 = omega arith in same)
     ∙ sym (ap (λ (b : Bool). cond b (c - 87) (cond (nat_le 65 c) (c - 55) (c - 48))) (le-leb 97 c le)) in
     record {
       hex = subst (λ (n : ℕ). IsTrue (is_hex n)) (sym up) hex;
-      value = ap hex_value up ∙ value;
+      value = ap hex_digit_value up ∙ value;
       stays = ap upper up ∙ ap (λ (b : Bool). cond b (d - 32) d) low ∙ sym up;
     }
 
@@ -186,15 +186,15 @@ not_true false h = refl
 
 again_escape : (high low : ℕ) (o : Option (List ℕ)) → IsTrue (is_hex high) → IsTrue (is_hex low) → Again o → Again (prepend (normal_escape high low) o)
 again_escape high low None hh hl h = tt
-again_escape high low (Some t) hh hl h = by_test (16 * hex_value high + hex_value low) refl (is_unreserved (16 * hex_value high + hex_value low)) refl
+again_escape high low (Some t) hh hl h = by_test (16 * hex_digit_value high + hex_digit_value low) refl (is_unreserved (16 * hex_digit_value high + hex_digit_value low)) refl
   where
-    by_test : (byte : ℕ) → 16 * hex_value high + hex_value low ≡ byte → (b : Bool) → is_unreserved byte ≡ b → normalize_escapes (cond b (byte ∷ []) (percent ∷ upper high ∷ upper low ∷ []) ++ t) ≡ Some (cond b (byte ∷ []) (percent ∷ upper high ∷ upper low ∷ []) ++ t)
+    by_test : (byte : ℕ) → 16 * hex_digit_value high + hex_digit_value low ≡ byte → (b : Bool) → is_unreserved byte ≡ b → normalize_escapes (cond b (byte ∷ []) (percent ∷ upper high ∷ upper low ∷ []) ++ t) ≡ Some (cond b (byte ∷ []) (percent ∷ upper high ∷ upper low ∷ []) ++ t)
     by_test byte is true e =
         plain byte t (not_true (eqb byte percent) (other_kind is_unreserved percent refl byte e)) ∙ ap (prepend (byte ∷ [])) h
     by_test byte is false e =
         let dh = digit high hh in
         let dl = digit low hl in
-        let value : 16 * hex_value (upper high) + hex_value (upper low) ≡ byte = ap (λ (n : ℕ). 16 * n + hex_value (upper low)) dh.value ∙ ap (λ (n : ℕ). 16 * hex_value high + n) dl.value ∙ is in
+        let value : 16 * hex_digit_value (upper high) + hex_digit_value (upper low) ≡ byte = ap (λ (n : ℕ). 16 * n + hex_digit_value (upper low)) dh.value ∙ ap (λ (n : ℕ). 16 * hex_digit_value high + n) dl.value ∙ is in
         let kept : normal_escape (upper high) (upper low) ≡ percent ∷ upper high ∷ upper low ∷ [] =
         ap (λ (n : ℕ). cond (is_unreserved n) (n ∷ []) (percent ∷ upper (upper high) ∷ upper (upper low) ∷ [])) value
         ∙ ap (λ (b : Bool). cond b (byte ∷ []) (percent ∷ upper (upper high) ∷ upper (upper low) ∷ [])) e
@@ -258,7 +258,7 @@ no_longer (c ∷ d ∷ f ∷ cs) = by_tests (eqb c percent) (is_hex d && is_hex 
     by_tests : (b x : Bool) → IsNoLonger (normalize_escapes cs) (length cs) → IsNoLonger (normalize_escapes (d ∷ f ∷ cs)) (length (d ∷ f ∷ cs))
         → IsNoLonger (cond b (cond x (prepend (normal_escape d f) (normalize_escapes cs)) None) (prepend (c ∷ []) (normalize_escapes (d ∷ f ∷ cs)))) (length (c ∷ d ∷ f ∷ cs))
     by_tests true true far near = subst (IsNoLonger (prepend (normal_escape d f) (normalize_escapes cs))) (let e : 3 + length cs ≡ length (c ∷ d ∷ f ∷ cs) = omega arith in e)
-        (longer_by (normal_escape d f) 3 (length cs) (normalize_escapes cs) (escape_length (is_unreserved (16 * hex_value d + hex_value f)) (16 * hex_value d + hex_value f) (upper d) (upper f)) far)
+        (longer_by (normal_escape d f) 3 (length cs) (normalize_escapes cs) (escape_length (is_unreserved (16 * hex_digit_value d + hex_digit_value f)) (16 * hex_digit_value d + hex_digit_value f) (upper d) (upper f)) far)
     by_tests true false far near = tt
     by_tests false x far near = subst (IsNoLonger (prepend (c ∷ []) (normalize_escapes (d ∷ f ∷ cs)))) (let e : 1 + length (d ∷ f ∷ cs) ≡ length (c ∷ d ∷ f ∷ cs) = omega arith in e)
         (longer_by (c ∷ []) 1 (length (d ∷ f ∷ cs)) (normalize_escapes (d ∷ f ∷ cs)) (omega arith) near)
@@ -294,7 +294,7 @@ still_lacks (c ∷ d ∷ f ∷ cs) h =
   where
     by_tests : (b x : Bool) → (is_hex d && is_hex f) ≡ x → LacksSlash (normalize_escapes cs) → LacksSlash (normalize_escapes (d ∷ f ∷ cs))
         → LacksSlash (cond b (cond x (prepend (normal_escape d f) (normalize_escapes cs)) None) (prepend (c ∷ []) (normalize_escapes (d ∷ f ∷ cs))))
-    by_tests true true e far near = lacks_before (normal_escape d f) (normalize_escapes cs) (escape_lacks (is_unreserved (16 * hex_value d + hex_value f)) (16 * hex_value d + hex_value f) d f refl (and_left _ (is_hex f) e) (and_right (is_hex d) _ e)) far
+    by_tests true true e far near = lacks_before (normal_escape d f) (normalize_escapes cs) (escape_lacks (is_unreserved (16 * hex_digit_value d + hex_digit_value f)) (16 * hex_digit_value d + hex_digit_value f) d f refl (and_left _ (is_hex f) e) (and_right (is_hex d) _ e)) far
     by_tests true false e far near = tt
     by_tests false x e far near = lacks_before (c ∷ []) (normalize_escapes (d ∷ f ∷ cs)) (and_both _ _ (and_left (not (is_slash c)) _ h) refl) near
 
@@ -325,7 +325,7 @@ still_some (c ∷ d ∷ []) h = by_test (eqb c percent)
 still_some (c ∷ d ∷ f ∷ cs) h = by_tests (eqb c percent) (is_hex d && is_hex f)
   where
     by_tests : (b x : Bool) → HasSome (cond b (cond x (prepend (normal_escape d f) (normalize_escapes cs)) None) (prepend (c ∷ []) (normalize_escapes (d ∷ f ∷ cs))))
-    by_tests true true = some_before (normal_escape d f) (normalize_escapes cs) (escape_some (is_unreserved (16 * hex_value d + hex_value f)) (16 * hex_value d + hex_value f) (upper d) (upper f))
+    by_tests true true = some_before (normal_escape d f) (normalize_escapes cs) (escape_some (is_unreserved (16 * hex_digit_value d + hex_digit_value f)) (16 * hex_digit_value d + hex_digit_value f) (upper d) (upper f))
     by_tests true false = tt
     by_tests false x = some_before (c ∷ []) (normalize_escapes (d ∷ f ∷ cs)) (omega arith)
 

@@ -10,7 +10,7 @@ use Rattle.iri_ref.proofs.PathWriting.{segments_parts}
 use Rattle.iri_ref.proofs.Paths.{up_to_cut}
 use Rattle.pod_path.specs.Escapes.{normalize_escapes}
 use Rattle.pod_path.specs.Norm.{is_empty, is_auxiliary_name, is_reserved_name, has_path_characters, IsPath}
-use Rattle.pod_path.specs.Hierarchy.{root, is_root, is_container, is_acl, is_meta, is_auxiliary, without_end, trimmed, twin_of}
+use Rattle.pod_path.specs.Hierarchy.{root, is_root, is_container, is_acl, is_meta, is_auxiliary, without_end, without_last_slash, twin_of}
 use Rattle.pod_path.proofs.Escaping.{front_normal, over}
 use Rattle.pod_path.proofs.Names.{IsSuffix, acl, meta, suffixed, ends_is, ends_append, without_append, ends_starts, starts}
 use Rattle.pod_path.proofs.Ends.{not_ending}
@@ -123,7 +123,7 @@ up_parts q p l =
       free = free_of (segments (drop 1 above)) m.init m.last (are above m) good;
     })
 
-pub parent_path : (t : List ℕ) → IsPath t → is_root t ≡ false → IsPath (up_to_last_slash (trimmed t))
+pub parent_path : (t : List ℕ) → IsPath t → is_root t ≡ false → IsPath (up_to_last_slash (without_last_slash t))
 parent_path t p no_root = by_test (is_container t) refl
   where
     by_test : (b : Bool) → is_container t ≡ b → IsPath (up_to_last_slash (cond b (without_end 1 t) t))

@@ -7,8 +7,8 @@ use Rattle.iri_ref.specs.Characters.{is_between}
 abbrev pub is_hex : ℕ → Bool
 is_hex c = is_between 48 c 57 || (is_between 65 c 70 || is_between 97 c 102)
 
-abbrev pub hex_value : ℕ → ℕ
-hex_value c = if nat_le 97 c then c - 87 else (if nat_le 65 c then c - 55 else c - 48)
+abbrev pub hex_digit_value : ℕ → ℕ
+hex_digit_value c = if nat_le 97 c then c - 87 else (if nat_le 65 c then c - 55 else c - 48)
 
 -- the digit, in upper case
 abbrev pub upper : ℕ → ℕ
@@ -17,7 +17,7 @@ upper c = if nat_le 97 c then c - 32 else c
 -- The character where it needs no escape, else the escape with upper-case digits.
 abbrev pub normal_escape : ℕ → ℕ → List ℕ
 normal_escape high low =
-    let byte = 16 * hex_value high + hex_value low in
+    let byte = 16 * hex_digit_value high + hex_digit_value low in
     if is_unreserved byte then byte ∷ [] else percent ∷ upper high ∷ upper low ∷ []
 
 -- The text after this prefix, where there is one.

@@ -36,12 +36,12 @@ abbrev pub without_end : ℕ → List ℕ → List ℕ
 without_end n text = take (length text - n) text
 
 -- The text without one slash at its end.
-abbrev pub trimmed : List ℕ → List ℕ
-trimmed path = if is_container path then without_end 1 path else path
+abbrev pub without_last_slash : List ℕ → List ℕ
+without_last_slash path = if is_container path then without_end 1 path else path
 
 -- The container just above.
 abbrev pub parent_of : List ℕ → Option (List ℕ)
-parent_of path = if is_root path then None else Some (up_to_last_slash (trimmed path))
+parent_of path = if is_root path then None else Some (up_to_last_slash (without_last_slash path))
 
 -- The same text with or without the last slash.
 abbrev pub twin_of : List ℕ → Option (List ℕ)

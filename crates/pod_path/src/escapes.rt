@@ -5,7 +5,7 @@ ghost use Rattle.std.specs.Prelude.{OnOk, IfOk, IfErr, is_some, Some, None, leng
 ghost use Rattle.std.specs.List.{before_first, position};
 ghost use Rattle.pod_path.specs.Characters.{percent, is_unreserved};
 ghost use Rattle.iri_ref.specs.Characters.{is_question_mark};
-ghost use Rattle.pod_path.specs.Escapes.{is_hex, hex_value, upper, normal_escape, prepend};
+ghost use Rattle.pod_path.specs.Escapes.{is_hex, hex_digit_value, upper, normal_escape, prepend};
 ghost use Rattle.pod_path.specs.Escapes.{normalize_escapes};
 ghost use Rattle.pod_path.specs.EscapeFaults.{FailsEscape};
 
@@ -13,9 +13,9 @@ use crate::fault::PathFault;
 use std::alloc::{AllocError, Global};
 
 /// The value of a hexadecimal digit.
-fn hex_value(b: u8) -> Option<u8>
+fn hex_digit_value(b: u8) -> Option<u8>
     ensures is { is_some result ≡ is_hex b }
-    ensures value { IfSome result (λ value. value ≡ hex_value b) }
+    ensures value { IfSome result (λ value. value ≡ hex_digit_value b) }
     ensures small { IfSome result (λ value. value < 16) }
 {
     match b {
@@ -44,7 +44,7 @@ fn is_unreserved(b: u8) -> bool
 fn push_escape(text: &mut Vec<u8>, byte: u8, high: u8, low: u8) -> Result<(), AllocError>
     requires high_digit { IsTrue (is_hex high) }
     requires low_digit { IsTrue (is_hex low) }
-    requires value { byte ≡ 16 * hex_value high + hex_value low }
+    requires value { byte ≡ 16 * hex_digit_value high + hex_digit_value low }
     ensures { OnOk result (text.new.items ≡ text.old.items ++ normal_escape high low) }
 {
     if is_unreserved(byte) {
@@ -69,7 +69,7 @@ fn push_first_escape<'a>(bytes: &mut Vec<u8>, digits: &'a [u8]) -> Result<&'a [u
     let [high, low, rest @ ..] = digits else {
         return Err(PathFault::BadEscape);
     };
-    let (Some(high_value), Some(low_value)) = (hex_value(*high), hex_value(*low)) else {
+    let (Some(high_value), Some(low_value)) = (hex_digit_value(*high), hex_digit_value(*low)) else {
         return Err(PathFault::BadEscape);
     };
     push_escape(bytes, 16 * high_value + low_value, *high, *low)?;

@@ -5,7 +5,8 @@ ghost use Rattle.std.specs.Prelude.{IfSome, IfNone, IfOk, nat_eq, option_copied,
 ghost use Rattle.std.specs.Prelude.{bytes_eq, codes, count_by};
 ghost use Rattle.iri_ref.specs.Characters.{slash, is_slash};
 ghost use Rattle.iri_ref.specs.Resolution.{up_to_last_slash};
-ghost use Rattle.pod_path.specs.Hierarchy.{trimmed, is_root, is_container, is_acl, is_meta};
+ghost use Rattle.pod_path.specs.Hierarchy.{without_last_slash, is_root, is_container, is_acl};
+ghost use Rattle.pod_path.specs.Hierarchy.{is_meta};
 ghost use Rattle.pod_path.specs.Hierarchy.{is_auxiliary, subject_of, member_text, IsInside};
 
 use crate::segments::ends_with;
@@ -31,7 +32,7 @@ pub(crate) fn strip_start<'a>(text: &'a str, prefix: &str) -> Option<&'a str>
 
 /// The text without one slash at its end.
 fn trim_slash(path: &str) -> &str
-    ensures { result.now ≡ trimmed path.now }
+    ensures { result.now ≡ without_last_slash path.now }
 {
     match strip_end(path, "/") {
         Some(prefix) => prefix,
@@ -51,7 +52,7 @@ fn cut_after_last_slash(text: &str) -> &str
 
 /// The text of the container above a path.
 pub(crate) fn parent_text(path: &str) -> &str
-    ensures { result.now ≡ up_to_last_slash (trimmed path.now) }
+    ensures { result.now ≡ up_to_last_slash (without_last_slash path.now) }
 {
     cut_after_last_slash(trim_slash(path))
 }

@@ -5,7 +5,7 @@ use Rattle.std.proofs.Math.Seq.{take-append_seam, length-take-le}
 use Rattle.std.proofs.lemmas.List.{append-nil, take-append-drop}
 use Rattle.std.proofs.lemmas.Bool.Decides.{nat_tests}
 use Rattle.pod_io.specs.Counts.{next_count}
-use Rattle.pod_io.specs.Told.{IfTold, IsRead}
+use Rattle.pod_io.specs.Visible.{IfVisible, IsRead}
 use Rattle.pod_tool.specs.Streams.{Reads, AtEnd}
 
 -- the front of the slice has that many bytes of the rest
@@ -15,7 +15,7 @@ front_is rest old piece count read =
     ap (take count) read.bytes
     ∙ subst (λ n. take n (front ++ drop count old) ≡ front) (length-take-le count rest read.there) (take-append_seam front (drop count old))
 
-pub reads_more : (text old piece : List ℕ) (count : ℕ) (first middle last : Option (List ℕ)) → Reads text first middle → IfTold middle (λ rest. IsRead rest count old piece) → last ≡ option_map (drop count) middle → Reads (text ++ take count piece) first last
+pub reads_more : (text old piece : List ℕ) (count : ℕ) (first middle last : Option (List ℕ)) → Reads text first middle → IfVisible middle (λ rest. IsRead rest count old piece) → last ≡ option_map (drop count) middle → Reads (text ++ take count piece) first last
 reads_more text old piece count first None last reads told is = reads ∙ ap (option_map (λ rest. (text ++ take count piece) ++ rest)) (sym is)
 reads_more text old piece count first (Some rest) last reads told is =
     let front = front_is rest old piece count (told rest refl) in
@@ -25,7 +25,7 @@ reads_more text old piece count first (Some rest) last reads told is =
     reads ∙ ap Some whole ∙ ap (option_map (λ r. (text ++ take count piece) ++ r)) (sym is)
 
 -- where no byte came the input is at its end
-pub ended_at : (old piece : List ℕ) (count : ℕ) (middle last : Option (List ℕ)) → count ≡ 0 → IfTold middle (λ rest. IsRead rest count old piece) → last ≡ option_map (drop count) middle → AtEnd last
+pub ended_at : (old piece : List ℕ) (count : ℕ) (middle last : Option (List ℕ)) → count ≡ 0 → IfVisible middle (λ rest. IsRead rest count old piece) → last ≡ option_map (drop count) middle → AtEnd last
 ended_at old piece count None last none told is = λ bytes e. let never : None ≡ Some bytes = sym is ∙ e in cc
 ended_at old piece count (Some rest) last none told is =
     let empty : rest ≡ [] = (told rest refl).ended none in
@@ -33,7 +33,7 @@ ended_at old piece count (Some rest) last none told is =
     λ bytes e. let here : Some [] ≡ Some bytes = sym same ∙ e in cc
 
 -- and nothing more was read
-pub reads_none : (text old piece : List ℕ) (count : ℕ) (first middle last : Option (List ℕ)) → count ≡ 0 → Reads text first middle → IfTold middle (λ rest. IsRead rest count old piece) → last ≡ option_map (drop count) middle → Reads text first last
+pub reads_none : (text old piece : List ℕ) (count : ℕ) (first middle last : Option (List ℕ)) → count ≡ 0 → Reads text first middle → IfVisible middle (λ rest. IsRead rest count old piece) → last ≡ option_map (drop count) middle → Reads text first last
 reads_none text old piece count first middle last none reads told is =
     subst (λ t. Reads t first last) (ap (λ n. text ++ take n piece) none ∙ append-nil text) (reads_more text old piece count first middle last reads told is)
 

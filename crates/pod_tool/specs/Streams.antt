@@ -2,7 +2,7 @@
 use Rattle.std.specs.Prelude.{◌≡◌, ◌⊎◌, ℕ, ◌+◌, ◌-◌, ◌^◌, ◌<◌, ◌≤◌, List, [], ◌++◌, Option}
 use Rattle.std.specs.Option.{option_map}
 use Rattle.pod_io.specs.Counts.{next_count}
-use Rattle.pod_io.specs.Told.{IfTold}
+use Rattle.pod_io.specs.Visible.{IfVisible}
 use Rattle.pod_tool.specs.declared.status.PipeEnd.{PipeEnd}
 use Rattle.pod_tool.specs.declared.status.PipeEnd.TheVariants.{Peer, Cut, ReadLimit, WriteFault}
 use Rattle.pod_tool.specs.declared.status.PipeEnd.TheVariants.{NoMemory}
@@ -13,7 +13,7 @@ Reads bytes old new = old ≡ option_map (λ rest. bytes ++ rest) new
 
 -- the input is at its end, where it shows that
 abbrev pub AtEnd : Option (List ℕ) → Type 0
-AtEnd rest = IfTold rest (λ bytes. bytes ≡ [])
+AtEnd rest = IfVisible rest (λ bytes. bytes ≡ [])
 
 -- a sink has these bytes too, after those that it had
 abbrev pub ExtendsBy : List ℕ → Option (List ℕ) → Option (List ℕ) → Type 0

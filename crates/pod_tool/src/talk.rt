@@ -7,7 +7,7 @@ ghost use Rattle.http_out.specs.Dates.{Dated};
 ghost use Rattle.http_out.specs.Text.{interim_text, stays_in_line};
 ghost use Rattle.pod_base.specs.declared.heard.Heard.TheVariants as hears;
 ghost use Rattle.pod_base.specs.Counts.{CountIncreased};
-ghost use Rattle.pod_io.specs.Counts.{Counts};
+ghost use Rattle.pod_io.specs.Counts.{CountsFaults};
 ghost use Rattle.pod_tool.specs.Fresh.{closes_after, refusal_word};
 ghost use Rattle.pod_tool.specs.Session.{requests_of};
 ghost use Rattle.pod_tool.specs.Talks.{CountsWrites, IsOver, IsRefused, IsSound, RefusedAs, Turns};
@@ -88,7 +88,7 @@ fn answer_one<K: Sink, C: Clock>(
     requires base { IsTrue (list_all stays_in_line keeper.old.pod.base) }
     ensures turned { (text : List ℕ) × Turned (C.may_give clock.now) keeper.old keeper.new request.now number text
         × Writes result text (K.taken output.old) (K.taken output.new) }
-    ensures faults { Counts result (K.faults output.old) (K.faults output.new) }
+    ensures faults { CountsFaults result (K.faults output.old) (K.faults output.new) }
 {
     match keeper.take(alloc, request, number, closes, clock) {
         Ok(out) => write_out(output, out),

@@ -1,6 +1,6 @@
 //! Writes whole texts and responses to a sink.
 ghost use Rattle.std.specs.Prelude.{◌≡◌};
-ghost use Rattle.pod_io.specs.Counts.{Counts};
+ghost use Rattle.pod_io.specs.Counts.{CountsFaults};
 ghost use Rattle.pod_tool.specs.Turns.{Writes};
 
 use http_out::Out;
@@ -12,7 +12,7 @@ const PIECE: usize = 8_192;
 /// Writes the whole text, or a front of it where a write fails.
 pub fn write_all<K: Sink>(output: &mut K, text: &[u8]) -> Result<(), Failed>
     ensures writes { Writes result text.now (K.taken output.old) (K.taken output.new) }
-    ensures faults { Counts result (K.faults output.old) (K.faults output.new) }
+    ensures faults { CountsFaults result (K.faults output.old) (K.faults output.new) }
 {
     let mut at = 0;
     while at < text.len() {
@@ -24,7 +24,7 @@ pub fn write_all<K: Sink>(output: &mut K, text: &[u8]) -> Result<(), Failed>
 /// Writes a whole response, or a front of it where a write fails. It takes no memory.
 pub fn write_out<K: Sink>(output: &mut K, mut out: Out) -> Result<(), Failed>
     ensures writes { Writes result out (K.taken output.old) (K.taken output.new) }
-    ensures faults { Counts result (K.faults output.old) (K.faults output.new) }
+    ensures faults { CountsFaults result (K.faults output.old) (K.faults output.new) }
 {
     let mut piece = [0u8; PIECE];
     'pieces: loop {

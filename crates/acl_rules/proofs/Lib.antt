@@ -1,0 +1,4 @@
+pub mod IriPaths
+pub mod NodeRules
+pub mod NodeValues
+pub mod Choices

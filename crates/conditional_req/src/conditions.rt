@@ -1,0 +1,114 @@
+//! [`Conditions`]: the precondition fields of a request.
+
+ghost use Rattle.std.specs.Prelude.{◌≡◌, ◌||◌, IfOk};
+ghost use Rattle.field_list.specs.Joined.{joined_value};
+ghost use Rattle.conditional_req.specs.Conditions as spec;
+
+use field_list::joined_value;
+use httpdate::HttpDate;
+use pod_base::{Bytes, Field, Fields, Mem};
+use std::alloc::Global;
+use std::marker::Model;
+
+/// The precondition fields of a request: If-Match, If-None-Match, If-Modified-Since and
+/// If-Unmodified-Since. Contracts see these fields in their order.
+#[derive(Debug, Drop)]
+pub struct Conditions {
+    fields: Fields,
+    pub(crate) matching: Option<Bytes>,
+    pub(crate) none_matching: Option<Bytes>,
+    pub(crate) unmodified_since: Option<u64>,
+    pub(crate) modified_since: Option<u64>,
+}
+
+impl Model for Conditions {
+    ghost use Rattle.std.specs.Prelude.{List};
+    ghost use Rattle.pod_base.specs.declared.field.Field.{Field};
+    ghost use Rattle.conditional_req.specs.Conditions.{AreRead};
+
+    ghost Value = { List Field };
+
+    ghost view = { λ c. c.fields };
+
+    ghost invariant = { λ c. AreRead c.fields c.matching c.none_matching c.unmodified_since c.modified_since };
+}
+
+/// Whether a field is a precondition.
+fn is_condition(field: &Field) -> bool
+    ensures { result ≡ spec.is_condition field.now }
+{
+    field.is_named("if-match")
+        || field.is_named("if-none-match")
+        || field.is_named("if-modified-since")
+        || field.is_named("if-unmodified-since")
+}
+
+/// Appends a field, where it is a precondition.
+fn add_condition(alloc: Global, kept: &mut Fields, field: &Field) -> Mem<()>
+    ensures { IfOk result (λ _. kept.new ≡ spec.with_condition kept.old field.now) }
+{
+    if is_condition(field) {
+        let field = field.copy(alloc)?;
+        kept.add(alloc, field)?;
+    }
+    Ok(())
+}
+
+/// The precondition fields among these.
+fn conditions_of(alloc: Global, fields: &Fields) -> Mem<Fields>
+    ensures { IfOk result (λ kept. kept ≡ spec.conditions fields.now) }
+{
+    let mut kept = Fields::new(alloc);
+    let mut rest = fields.list.as_slice();
+    while let Some((field, more)) = rest.split_first() {
+        add_condition(alloc, &mut kept, field)?;
+        rest = more;
+    }
+    Ok(kept)
+}
+
+/// The date of the first field of that name, in seconds since the beginning of 1970; none where it
+/// can't be read.
+fn date_of(fields: &Fields, name: &str) -> Option<u64>
+    ensures { result ≡ spec.date_of name.now fields.now }
+{
+    match fields.first(name) {
+        Some(value) => match HttpDate::parse_ascii(value.as_slice()) {
+            Ok(date) => Some(date.unix_secs()),
+            Err(_) => None,
+        },
+        None => None,
+    }
+}
+
+/// Reads the precondition fields of a request. A field that stands once shares its value.
+pub fn read_conditions(alloc: Global, fields: &Fields) -> Mem<Conditions>
+    ensures { IfOk result (λ conditions. conditions ≡ spec.conditions fields.now) }
+{
+    let fields = conditions_of(alloc, fields)?;
+    let matching = joined_value(alloc, &fields, "if-match")?;
+    let none_matching = joined_value(alloc, &fields, "if-none-match")?;
+    let unmodified_since = date_of(&fields, "if-unmodified-since");
+    let modified_since = date_of(&fields, "if-modified-since");
+    Ok(Conditions {
+        fields,
+        matching,
+        none_matching,
+        unmodified_since,
+        modified_since,
+    })
+}
+
+impl Conditions {
+    /// Whether some field has another value than `*`: the verdict may then say something of the
+    /// resource that only its readers may know.
+    pub fn needs_read(&self) -> bool
+        ensures { result ≡ spec.needs_read self.now }
+    {
+        self.fields
+            .list
+            .as_slice()
+            .iter()
+            .any(|field| field.value.as_slice() != b"*".as_slice())
+    }
+}

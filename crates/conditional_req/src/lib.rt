@@ -1,0 +1,30 @@
+//! Entity tags and preconditions (RFC 9110, sections 8.8 and 13).
+//!
+//! ```ignore
+//! let tag = tag_of("text/turtle", body, b't');
+//! let conditions = read_conditions(alloc, &request.fields)?;
+//! let current = Current { tags: &[tag], modified };
+//! match judge(&conditions, request.method, Some(&current)) {
+//!     Verdict::Go => ..,
+//!     Verdict::NotModified => ..,   // 304
+//!     Verdict::Failed => ..,        // 412
+//! }
+//! ```
+//!
+//! Proved: [`tag_of`] is `tag_text`, of the digest of all its parts. [`read_conditions`] keeps the
+//! request's precondition fields in order (`conditions`), [`judge`] is the table `verdict` over
+//! them, and [`Conditions::needs_read`] says whether a field compares with the resource. A verdict
+//! takes no memory.
+//!
+//! It stands on `field_list`, `httpdate`, `sha2`, `hex` and `pod_base`.
+#![tactic(auto)]
+
+mod conditions;
+mod entity_tag;
+mod preconditions;
+mod tag;
+mod tag_list;
+
+pub use conditions::{Conditions, read_conditions};
+pub use preconditions::{Current, Verdict, judge};
+pub use tag::{TAG_DIGEST_LEN, Tag, tag_of};

@@ -1,0 +1,49 @@
+//! Cases of a request's fields. It reads one case from each line of standard input, and prints the
+//! line with what the libraries answer as one more field. `stdin` has the cases, and `stdout` what is
+//! expected of them, worked out by hand from RFC 9110 and RFC 6455.
+//!
+//! The first field names the kind of the case:
+//!
+//! | Fields | Answer |
+//! |---|---|
+//! | `strings` or `tags`, VALUE | the elements of a list, whose quotes are those of strings or tags |
+//! | `accept` VALUE, or nothing | the choice between Turtle and JSON-LD |
+//! | `tag` TYPE BODY MARK | the tag of a representation |
+//! | `judge` METHOD SECOND MARKS FIELD.. | the verdict, where the resource was changed at that second and has tags with these marks; without a resource where SECOND is `none` |
+//! | `needs-read` FIELD.. | whether the preconditions need a reader |
+//! | `ranges` VALUE SIZE | the parts of a body |
+//! | `multipart` TYPE BODY VALUE | the boundary and the text of a response with several parts |
+//! | `upgrade` KEY | the key that accepts an upgrade |
+#![tactic(auto)]
+
+mod accepts;
+mod lists;
+mod preconditions;
+mod ranges;
+mod upgrades;
+
+use std::alloc::{AllocError, Global};
+use std::io;
+
+/// What the libraries answer to the fields of a case.
+fn answer(alloc: Global, fields: &[&str]) -> Result<String, AllocError> {
+    match fields {
+        ["strings", value] => lists::strings(alloc, value),
+        ["tags", value] => lists::tags(alloc, value),
+        ["accept"] => String::from_str(alloc, accepts::chosen(None)),
+        ["accept", value] => accepts::answer(alloc, value),
+        ["tag", ctype, body, mark] => preconditions::tag(alloc, ctype, body, mark),
+        ["judge", method, second, marks, lines @ ..] => {
+            preconditions::judged(alloc, method, second, marks, lines)
+        }
+        ["needs-read", lines @ ..] => preconditions::needs_read(alloc, lines),
+        ["ranges", value, size] => ranges::answer(alloc, value, size),
+        ["multipart", ctype, body, value] => ranges::text(alloc, ctype, body, value),
+        ["upgrade", key] => upgrades::answer(alloc, key),
+        _ => String::from_str(alloc, "no case"),
+    }
+}
+
+fn main(rt: HostRuntime) -> io::Result<()> {
+    case_lines::run(&rt, answer)
+}

@@ -1,0 +1,26 @@
+-- Quoted strings (RFC 9110, section 5.6.4).
+use Rattle.std.specs.Prelude.{ℕ, Bool, true, false, not, ◌&&◌, ◌==◌, List, [], ◌∷◌}
+use Rattle.httparse.specs.Grammar.{is_value_byte}
+use Rattle.field_list.specs.Places.{quote, next_place}
+use Rattle.field_list.specs.declared.quoting.Quoting.TheVariants.{Strings}
+use Rattle.field_list.specs.declared.quoting.Place.{Place}
+use Rattle.field_list.specs.declared.quoting.Place.TheVariants.{Outside, Inside, Escaped}
+
+abbrev pub is_outside : Place → Bool
+is_outside Outside = true
+is_outside Inside = false
+is_outside Escaped = false
+
+-- A byte may follow in quotes: a tab, a space, a visible character or a byte past ASCII. Those are
+-- the bytes of text, and what a backslash may escape.
+abbrev pub continues : Place → ℕ → Bool
+continues place b = not (is_outside place) && is_value_byte b
+
+-- the text is the rest of a quoted string, from that place on: it ends where the quotes close
+abbrev pub is_rest : Place → List ℕ → Bool
+is_rest place [] = is_outside place
+is_rest place (b ∷ text) = continues place b && is_rest (next_place Strings place b) text
+
+abbrev pub is_quoted_string : List ℕ → Bool
+is_quoted_string [] = false
+is_quoted_string (b ∷ text) = b == quote && is_rest Inside text

@@ -1,0 +1,10 @@
+-- kept for the crates above
+pub mod Classing
+pub mod StoreOnce
+pub mod Beside
+pub mod PairRuns
+pub mod Pairing
+pub mod Checkpointing
+pub mod Repairing
+-- internal
+mod PairOpening

@@ -1,0 +1,5 @@
+use Rattle.journal_pair.proofs.StoreOnce.{store_stands_once_lem}
+use Rattle.journal_pair.proofs.laws.store_stands_once.Goals as goal
+
+pub returns : goal.returns
+returns c = store_stands_once_lem

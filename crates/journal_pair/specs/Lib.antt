@@ -1,0 +1,9 @@
+pub mod Sides
+pub mod Stores
+pub mod PairState
+pub mod PairJournal
+pub mod PairMoments
+pub mod Causes
+pub mod PairLaws
+-- internal: cited by private clauses alone
+pub mod Choices

@@ -1,0 +1,28 @@
+//! Byte ranges (RFC 9110, section 14): the parts of a body that a Range field names, and the body of
+//! a response with several of them.
+//!
+//! ```ignore
+//! match ranges(alloc, b"bytes=0-0, -1", size)? {
+//!     RangeSet::Whole => ..,           // 200
+//!     RangeSet::Unsatisfiable => ..,   // 416
+//!     RangeSet::Parts(parts) => ..,    // 206
+//! }
+//! ```
+//!
+//! Proved: [`ranges`] is the definition `range_set` of the field's value and the size, and its parts
+//! are inside of the body (`within`). [`multipart`] writes exactly the text `multipart_text`, with the
+//! first boundary that isn't in the body.
+//!
+//! It stands on `field_list`, which reads the list, on `memchr`, which searches the body, on `itoa`
+//! and on `pod_base`.
+#![tactic(auto)]
+
+mod byte_range;
+mod multipart_body;
+mod number;
+mod range_set;
+
+pub use byte_range::{ByteRange, Part};
+pub use multipart_body::multipart;
+pub use number::NUMBER_LIMIT;
+pub use range_set::{RANGE_LIMIT, RangeSet, ranges};

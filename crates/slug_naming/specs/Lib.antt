@@ -1,0 +1,2 @@
+-- the stem of a slug
+pub mod Stems

@@ -1,0 +1,15 @@
+pub mod Forward
+pub mod Completions
+pub mod Backward
+pub mod Endings
+pub mod Settling
+pub mod Shift
+pub mod Fitting
+pub mod Theorem
+pub mod Steps
+pub mod Answering
+pub mod Ends
+pub mod Waiting
+pub mod OneProduced
+pub mod Naming
+pub mod NamingSteps

@@ -1,0 +1,62 @@
+-- Laws of derivations and of reading, for the proofs of the crates above.
+use Rattle.std.specs.Prelude.{ℕ, ◌≡◌, List, [], ◌++◌, length, take}
+use Rattle.turtle_grammar.specs.declared.symbol.Start.{Start}
+use Rattle.turtle_grammar.specs.declared.symbol.Symbol.{Symbol}
+use Rattle.turtle_grammar.specs.declared.production.Production.{Production}
+use Rattle.turtle_grammar.specs.declared.machine.Machine.{Machine}
+use Rattle.turtle_grammar.specs.Derivations.{Derives, GoesOn, IsFault, IsShallow}
+use Rattle.turtle_grammar.specs.Readings.{HasRead, Produces, NamesNothing}
+
+-- what a list of symbols produces is one list
+abbrev pub HasOneDerivation : Type 0
+HasOneDerivation =
+    (start : Start) (symbols : List Symbol) (these those : List Production)
+    → Derives start symbols these → Derives start symbols those → these ≡ those
+
+-- what a list of symbols produces up to its last is one list, whatever follows
+abbrev pub HasOneProduce : Type 0
+HasOneProduce =
+    (start : Start) (symbols : List Symbol) (these those : List Production)
+    → Produces start symbols these → Produces start symbols those → these ≡ those
+
+-- each prefix of what goes on goes on
+abbrev pub PrefixesGoOn : Type 0
+PrefixesGoOn =
+    (start : Start) (symbols rest : List Symbol)
+    → GoesOn start (symbols ++ rest) → GoesOn start symbols
+
+-- what is derived goes on at each of its prefixes
+abbrev pub DerivedGoesOn : Type 0
+DerivedGoesOn =
+    (start : Start) (symbols : List Symbol) (productions : List Production) (k : ℕ)
+    → Derives start symbols productions → GoesOn start (take k symbols)
+
+-- the fault of a list of symbols is at one index
+abbrev pub HasOneFault : Type 0
+HasOneFault =
+    (start : Start) (symbols : List Symbol) (i k : ℕ)
+    → IsFault start symbols i → IsFault start symbols k → i ≡ k
+
+-- what is derived has no fault
+abbrev pub DerivedHasNoFault : Type 0
+DerivedHasNoFault =
+    (start : Start) (symbols : List Symbol) (productions : List Production) (k : ℕ)
+    → Derives start symbols productions → IsFault start symbols k → ⊥
+
+-- what the machine has read goes on
+abbrev pub ReadGoesOn : Type 0
+ReadGoesOn =
+    (start : Start) (symbols : List Symbol) (productions : List Production) (machine : Machine)
+    → HasRead start symbols productions machine → GoesOn start symbols
+
+-- and none of it is too deep
+abbrev pub ReadIsShallow : Type 0
+ReadIsShallow =
+    (start : Start) (symbols : List Symbol) (productions : List Production) (machine : Machine)
+    → HasRead start symbols productions machine → IsShallow symbols (length symbols)
+
+-- where nothing has been read, nothing is unfinished
+abbrev pub NothingNamesNothing : Type 0
+NothingNamesNothing =
+    (start : Start) (productions : List Production) (machine : Machine)
+    → HasRead start [] productions machine → NamesNothing machine

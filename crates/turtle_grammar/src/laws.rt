@@ -1,0 +1,33 @@
+//! Laws of derivations and of reading, for the proofs of the crates above.
+//!
+//! Each is the contract of a function that does nothing.
+
+ghost use Rattle.turtle_grammar.specs.Laws.{HasOneDerivation, HasOneProduce, PrefixesGoOn};
+ghost use Rattle.turtle_grammar.specs.Laws.{HasOneFault, DerivedHasNoFault, ReadGoesOn};
+ghost use Rattle.turtle_grammar.specs.Laws.{DerivedGoesOn, ReadIsShallow, NothingNamesNothing};
+
+/// What a list of symbols derives is one list, and so is what it produces up to its last symbol.
+pub fn one_derivation()
+    ensures derived { HasOneDerivation }
+    ensures produced { HasOneProduce }
+{}
+
+/// What goes on has each of its prefixes going on, and what is derived goes on at each of them.
+pub fn prefixes()
+    ensures go_on { PrefixesGoOn }
+    ensures of_derived { DerivedGoesOn }
+{}
+
+/// A list of symbols has a derivation or a fault of grammar, at one index.
+pub fn one_fault()
+    ensures index { HasOneFault }
+    ensures none { DerivedHasNoFault }
+{}
+
+/// What the machine has read goes on, no bracket of it is too deep, and before the first symbol
+/// nothing is unfinished.
+pub fn readings()
+    ensures go_on { ReadGoesOn }
+    ensures shallow { ReadIsShallow }
+    ensures at_start { NothingNamesNothing }
+{}

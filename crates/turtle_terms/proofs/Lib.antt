@@ -1,0 +1,6 @@
+pub mod Decoding
+pub mod Delimiters
+pub mod EscapeBounds
+pub mod Meanings
+pub mod PrefixLemmas
+pub mod Written

@@ -1,0 +1,185 @@
+//! The term that a token means.
+
+ghost use Rattle.std.specs.Prelude.{◌≡◌, ◌≢◌, Option, Result, Ok, Err, IfOk, IfErr, IsTrue};
+ghost use Rattle.std.specs.Option.{option_map};
+ghost use Rattle.rdf_graph.specs.declared.term.Term.{Term};
+ghost use Rattle.rdf_graph.specs.declared.term.Term.TheVariants.{Literal as LiteralTerm};
+ghost use Rattle.turtle_lex.specs.declared.token.TokenKind.TheVariants as Kind;
+ghost use Rattle.turtle_lex.specs.Tokens.{IsTokenOf};
+ghost use Rattle.turtle_lex.specs.Laws.{text_of};
+ghost use Rattle.turtle_terms.specs.Meaning.{IsTermOf, IsIriOf, is_iri_kind, plain_term, datatype_of};
+ghost use Rattle.turtle_terms.specs.Values.{string_value};
+ghost use Rattle.turtle_terms.specs.declared.vocabulary.Word.TheVariants.{XsdString};
+ghost use Rattle.turtle_terms.specs.Vocabulary.{word_text};
+ghost use Rattle.turtle_terms.specs.declared.fault.TurtleFault.TheVariants.{NoMemory};
+
+use crate::fault::TurtleFault;
+use crate::iris::{iri_of, is_iri_kind};
+use crate::scope::Scope;
+use crate::token_text::{label, lexical_form, text_of};
+use crate::vocabulary::{Vocabulary, Word, word_iri};
+use iri_ref::Iri;
+use pod_base::{Mem, Text};
+use rdf_graph::Term;
+use std::alloc::Global;
+use turtle_lex::{Token, TokenKind};
+
+/// The literal with the text of a token and a datatype of XML Schema.
+fn literal(
+    alloc: Global,
+    shared: Option<&Vocabulary>,
+    bytes: &[u8],
+    token: &Token,
+    datatype: Word,
+) -> Mem<Term>
+    requires { IsTokenOf bytes.now token.now }
+    ensures { IfOk result (λ term. term
+        ≡ LiteralTerm (text_of bytes.now token.now) (word_text datatype)) }
+{
+    let lexical = Text::of(alloc, text_of(bytes, token))?;
+    let datatype = word_iri(alloc, shared, datatype)?;
+    Ok(Term::Literal { lexical, datatype })
+}
+
+/// The plain string that a String means.
+fn plain_string(
+    alloc: Global,
+    shared: Option<&Vocabulary>,
+    bytes: &[u8],
+    token: &Token,
+) -> Mem<Term>
+    requires of_bytes { IsTokenOf bytes.now token.now }
+    requires kind { token.now.kind ≡ Kind.Quoted }
+    ensures { IfOk result (λ term. term ≡ LiteralTerm
+        (string_value (text_of bytes.now token.now)) (word_text XsdString)) }
+{
+    let lexical = lexical_form(alloc, bytes, token)?;
+    let datatype = word_iri(alloc, shared, Word::XsdString)?;
+    Ok(Term::Literal { lexical, datatype })
+}
+
+/// The datatype of the literals of a kind that are written without one.
+fn datatype_of(kind: TokenKind) -> Option<Word>
+    ensures { option_map word_text result ≡ datatype_of kind }
+{
+    match kind {
+        TokenKind::Integer => Some(Word::XsdInteger),
+        TokenKind::Decimal => Some(Word::XsdDecimal),
+        TokenKind::Double => Some(Word::XsdDouble),
+        TokenKind::True | TokenKind::False => Some(Word::XsdBoolean),
+        _ => None,
+    }
+}
+
+/// The term of a token that means no IRI, if it means one.
+fn plain_term(
+    alloc: Global,
+    shared: Option<&Vocabulary>,
+    bytes: &[u8],
+    token: &Token,
+) -> Mem<Option<Term>>
+    requires { IsTokenOf bytes.now token.now }
+    ensures { IfOk result (λ term. term ≡ plain_term token.now.kind (text_of bytes.now token.now)) }
+{
+    match token.kind {
+        TokenKind::BlankLabel => Ok(Some(Term::Blank(label(alloc, bytes, token)?))),
+        TokenKind::Quoted => Ok(Some(plain_string(alloc, shared, bytes, token)?)),
+        kind => match datatype_of(kind) {
+            Some(datatype) => Ok(Some(literal(alloc, shared, bytes, token, datatype)?)),
+            None => Ok(None),
+        },
+    }
+}
+
+/// The term that a token means. The IRIs of words are those of a vocabulary, where one is given.
+fn meaning(
+    alloc: Global,
+    shared: Option<&Vocabulary>,
+    base: &Iri,
+    scope: &Scope,
+    bytes: &[u8],
+    token: &Token,
+) -> Result<Option<Term>, TurtleFault>
+    requires { IsTokenOf bytes.now token.now }
+    ensures term { IfOk result (λ term. IsTermOf base.now scope.now bytes.now token.now (Ok term)) }
+    ensures fault { IfErr result (λ fault. fault ≢ NoMemory
+        → IsTermOf base.now scope.now bytes.now token.now (Err fault)) }
+{
+    if !is_iri_kind(token.kind) {
+        return Ok(plain_term(alloc, shared, bytes, token)?);
+    }
+    let iri = iri_of(alloc, shared, base, scope, bytes, token)?;
+    Ok(Some(Term::Iri(iri)))
+}
+
+/// The term that a token means by itself, under a base and the declared prefixes: that of an IRIREF,
+/// a name, a label, `a`, a number, a truth value, and of a String the plain string, whatever follows
+/// it. None is the answer exactly for tokens of other kinds.
+///
+/// # Errors
+///
+/// `Prefix` or `BadIri` at the start of the token, exactly where its name or its IRIREF has no IRI.
+pub fn term(
+    alloc: Global,
+    base: &Iri,
+    scope: &Scope,
+    bytes: &[u8],
+    token: &Token,
+) -> Result<Option<Term>, TurtleFault>
+    requires { IsTokenOf bytes.now token.now }
+    ensures term { IfOk result (λ term. IsTermOf base.now scope.now bytes.now token.now (Ok term)) }
+    ensures fault { IfErr result (λ fault. fault ≢ NoMemory
+        → IsTermOf base.now scope.now bytes.now token.now (Err fault)) }
+    ensures only { IfOk result (λ term. (other : Result (Option Term) TurtleFault)
+        → IsTermOf base.now scope.now bytes.now token.now other → other ≡ Ok term) }
+    ensures only_fault { IfErr result (λ fault. fault ≢ NoMemory
+        → (other : Result (Option Term) TurtleFault)
+        → IsTermOf base.now scope.now bytes.now token.now other → other ≡ Err fault) }
+{
+    meaning(alloc, None, base, scope, bytes, token)
+}
+
+impl Vocabulary {
+    /// [`term`], where the IRIs of words share the memory of the vocabulary.
+    ///
+    /// # Errors
+    ///
+    /// Those of [`term`].
+    pub fn term(
+        &self,
+        alloc: Global,
+        base: &Iri,
+        scope: &Scope,
+        bytes: &[u8],
+        token: &Token,
+    ) -> Result<Option<Term>, TurtleFault>
+        requires { IsTokenOf bytes.now token.now }
+        ensures term { IfOk result (λ term. IsTermOf base.now scope.now bytes.now token.now (Ok term)) }
+        ensures fault { IfErr result (λ fault. fault ≢ NoMemory
+            → IsTermOf base.now scope.now bytes.now token.now (Err fault)) }
+    {
+        meaning(alloc, Some(self), base, scope, bytes, token)
+    }
+
+    /// The IRI that a token means: that of an IRIREF, a name or `a`.
+    ///
+    /// # Errors
+    ///
+    /// `Prefix` or `BadIri` at the start of the token, exactly where it has no IRI.
+    pub fn token_iri(
+        &self,
+        alloc: Global,
+        base: &Iri,
+        scope: &Scope,
+        bytes: &[u8],
+        token: &Token,
+    ) -> Result<Iri, TurtleFault>
+        requires of_bytes { IsTokenOf bytes.now token.now }
+        requires kind { IsTrue (is_iri_kind token.now.kind) }
+        ensures iri { IfOk result (λ iri. IsIriOf base.now scope.now bytes.now token.now (Ok iri)) }
+        ensures fault { IfErr result (λ fault. fault ≢ NoMemory
+            → IsIriOf base.now scope.now bytes.now token.now (Err fault)) }
+    {
+        iri_of(alloc, Some(self), base, scope, bytes, token)
+    }
+}

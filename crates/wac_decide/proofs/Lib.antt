@@ -1,0 +1,3 @@
+pub mod Positions
+pub mod Grounds
+pub mod Granting

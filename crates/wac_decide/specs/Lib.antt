@@ -1,0 +1,5 @@
+pub mod Modes
+pub mod Grants
+pub mod Decision
+pub mod Needs
+pub mod Allow
