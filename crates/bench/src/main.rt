@@ -6,7 +6,6 @@
 
 mod building;
 mod coding;
-mod deciding;
 mod joining;
 mod opening;
 mod reading;
@@ -16,7 +15,6 @@ mod writing;
 use anyhow::bail;
 use building::build_graph;
 use coding::code_snapshots;
-use deciding::decide_access;
 use joining::join_conditions;
 use opening::open_journal;
 use reading::{Looks, read_versions};
@@ -31,12 +29,16 @@ fn number(rt: &HostRuntime, place: usize, other: usize) -> anyhow::Result<usize>
     Ok(word.and_then(|word| word.parse().ok()).unwrap_or(other))
 }
 
-/// Runs the figures of one thread with small counts.
-fn run_small(rt: &HostRuntime, alloc: Global) -> anyhow::Result<()> {
+/// Runs the figures of graphs and their forms with small counts.
+fn run_small_graphs(rt: &HostRuntime, alloc: Global) -> anyhow::Result<()> {
     build_graph(rt, alloc, 1_000, false)?;
     code_snapshots(rt, alloc, 100, false)?;
-    join_conditions(rt, alloc, 1_000, false)?;
-    decide_access(rt, alloc, 40, 100, false)?;
+    join_conditions(rt, alloc, 1_000, false)
+}
+
+/// Runs the figures of one thread with small counts.
+fn run_small(rt: &HostRuntime, alloc: Global) -> anyhow::Result<()> {
+    run_small_graphs(rt, alloc)?;
     open_journal(rt, alloc, false)?;
     serve_stream(rt, alloc, 100, 1, false)?;
     write_graph(rt, alloc, 1_000, false)
@@ -67,7 +69,6 @@ fn main(rt: HostRuntime) -> anyhow::Result<()> {
     };
     let first = number(&rt, 2, 0)?;
     match word.as_str() {
-        "access" => decide_access(&rt, alloc, first, number(&rt, 3, 1)?, true),
         "codec" => code_snapshots(&rt, alloc, first, true),
         "graph" => build_graph(&rt, alloc, first, true),
         "join" => join_conditions(&rt, alloc, first, true),
