@@ -2,6 +2,7 @@ pub mod Sides
 pub mod Stores
 pub mod PairState
 pub mod PairJournal
+pub mod Checkpointed
 pub mod PairMoments
 pub mod Causes
 pub mod PairLaws

@@ -3,7 +3,8 @@
 ghost use Rattle.std.specs.Prelude.{◌≡◌, ◌⊎◌, ◌+◌, ◌<◌, ◌^◌, ◌∷◌, [], List, ℕ, IsOk, OnOk, OnErr};
 ghost use Rattle.std.specs.Prelude.{false};
 ghost use Rattle.pod_disk.specs.Disk.{LeavesOnly};
-ghost use Rattle.journal_pair.specs.Sides.{active_of, other_of, opposite_of};
+ghost use Rattle.journal_pair.specs.Sides.{active_of, other_of};
+ghost use Rattle.journal_pair.specs.Checkpointed.{IsCheckpointed};
 ghost use Rattle.journal_pair.specs.Stores.{StoreStandsBoth};
 ghost use Rattle.journal_pair.specs.PairJournal.{IsPairClean, IsCheckpointInDoubt, IsPassedBeside};
 ghost use Rattle.journal_pair.specs.PairJournal.{IsLongBeside};
@@ -49,18 +50,8 @@ impl Pair {
             bodies snapshot.now) }
         ensures kept { active_of self.old.active first.new second.new
             ≡ active_of self.old.active first.old second.old }
-        ensures clean { OnOk result (self.old.journal.epoch < 2 ^ 63
-            → IsPairClean D.image first.new second.new self.new (snapshot.now ∷ [])) }
-        ensures active { OnOk result (self.old.journal.epoch < 2 ^ 63
-            → self.new.active ≡ opposite_of self.old.active) }
-        ensures format { OnOk result (self.old.journal.epoch < 2 ^ 63
-            → self.new.journal.format ≡ 2) }
-        ensures epoch { OnOk result (self.old.journal.epoch < 2 ^ 63
-            → self.new.journal.epoch ≡ self.old.journal.epoch + 1) }
-        ensures passed { OnOk result (self.old.journal.epoch < 2 ^ 63
-            → IsPassedBeside D.image first.new second.new self.new) }
-        ensures long { OnOk result (self.old.journal.epoch < 2 ^ 63
-            → IsLongBeside D.image first.new second.new self.new) }
+        ensures done { OnOk result (self.old.journal.epoch < 2 ^ 63
+            → IsCheckpointed D.image first.new second.new self.old self.new snapshot.now) }
         ensures last { self.old.journal.epoch ≡ 2 ^ 63
             → IsOk result × (self.new ≡ self.old)
             × (first.new ≡ first.old) × (second.new ≡ second.old) }
