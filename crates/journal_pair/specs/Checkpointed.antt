@@ -1,8 +1,8 @@
 -- What a checkpoint makes of a pair.
-use Rattle.std.specs.Prelude.{◌≡◌, ◌⊎◌, ◌+◌, ℕ, List, [], ◌∷◌, false}
+use Rattle.std.specs.Prelude.{◌≡◌, ◌+◌, ℕ, List, [], ◌∷◌}
 use Rattle.journal_pair.specs.Sides.{opposite_of}
 use Rattle.journal_pair.specs.PairState.{PairState}
-use Rattle.journal_pair.specs.PairJournal.{IsPairClean, IsCheckpointInDoubt, IsPassedBeside}
+use Rattle.journal_pair.specs.PairJournal.{IsPairClean, IsPassedBeside}
 use Rattle.journal_pair.specs.PairJournal.{IsLongBeside}
 
 module _ {D : Type 0} (image : D → List ℕ → Type 0) (first second : D) (old new : PairState) where

@@ -28,21 +28,21 @@ returns-in-Ok-clause-pairs g c = λ bodies clean passed long.
 
 pub returns-in-Ok-clause-done : goal.returns-in-Ok-clause-done
 returns-in-Ok-clause-done g c = λ _. record {
-      clean = search rules;
-      active = search rules;
-      format = search rules;
-      epoch = search rules;
-      passed =
-          renewed_passed g.D.Disk.content g.D.Disk.image g.D.Disk.moment g.D.Disk.left_since g.D.Disk.reads_image g.D.Disk.counts_now g.D.Disk.only_now
-          c.args.first.now c.args.second.now c.renew_beside.new.first c.renew_beside.new.second c.args.self.now c.self.inside.active (ap (λ (s : PairState). s.active) c.self.view_is)
-          c.epoch-epoch.result (c.epoch-epoch.ensures.epoch ∙ ap (λ (s : PairState). s.journal.epoch) c.self.view_is)
-          c.requires.0 c.requires.1 c.renew_beside.ensures.active c.opposite-self-inside.result c.opposite-self-inside.ensures c.in-Ok.journal.epoch c.in-Ok.ensures.epoch;
-      long =
-          renewed_long g.D.Disk.content g.D.Disk.image g.D.Disk.moment g.D.Disk.left_since g.D.Disk.reads_image g.D.Disk.counts_now g.D.Disk.only_now
-          c.args.first.now c.args.second.now c.renew_beside.new.first c.renew_beside.new.second c.args.self.now c.self.inside.active (ap (λ (s : PairState). s.active) c.self.view_is)
-          c.epoch-epoch.result (c.epoch-epoch.ensures.epoch ∙ ap (λ (s : PairState). s.journal.epoch) c.self.view_is)
-          c.requires.0 c.requires.1 c.renew_beside.ensures.active c.opposite-self-inside.result c.opposite-self-inside.ensures;
-    }
+  clean = search rules;
+  active = search rules;
+  format = search rules;
+  epoch = search rules;
+  passed =
+      renewed_passed g.D.Disk.content g.D.Disk.image g.D.Disk.moment g.D.Disk.left_since g.D.Disk.reads_image g.D.Disk.counts_now g.D.Disk.only_now
+      c.args.first.now c.args.second.now c.renew_beside.new.first c.renew_beside.new.second c.args.self.now c.self.inside.active (ap (λ (s : PairState). s.active) c.self.view_is)
+      c.epoch-epoch.result (c.epoch-epoch.ensures.epoch ∙ ap (λ (s : PairState). s.journal.epoch) c.self.view_is)
+      c.requires.0 c.requires.1 c.renew_beside.ensures.active c.opposite-self-inside.result c.opposite-self-inside.ensures c.in-Ok.journal.epoch c.in-Ok.ensures.epoch;
+  long =
+      renewed_long g.D.Disk.content g.D.Disk.image g.D.Disk.moment g.D.Disk.left_since g.D.Disk.reads_image g.D.Disk.counts_now g.D.Disk.only_now
+      c.args.first.now c.args.second.now c.renew_beside.new.first c.renew_beside.new.second c.args.self.now c.self.inside.active (ap (λ (s : PairState). s.active) c.self.view_is)
+      c.epoch-epoch.result (c.epoch-epoch.ensures.epoch ∙ ap (λ (s : PairState). s.journal.epoch) c.self.view_is)
+      c.requires.0 c.requires.1 c.renew_beside.ensures.active c.opposite-self-inside.result c.opposite-self-inside.ensures;
+}
 
 pub returns-in-Err-Closed-clause-moments : goal.returns-in-Err-Closed-clause-moments
 returns-in-Err-Closed-clause-moments g c = λ passed long.
