@@ -1,6 +1,6 @@
 //! Checkpoints: a new journal with one snapshot on the other disk.
 
-ghost use Rattle.std.specs.Prelude.{◌≡◌, ◌⊎◌, ◌+◌, ◌<◌, ◌^◌, ◌∷◌, [], List, ℕ, IsOk, OnOk, OnErr};
+ghost use Rattle.std.specs.Prelude.{◌≡◌, ◌⊎◌, ◌<◌, ◌^◌, List, ℕ, IsOk, OnOk, OnErr};
 ghost use Rattle.std.specs.Prelude.{false};
 ghost use Rattle.pod_disk.specs.Disk.{LeavesOnly};
 ghost use Rattle.journal_pair.specs.Sides.{active_of, other_of};
