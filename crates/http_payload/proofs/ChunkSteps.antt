@@ -9,7 +9,7 @@ use Rattle.http_head.specs.declared.content_length.TheConstants.{BODY_LIMIT}
 use Rattle.http_payload.specs.Chunks.{crlf, IsShortLine, Chunk, chunk_text, IsChunk, chunk_texts, chunk_bytes, IsTrailers, IsLast, IsOverLine, Ending, Whole, Over, EndsAs, EndsInChunks, InChunk}
 use Rattle.http_payload.specs.PayloadState.{payload_state}
 use Rattle.http_payload.specs.ChunkLines.{NeverLine, IsLineOf}
-use Rattle.http_payload.specs.Steps.{Steps, Never, Passes}
+use Rattle.http_payload.specs.Steps.{Steps, Never, HasTooLargeChunk}
 use Rattle.http_payload.proofs.Prefixes.{prefixes}
 
 -- one line is a prefix of a text
@@ -242,7 +242,7 @@ size_line_step line body bytes size l some room =
 
 -- a line whose size is too large
 pub over_line_passes : (line body bytes : List ℕ) (taken size : ℕ) → IsLineOf (line ++ take taken bytes) size
-    → BODY_LIMIT < length body + size → length body ≤ BODY_LIMIT → Passes (payload_state Line line body) bytes
+    → BODY_LIMIT < length body + size → length body ≤ BODY_LIMIT → HasTooLargeChunk (payload_state Line line body) bytes
 over_line_passes line body bytes taken size l over fits = (
   take taken bytes,
   drop taken bytes,

@@ -9,7 +9,7 @@ use Rattle.http_payload.specs.declared.stage.Stage.{Stage}
 use Rattle.http_payload.specs.declared.stage.Stage.TheVariants.{Rest, Line, Chunk, ChunkEnd, Trailers, Trailer, TrailerEnd, LastEnd, Failed}
 use Rattle.http_payload.specs.Chunks.{Whole}
 use Rattle.http_payload.specs.Bodies.{IsBody, IsFault, IsPartial, IsOrOutOfMemory}
-use Rattle.http_payload.specs.PayloadState.{PayloadState, payload_state, IsSound, Represents, IsDone, fault_at}
+use Rattle.http_payload.specs.PayloadState.{PayloadState, payload_state, IsSoundPayload, RepresentsBody, IsDone, fault_at}
 use Rattle.http_payload.proofs.Representation.{partial_of}
 use Rattle.http_payload.proofs.LawLemmas.{one_outcome, no_fault_at_body, one_fault, no_fault_at_partial, no_body_at_partial}
 
@@ -17,8 +17,8 @@ abbrev pub fed : ℕ → Bool → Fed
 fed taken done = record { taken = taken; done = done }
 
 -- a whole piece that was taken without an end
-pub partial_at : (form : BodyForm) (new : PayloadState) (text piece : List ℕ) (taken : ℕ) → Represents form new (text ++ take taken piece)
-    → IsSound new → (IsDone new → ⊥) → taken ≡ length piece → IsPartial form (text ++ piece)
+pub partial_at : (form : BodyForm) (new : PayloadState) (text piece : List ℕ) (taken : ℕ) → RepresentsBody form new (text ++ take taken piece)
+    → IsSoundPayload new → (IsDone new → ⊥) → taken ≡ length piece → IsPartial form (text ++ piece)
 partial_at form new text piece taken represents sound not_done all =
     subst (λ (t : List ℕ). IsPartial form (text ++ t)) (take_all taken piece (omega arith))
     (partial_of form new (text ++ take taken piece) represents sound not_done)

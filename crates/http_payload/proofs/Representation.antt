@@ -11,7 +11,7 @@ use Rattle.http_payload.specs.declared.stage.Stage.TheVariants.{Rest, Line, Chun
 use Rattle.http_head.specs.declared.content_length.TheConstants.{BODY_LIMIT}
 use Rattle.http_payload.specs.Chunks.{crlf, trailer_texts, Ending, Whole, Over, EndsInChunks}
 use Rattle.http_payload.specs.Bodies.{Ends, IsBody, HasNoEnd, IsFault, IsPartial}
-use Rattle.http_payload.specs.PayloadState.{PayloadState, payload_state, Left, LeftAt, IsSound, IsSoundAt, IsOpenLine, Represents, IsDone, fault_of, fault_at, first_stage}
+use Rattle.http_payload.specs.PayloadState.{PayloadState, payload_state, Left, LeftAt, IsSoundPayload, IsSoundAt, IsOpenLine, RepresentsBody, IsDone, fault_of, fault_at, first_stage}
 use Rattle.http_payload.specs.Steps.{Steps, Blocks}
 use Rattle.http_payload.proofs.Prefixes.{prefixes}
 use Rattle.http_payload.proofs.LineFacts.{zero_line, zero_text, zero_is_line, open_at_first}
@@ -21,8 +21,8 @@ use Rattle.http_payload.proofs.ChunkSteps.{line_first, closed_last, closed_over,
 use Rattle.http_payload.proofs.LawLemmas.{one_outcome}
 
 -- a payload that took bytes represents the longer text
-pub represents_on : {form : BodyForm} {old new : PayloadState} {text bytes : List ℕ} → Represents form old text → Steps old bytes new
-    → fault_of new ≡ None → Represents form new (text ++ bytes)
+pub represents_on : {form : BodyForm} {old new : PayloadState} {text bytes : List ℕ} → RepresentsBody form old text → Steps old bytes new
+    → fault_of new ≡ None → RepresentsBody form new (text ++ bytes)
 represents_on {form} {old} {new} {text} {bytes} represents steps no_fault = record {
   no_fault = no_fault;
   left = λ more ending h.
@@ -128,7 +128,7 @@ goes_on_at (TrailerEnd used) line body sound no_fault =
 goes_on_at LastEnd line body sound no_fault = record { more = 10 ∷ []; ending = Whole body; left = (refl, refl) }
 goes_on_at (Failed fault) line body sound no_fault = absurd (let e : Some fault ≡ None = no_fault in cc)
 
-pub continues : (h : PayloadState) → IsSound h → fault_of h ≡ None → GoesOn h
+pub continues : (h : PayloadState) → IsSoundPayload h → fault_of h ≡ None → GoesOn h
 continues h sound no_fault = goes_on_at h.stage h.line h.body sound no_fault
 
 -- what isn't done has no end yet
@@ -148,7 +148,7 @@ not_ended_at LastEnd line body sound not_done ending h = let e = h.0 in cc
 not_ended_at (Failed fault) line body sound not_done ending h = h
 
 -- the text of what isn't done has no end
-no_end_before : (form : BodyForm) (h : PayloadState) (text : List ℕ) → Represents form h text → IsSound h
+no_end_before : (form : BodyForm) (h : PayloadState) (text : List ℕ) → RepresentsBody form h text → IsSoundPayload h
     → ((ending : Ending) → Left h [] ending → ⊥) → HasNoEnd form text
 no_end_before form h text represents sound open_now prefix rest ending text_is ends =
     let on = continues h sound represents.no_fault in
@@ -162,7 +162,7 @@ no_end_before form h text represents sound open_now prefix rest ending text_is e
     tail_nothing (x ∷ a) b e = absurd (let n : ◌≡◌ {A = List ℕ} (x ∷ (a ++ b)) [] = e in cc)
 
 -- what isn't done is partial
-pub partial_of : (form : BodyForm) (h : PayloadState) (text : List ℕ) → Represents form h text → IsSound h → (IsDone h → ⊥) → IsPartial form text
+pub partial_of : (form : BodyForm) (h : PayloadState) (text : List ℕ) → RepresentsBody form h text → IsSoundPayload h → (IsDone h → ⊥) → IsPartial form text
 partial_of form h text represents sound not_done =
     let on = continues h sound represents.no_fault in
     record {
@@ -173,14 +173,14 @@ partial_of form h text represents sound not_done =
     }
 
 -- what is done is complete
-pub body_of : (form : BodyForm) (h : PayloadState) (text : List ℕ) → Represents form h text → IsDone h → IsBody form text h.body
+pub body_of : (form : BodyForm) (h : PayloadState) (text : List ℕ) → RepresentsBody form h text → IsDone h → IsBody form text h.body
 body_of form h text represents done =
     let left : Left h [] (Whole h.body) = subst (λ s. LeftAt s h.line h.body [] (Whole h.body)) (sym done)
     (refl, ap Whole (sym (append-nil h.body))) in
     subst (λ t. Ends form t (Whole h.body)) (append-nil text) (represents.ends [] (Whole h.body) left)
 
 -- what blocks a payload is a fault of the text
-pub fault_of_text : (form : BodyForm) (h : PayloadState) (text bytes : List ℕ) (fault : PayloadFault) → Represents form h text → IsSound h
+pub fault_of_text : (form : BodyForm) (h : PayloadState) (text bytes : List ℕ) (fault : PayloadFault) → RepresentsBody form h text → IsSoundPayload h
     → (IsDone h → ⊥) → Blocks h bytes fault → fault ≢ NoMemory → IsFault form (text ++ bytes) fault
 fault_of_text form h text bytes Malformed represents sound not_done never memory =
     λ more prefix rest ending same ends. elim (cases_lt (length prefix) (length text)) [
@@ -200,7 +200,7 @@ fault_of_text form h text bytes TooLarge represents sound not_done passes memory
 fault_of_text form h text bytes NoMemory represents sound not_done blocks memory = absurd (memory refl)
 
 -- a payload at the start of a body
-represents_at_first : (form : BodyForm) → Represents form (payload_state (first_stage form) [] []) []
+represents_at_first : (form : BodyForm) → RepresentsBody form (payload_state (first_stage form) [] []) []
 represents_at_first Empty = record {
   no_fault = refl;
   left = λ more ending h. (ap length h.0, h.1 ∙ ap Whole (sym h.0));
@@ -213,8 +213,8 @@ represents_at_first Empty = record {
 represents_at_first (Length n) = record { no_fault = refl; left = λ more ending h. h; ends = λ more ending h. h }
 represents_at_first Chunked = record { no_fault = refl; left = λ more ending h. h; ends = λ more ending h. h }
 
-pub represents_first : (form : BodyForm) (h : PayloadState) → h ≡ payload_state (first_stage form) [] [] → Represents form h []
-represents_first form h e = subst (λ k. Represents form k []) (sym e) (represents_at_first form)
+pub represents_first : (form : BodyForm) (h : PayloadState) → h ≡ payload_state (first_stage form) [] [] → RepresentsBody form h []
+represents_first form h e = subst (λ k. RepresentsBody form k []) (sym e) (represents_at_first form)
 
 pub sound_first : (form : BodyForm) → IsSoundAt (first_stage form) [] []
 sound_first Empty = tt

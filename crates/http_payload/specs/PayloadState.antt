@@ -100,12 +100,12 @@ TakesBytes (TrailerEnd used) = used + 1 ≤ TRAILERS_LIMIT
 TakesBytes LastEnd = ⊤
 TakesBytes (Failed fault) = ⊥
 
-abbrev pub IsSound : PayloadState → Type 0
-IsSound h = IsSoundAt h.stage h.line h.body
+abbrev pub IsSoundPayload : PayloadState → Type 0
+IsSoundPayload h = IsSoundAt h.stage h.line h.body
 
 -- The payload is in the state after this text of that form: whatever follows, the text continues to
 -- an end exactly where what is left does. After a fault it represents no text.
-pub record Represents (form : BodyForm) (h : PayloadState) (text : List ℕ) : Type 0 where
+pub record RepresentsBody (form : BodyForm) (h : PayloadState) (text : List ℕ) : Type 0 where
   pub no_fault : fault_of h ≡ None
   pub left : (more : List ℕ) (ending : Ending) → Ends form (text ++ more) ending
       → Left h more ending

@@ -8,7 +8,7 @@ use Rattle.http_payload.specs.declared.stage.Stage.TheVariants.{Trailers, Chunk}
 use Rattle.http_head.specs.declared.content_length.TheConstants.{BODY_LIMIT}
 use Rattle.http_payload.specs.Chunks.{Ending, Over}
 use Rattle.http_payload.specs.declared.stage.Stage.{Stage}
-use Rattle.http_payload.specs.PayloadState.{PayloadState, payload_state, Left, IsSound, IsSoundAt}
+use Rattle.http_payload.specs.PayloadState.{PayloadState, payload_state, Left, IsSoundPayload, IsSoundAt}
 use Rattle.http_payload.specs.PayloadState.{fault_of, fault_at}
 
 -- Where the bytes were read, what is left is the same, whatever follows.
@@ -24,14 +24,14 @@ Never old bytes = (more prefix rest : List ℕ) (ending : Ending)
     → bytes ++ more ≡ prefix ++ rest → Left old prefix ending → ⊥
 
 -- a line in the bytes has too large a size
-abbrev pub Passes : PayloadState → List ℕ → Type 0
-Passes old bytes = (prefix : List ℕ) × (rest : List ℕ) × (bytes ≡ prefix ++ rest)
+abbrev pub HasTooLargeChunk : PayloadState → List ℕ → Type 0
+HasTooLargeChunk old bytes = (prefix : List ℕ) × (rest : List ℕ) × (bytes ≡ prefix ++ rest)
     × Left old prefix Over
 
 -- why no step is taken
 abbrev pub Blocks : PayloadState → List ℕ → PayloadFault → Type 0
 Blocks old bytes Malformed = Never old bytes
-Blocks old bytes TooLarge = Passes old bytes
+Blocks old bytes TooLarge = HasTooLargeChunk old bytes
 Blocks old bytes NoMemory = ⊤
 
 -- one step: some of the first bytes are read
@@ -40,7 +40,7 @@ pub record Advances (old : PayloadState) (bytes : List ℕ) (taken : ℕ) (new :
   pub some : 0 < taken
   pub within : taken ≤ length bytes
   pub steps : Steps old (take taken bytes) new
-  pub sound : IsSound new
+  pub sound : IsSoundPayload new
   pub no_fault : fault_of new ≡ None
 
 -- a stage takes a byte, and the next stage is the one after it

@@ -5,7 +5,7 @@ ghost use Rattle.std.specs.Prelude.{◌≡◌, ◌≢◌, ◌++◌, ◌≤◌, L
 ghost use Rattle.std.specs.Prelude.{IsOk, IfOk, IfErr, OnOk};
 ghost use Rattle.http_head.specs.declared.body_form.BodyForm.{BodyForm as Form};
 ghost use Rattle.http_payload.specs.Bodies.{IsFault};
-ghost use Rattle.http_payload.specs.PayloadState.{payload_state, IsSoundAt, Represents, fault_at};
+ghost use Rattle.http_payload.specs.PayloadState.{payload_state, IsSoundAt, RepresentsBody, fault_at};
 ghost use Rattle.http_payload.specs.BodyBytes.{bytes_of_body, IsKeptAt};
 
 use crate::feed_loop::{Step, feed_piece};
@@ -110,12 +110,12 @@ fn grow(
         (bytes_of_body body.new)) }
     ensures no_fault { IfOk result (λ step. fault_at step.stage ≡ None) }
     ensures represents { IfOk result (λ step. (form : Form) (text : List ℕ)
-        → Represents form (payload_state stage line.old.items (bytes_of_body body.old)) text
-        → Represents form (payload_state step.stage line.new.items (bytes_of_body body.new))
+        → RepresentsBody form (payload_state stage line.old.items (bytes_of_body body.old)) text
+        → RepresentsBody form (payload_state step.stage line.new.items (bytes_of_body body.new))
         (text ++ take step.taken piece.now)) }
     ensures fault { IfErr result (λ fault. fault ≢ PayloadFault.NoMemory
         → (form : Form) (text : List ℕ)
-        → Represents form (payload_state stage line.old.items (bytes_of_body body.old)) text
+        → RepresentsBody form (payload_state stage line.old.items (bytes_of_body body.old)) text
         → IsFault form (text ++ piece.now) fault) }
     ensures open { IfOk result (λ step. step.stage ≢ Stage.Rest 0 → IsKeptAt step.stage body.new) }
     ensures failed { IfErr result (λ fault. IsKeptAt (Stage.Failed fault) body.new) }
@@ -148,12 +148,12 @@ pub(crate) fn feed_body(
         (bytes_of_body body.new)) }
     ensures no_fault { IfOk result (λ step. fault_at step.stage ≡ None) }
     ensures represents { IfOk result (λ step. (form : Form) (text : List ℕ)
-        → Represents form (payload_state stage line.old.items (bytes_of_body body.old)) text
-        → Represents form (payload_state step.stage line.new.items (bytes_of_body body.new))
+        → RepresentsBody form (payload_state stage line.old.items (bytes_of_body body.old)) text
+        → RepresentsBody form (payload_state step.stage line.new.items (bytes_of_body body.new))
         (text ++ take step.taken piece.now)) }
     ensures fault { IfErr result (λ fault. fault ≢ PayloadFault.NoMemory
         → (form : Form) (text : List ℕ)
-        → Represents form (payload_state stage line.old.items (bytes_of_body body.old)) text
+        → RepresentsBody form (payload_state stage line.old.items (bytes_of_body body.old)) text
         → IsFault form (text ++ piece.now) fault) }
     ensures kept { IfOk result (λ step. IsKeptAt step.stage body.new) }
     ensures failed { IfErr result (λ fault. IsKeptAt (Stage.Failed fault) body.new) }

@@ -4,7 +4,7 @@ ghost use Rattle.std.specs.Prelude.{◌≡◌, ◌≢◌, ◌<◌, ◌≤◌, �
 ghost use Rattle.std.specs.Prelude.{IsOk, IfOk, IfErr};
 ghost use Rattle.http_head.specs.declared.body_form.BodyForm.{BodyForm as Form};
 ghost use Rattle.http_payload.specs.Bodies.{IsFault};
-ghost use Rattle.http_payload.specs.PayloadState.{payload_state, IsSoundAt, TakesBytes, Represents};
+ghost use Rattle.http_payload.specs.PayloadState.{payload_state, IsSoundAt, TakesBytes, RepresentsBody};
 ghost use Rattle.http_payload.specs.PayloadState.{fault_at};
 ghost use Rattle.http_payload.specs.Steps.{Advances, Blocks, AfterLine};
 
@@ -131,12 +131,12 @@ pub(crate) fn feed_piece(
     ensures sound { IfOk result (λ step. IsSoundAt step.stage line.new.items body.new.items) }
     ensures no_fault { IfOk result (λ step. fault_at step.stage ≡ None) }
     ensures represents { IfOk result (λ step. (form : Form) (text : List ℕ)
-        → Represents form (payload_state stage line.old.items body.old.items) text
-        → Represents form (payload_state step.stage line.new.items body.new.items)
+        → RepresentsBody form (payload_state stage line.old.items body.old.items) text
+        → RepresentsBody form (payload_state step.stage line.new.items body.new.items)
         (text ++ take step.taken piece.now)) }
     ensures fault { IfErr result (λ fault. fault ≢ PayloadFault.NoMemory
         → (form : Form) (text : List ℕ)
-        → Represents form (payload_state stage line.old.items body.old.items) text
+        → RepresentsBody form (payload_state stage line.old.items body.old.items) text
         → IsFault form (text ++ piece.now) fault) }
     ensures done { stage ≡ Stage.Rest 0 → IfOk result (λ step. (step.taken ≡ 0)
         × (step.stage ≡ Stage.Rest 0)

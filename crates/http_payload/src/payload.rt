@@ -4,7 +4,7 @@ ghost use Rattle.std.specs.Prelude.{◌≡◌, ◌≢◌, ◌≤◌, ◌-◌, �
 ghost use Rattle.std.specs.Prelude.{take, length, IsTrue, IfOk, IfErr, IfSome};
 ghost use Rattle.http_head.specs.declared.body_form.BodyForm.{BodyForm as Form};
 ghost use Rattle.http_payload.specs.Bodies.{IsBody, IsFault, IsPartial, IsOrOutOfMemory};
-ghost use Rattle.http_payload.specs.PayloadState.{IsDone, Represents, fault_of};
+ghost use Rattle.http_payload.specs.PayloadState.{IsDone, RepresentsBody, fault_of};
 
 use crate::body_bytes::{BodyBytes, feed_body};
 use crate::payload_fault::PayloadFault;
@@ -25,7 +25,7 @@ pub struct Fed {
 
 /// The body of one request, as far as it has come.
 ///
-/// It doesn't keep what was fed. Contracts say which texts it represents (`Represents`): those
+/// It doesn't keep what was fed. Contracts say which texts it represents (`RepresentsBody`): those
 /// after which the same bytes complete the body. The body grows in a block of its own, so it keeps
 /// neither the head nor the pieces alive. Once it is complete, it is held as shared [`Bytes`].
 #[derive(Debug, Drop)]
@@ -50,7 +50,7 @@ impl Model for Payload {
 impl Payload {
     /// A body of that form of which nothing has come. It takes no memory, and grows by `alloc`.
     pub fn new(alloc: Global, form: BodyForm) -> Payload
-        ensures { Represents form result [] }
+        ensures { RepresentsBody form result [] }
     {
         let stage = Stage::first(form);
         Payload {
@@ -64,10 +64,10 @@ impl Payload {
     pub fn is_done(&self) -> bool
         ensures done { IsTrue result → IsDone self.now }
         ensures whole { IsTrue result → (form : Form) (text : List ℕ)
-            → Represents form self.now text
+            → RepresentsBody form self.now text
             → IsBody form text self.now.body }
         ensures partial { result ≡ false → (form : Form) (text : List ℕ)
-            → Represents form self.now text → IsPartial form text }
+            → RepresentsBody form self.now text → IsPartial form text }
     {
         self.stage.is_end()
     }
@@ -86,33 +86,33 @@ impl Payload {
     pub fn feed(&mut self, alloc: Global, piece: &[u8]) -> Result<Fed, PayloadFault>
         ensures within { IfOk result (λ fed. fed.taken ≤ length piece.now) }
         ensures represents { IfOk result (λ fed. (form : Form) (text : List ℕ)
-            → Represents form self.old text
-            → Represents form self.new (text ++ take fed.taken piece.now)) }
+            → RepresentsBody form self.old text
+            → RepresentsBody form self.new (text ++ take fed.taken piece.now)) }
 
         // Each result is right.
         ensures done { IfOk result (λ fed. IsTrue fed.done → IsDone self.new) }
         ensures whole { IfOk result (λ fed. IsTrue fed.done → (form : Form) (text : List ℕ)
-            → Represents form self.old text
+            → RepresentsBody form self.old text
             → IsBody form (text ++ take fed.taken piece.now) self.new.body) }
         ensures all { IfOk result (λ fed. fed.done ≡ false → fed.taken ≡ length piece.now) }
         ensures partial { IfOk result (λ fed. fed.done ≡ false → (form : Form) (text : List ℕ)
-            → Represents form self.old text
+            → RepresentsBody form self.old text
             → IsPartial form (text ++ piece.now)) }
         ensures fault { IfErr result (λ fault. fault ≢ PayloadFault.NoMemory
             → (form : Form) (text : List ℕ)
-            → Represents form self.old text → IsFault form (text ++ piece.now) fault) }
+            → RepresentsBody form self.old text → IsFault form (text ++ piece.now) fault) }
 
         // The right result comes, unless it is out of memory.
         ensures exact_whole { (form : Form) (text prefix rest body : List ℕ)
-            → Represents form self.old text
+            → RepresentsBody form self.old text
             → text ++ piece.now ≡ prefix ++ rest → IsBody form prefix body
             → IsOrOutOfMemory result
             (Ok (record { taken = length prefix - length text; done = true })) }
-        ensures exact_partial { (form : Form) (text : List ℕ) → Represents form self.old text
+        ensures exact_partial { (form : Form) (text : List ℕ) → RepresentsBody form self.old text
             → IsPartial form (text ++ piece.now)
             → IsOrOutOfMemory result (Ok (record { taken = length piece.now; done = false })) }
         ensures exact_fault { (form : Form) (text : List ℕ) (fault : _)
-            → Represents form self.old text
+            → RepresentsBody form self.old text
             → IsFault form (text ++ piece.now) fault → IsOrOutOfMemory result (Err fault) }
 
         // A complete body stays so, and a fault too.
@@ -144,7 +144,7 @@ impl Payload {
     pub fn body(self) -> Bytes
         requires { IsDone self }
         ensures bytes { result ≡ self.body }
-        ensures decodes { (form : Form) (text : List ℕ) → Represents form self text
+        ensures decodes { (form : Form) (text : List ℕ) → RepresentsBody form self text
             → IsBody form text result }
     {
         self.body.into_bytes()

@@ -2,7 +2,7 @@ use Rattle.std.proofs.Common.{◌++◌, ◌∙◌, List, ℕ, take, drop, refl, 
 use Rattle.std.proofs.lemmas.Result.{err_from_is_err_and}
 use Rattle.std.proofs.lemmas.List.{take-append-drop, length-drop}
 use Rattle.http_payload.specs.Bodies.{IsFault}
-use Rattle.http_payload.specs.PayloadState.{payload_state, Represents}
+use Rattle.http_payload.specs.PayloadState.{payload_state, RepresentsBody}
 use Rattle.http_payload.specs.Steps.{Blocks, Advances}
 use Rattle.http_payload.proofs.RunSteps.{take-add, rest_of}
 use Rattle.http_payload.proofs.Representation.{represents_on, fault_of_text}
@@ -35,7 +35,7 @@ loop-taken-preserved c =
       sound = advances.sound;
       no_fault = advances.no_fault;
       represents = λ form text represents.
-          subst (λ (t : List ℕ). Represents form later t)
+          subst (λ (t : List ℕ). RepresentsBody form later t)
           (append_assoc text (take taken piece) (take more (drop taken piece))
           ∙ ap (λ (t : List ℕ). text ++ t) (sym (take-add taken more piece c.loop-taken.invariant.within)))
           (represents_on (c.loop-taken.invariant.represents form text represents) advances.steps advances.no_fault);

@@ -1,7 +1,7 @@
 use Rattle.std.proofs.Common.{◌≡◌, ◌++◌, ◌∙◌, List, ℕ, take, refl, ap, sym, subst, false, IsTrue}
 use Rattle.http_head.specs.declared.body_form.BodyForm.{BodyForm}
 use Rattle.http_payload.specs.Bodies.{IsBody, IsPartial}
-use Rattle.http_payload.specs.PayloadState.{PayloadState, payload_state, Represents, fault_of}
+use Rattle.http_payload.specs.PayloadState.{PayloadState, payload_state, RepresentsBody, fault_of}
 use Rattle.http_payload.specs.BodyBytes.{bytes_of_body}
 use Rattle.http_payload.proofs.Representation.{body_of}
 use Rattle.http_payload.proofs.Feeding.{partial_at, whole_told, partial_told, fault_told, Blames, whole_failed, partial_failed, fault_failed, no_fault_at, same_held, must_be_true, same_fed, nothing_again, no_truth}
@@ -11,19 +11,19 @@ use Rattle.http_payload.proofs.payload.Payload.feed.Goals as goal
 later : goal.After-is_end → PayloadState
 later c = payload_state c.in-Ok.step.stage c.feed_body.new.line.items (bytes_of_body c.feed_body.new.body)
 
-represents_after : (c : goal.After-is_end) (form : BodyForm) (text : List ℕ) → Represents form c.args.self.now text
-    → Represents form (later c) (text ++ take c.in-Ok.step.taken c.args.piece.now)
+represents_after : (c : goal.After-is_end) (form : BodyForm) (text : List ℕ) → RepresentsBody form c.args.self.now text
+    → RepresentsBody form (later c) (text ++ take c.in-Ok.step.taken c.args.piece.now)
 unfolding later
 represents_after c form text represents =
-    c.in-Ok.ensures.represents form text (subst (λ h. Represents form h text) (sym c.self.view_is) represents)
+    c.in-Ok.ensures.represents form text (subst (λ h. RepresentsBody form h text) (sym c.self.view_is) represents)
 
-whole_after : (c : goal.After-is_end) (form : BodyForm) (text : List ℕ) → Represents form c.args.self.now text
+whole_after : (c : goal.After-is_end) (form : BodyForm) (text : List ℕ) → RepresentsBody form c.args.self.now text
     → IsTrue c.is_end.result → IsBody form (text ++ take c.in-Ok.step.taken c.args.piece.now) (bytes_of_body c.feed_body.new.body)
 unfolding later
 whole_after c form text represents known =
     body_of form (later c) (text ++ take c.in-Ok.step.taken c.args.piece.now) (represents_after c form text represents) (c.is_end.ensures.yes known)
 
-partial_after : (c : goal.After-is_end) (form : BodyForm) (text : List ℕ) → Represents form c.args.self.now text
+partial_after : (c : goal.After-is_end) (form : BodyForm) (text : List ℕ) → RepresentsBody form c.args.self.now text
     → c.is_end.result ≡ false → IsPartial form (text ++ c.args.piece.now)
 unfolding later
 partial_after c form text represents known =
@@ -60,10 +60,10 @@ returns-in-Ok c = record {
   failed = tt;
 }
 
-blames_after : (c : goal.After-self-in-Err-1) (form : BodyForm) (text : List ℕ) → Represents form c.args.self.now text
+blames_after : (c : goal.After-self-in-Err-1) (form : BodyForm) (text : List ℕ) → RepresentsBody form c.args.self.now text
     → Blames form (text ++ c.args.piece.now) c.in-Err.fault
 blames_after c form text represents memory =
-    c.in-Err.ensures.fault memory form text (subst (λ h. Represents form h text) (sym c.self.view_is) represents)
+    c.in-Err.ensures.fault memory form text (subst (λ h. RepresentsBody form h text) (sym c.self.view_is) represents)
 
 pub returns-in-Err : goal.returns-in-Err
 returns-in-Err c = record {

@@ -1,5 +1,5 @@
 use Rattle.std.proofs.Common.{◌∙◌, ap, sym, subst}
-use Rattle.http_payload.specs.PayloadState.{IsSound}
+use Rattle.http_payload.specs.PayloadState.{IsSoundPayload}
 use Rattle.http_payload.proofs.Representation.{body_of, partial_of}
 use Rattle.http_payload.proofs.payload.Payload.is_done.Goals as goal
 
@@ -9,5 +9,5 @@ returns-clause-whole c known form text represents =
 
 pub returns-clause-partial : goal.returns-clause-partial
 returns-clause-partial c known form text represents =
-    partial_of form c.args.self.now text represents (subst IsSound c.self.view_is c.self.invariant.0)
+    partial_of form c.args.self.now text represents (subst IsSoundPayload c.self.view_is c.self.invariant.0)
     (λ done. c.is_end.ensures.no known (ap (λ h. h.stage) c.self.view_is ∙ done))
