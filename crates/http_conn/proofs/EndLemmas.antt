@@ -5,7 +5,7 @@ use Rattle.pod_base.specs.declared.request.Request.{Request}
 use Rattle.pod_base.specs.declared.heard.Heard.{Heard}
 use Rattle.pod_base.specs.declared.heard.Heard.TheVariants as heard
 use Rattle.http_head.specs.BodyFraming.{framing}
-use Rattle.http_conn.specs.Messages.{IsBadMessage, bad_head, bad_body, status_of, IsPartialMessage, in_head, in_body, IsOpen, IsLastRequest, NothingAfterEnd, StaysOpen, Messages, events_of, request_events, interim_of, waits_for, closes_connection}
+use Rattle.http_conn.specs.Messages.{IsBadMessage, bad_head, bad_body, refusal_status, IsPartialMessage, in_head, in_body, IsOpen, IsLastRequest, NothingAfterEnd, StaysOpen, Messages, events_of, request_events, interim_of, waits_for, closes_connection}
 use Rattle.http_conn.specs.declared.events.TheConstants.{REQUEST_LIMIT}
 use Rattle.http_conn.proofs.Parses.{Parses, partly, badly, last, next, reads_of}
 
@@ -27,7 +27,7 @@ ends_partial n text _ (in_body len parsed form h p) = ends_alone n (waits_for pa
 ends_bad : (n : ℕ) (text : List ℕ) (events : List Heard) (status : ℕ) → IsBadMessage text events status → NothingAfterEnd n (events ++ heard.Bad status ∷ [])
 ends_bad n text _ _ (bad_head status b) = refl
 ends_bad n text _ _ (bad_body len parsed form fault h f) =
-    ends_behind n (waits_for parsed.minor parsed.fields (framing parsed.minor parsed.fields)) (heard.Bad (status_of fault) ∷ []) refl
+    ends_behind n (waits_for parsed.minor parsed.fields (framing parsed.minor parsed.fields)) (heard.Bad (refusal_status fault) ∷ []) refl
 
 -- a request that closes, or the last of so many, isn't one that stays
 not_end : (n : ℕ) (r : Request) → closes_connection r ≡ false → n + 1 < REQUEST_LIMIT → IsLastRequest n r → ⊥

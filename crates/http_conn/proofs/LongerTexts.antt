@@ -7,7 +7,7 @@ use Rattle.pod_base.specs.declared.heard.Heard.{Heard}
 use Rattle.pod_base.specs.declared.heard.Heard.TheVariants as heard
 use Rattle.http_head.specs.declared.request_head.RequestHead.{RequestHead}
 use Rattle.http_head.specs.declared.body_form.BodyForm.{BodyForm}
-use Rattle.http_conn.specs.Messages.{HasHead, IsFirstRequest, IsBadMessage, bad_head, bad_body, status_of, IsPartialMessage, in_head, in_body, Messages, AreFirstEvents, request_events, interim_of}
+use Rattle.http_conn.specs.Messages.{HasHead, IsFirstRequest, IsBadMessage, bad_head, bad_body, refusal_status, IsPartialMessage, in_head, in_body, Messages, AreFirstEvents, request_events, interim_of}
 use Rattle.http_conn.proofs.StepLemmas.{head_stays, first_stays, bad_stays}
 use Rattle.http_conn.proofs.Parses.{Parses, partly, badly, last, next, head_not_bad, one_head, not_yet_no_head, first_one, partial_not_first, bad_not_first, last_not_next, reads_one, reads_of}
 
@@ -34,7 +34,7 @@ interim_bad : (text : List ℕ) (len : ℕ) (parsed : RequestHead) (form : BodyF
     → IsPrefix (interim_of parsed.minor parsed.fields) (events ++ heard.Bad status ∷ [])
 interim_bad text len parsed form _ _ h (bad_head status b) = absurd (head_not_bad text len parsed form status h b)
 interim_bad text len parsed form _ _ h (bad_body m other g fault k f) =
-    let bad : List Heard = heard.Bad (status_of fault) ∷ [] in
+    let bad : List Heard = heard.Bad (refusal_status fault) ∷ [] in
     (bad, ap (λ i. i ++ bad) (sym (interim_said text len m parsed other form g h k)))
 
 interim_request : (text : List ℕ) (len : ℕ) (parsed : RequestHead) (form : BodyForm) (r : Request) (n : ℕ) → HasHead text len parsed form → IsFirstRequest text r n

@@ -19,7 +19,7 @@ use Rattle.http_head.proofs.HeadLaws.{one_parsed_head, lacks_no_head}
 use Rattle.http_payload.specs.Chunks as chunks
 use Rattle.http_payload.specs.Bodies.{IsBody, IsFault, IsPartial as IsPartialBody}
 use Rattle.http_payload.proofs.LawLemmas.{one_outcome, one_fault, no_fault_at_body, no_fault_at_partial, no_body_at_partial}
-use Rattle.http_conn.specs.Messages.{HasHead, IsFirstRequest, Requests, IsBadHead, too_long, too_many, malformed, host, conflict, coding, too_large, IsBadMessage, bad_head, bad_body, status_of, IsPartialMessage, in_head, in_body, Messages, unfinished, refused, ended, events_of, request_events, interim_of, with_body, rest_length, closes_connection, IsLastRequest}
+use Rattle.http_conn.specs.Messages.{HasHead, IsFirstRequest, Requests, IsBadHead, too_long, too_many, malformed, host, conflict, coding, too_large, IsBadMessage, bad_head, bad_body, refusal_status, IsPartialMessage, in_head, in_body, Messages, unfinished, refused, ended, events_of, request_events, interim_of, with_body, rest_length, closes_connection, IsLastRequest}
 use Rattle.http_conn.specs.declared.events.TheConstants.{REQUEST_LIMIT}
 
 length_of : HeadEnd → ℕ
@@ -219,7 +219,7 @@ bad_one text _ _ _ _ (bad_body len parsed form fault h f) (bad_head t y) = absur
 bad_one text _ _ _ _ (bad_body len parsed form fault h f) (bad_body m other g second k e) =
     let head = one_head text len m parsed other form g h k in
     let same : IsFault form (drop len text) second = subst (λ x. IsFault x (drop len text) second) (sym head.form) (subst (λ i. IsFault g (drop i text) second) (sym head.len) e) in
-    (ap (λ (s : RequestHead). interim_of s.minor s.fields) head.parsed, ap status_of (one_fault form (drop len text) fault second f same))
+    (ap (λ (s : RequestHead). interim_of s.minor s.fields) head.parsed, ap refusal_status (one_fault form (drop len text) fault second f same))
 
 -- A parse of a text after n requests, one request after the other.
 pub data Parses : ℕ → List ℕ → List Heard → ℕ → Type 0 where

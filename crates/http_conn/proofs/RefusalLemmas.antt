@@ -9,7 +9,7 @@ use Rattle.http_payload.specs.Bodies.{IsFault}
 use Rattle.pod_base.specs.declared.heard.Heard.{Heard}
 use Rattle.pod_base.specs.declared.heard.Heard.TheVariants as heard
 use Rattle.pod_base.specs.declared.request.Request.{Request}
-use Rattle.http_conn.specs.Messages.{HasRefusalStatus, IsRefusalStatus, IsBadHead, too_long, too_many, malformed, host, conflict, coding, too_large, IsBadMessage, bad_head, bad_body, IsPartialMessage, in_head, in_body, Messages, unfinished, refused, ended, events_of, request_events, interim_of, waits_for, status_of}
+use Rattle.http_conn.specs.Messages.{HasRefusalStatus, IsRefusalStatus, IsBadHead, too_long, too_many, malformed, host, conflict, coding, too_large, IsBadMessage, bad_head, bad_body, IsPartialMessage, in_head, in_body, Messages, unfinished, refused, ended, events_of, request_events, interim_of, waits_for, refusal_status}
 
 abbrev HaveStatuses : List Heard → Type 0
 HaveStatuses events = AllByRecursion HasRefusalStatus events
@@ -42,7 +42,7 @@ head_status text _ (conflict len parsed e h f) = inl refl
 head_status text _ (coding len parsed e h f) = inr (inr (inr refl))
 head_status text _ (too_large len parsed e h f) = inr (inl refl)
 
-body_status : (form : BodyForm) (text : List ℕ) (fault : PayloadFault) → IsFault form text fault → IsRefusalStatus (status_of fault)
+body_status : (form : BodyForm) (text : List ℕ) (fault : PayloadFault) → IsFault form text fault → IsRefusalStatus (refusal_status fault)
 body_status form text Malformed f = inl refl
 body_status form text TooLarge f = inr (inl refl)
 body_status form text NoMemory f = absurd f
@@ -50,7 +50,7 @@ body_status form text NoMemory f = absurd f
 of_bad : (text : List ℕ) (events : List Heard) (status : ℕ) → IsBadMessage text events status → HaveStatuses (events ++ heard.Bad status ∷ [])
 of_bad text _ _ (bad_head status b) = (head_status text status b, tt)
 of_bad text _ _ (bad_body len parsed form fault h f) =
-    both (interim_of parsed.minor parsed.fields) (heard.Bad (status_of fault) ∷ []) (interims (waits_for parsed.minor parsed.fields (framing parsed.minor parsed.fields))) (body_status form _ fault f, tt)
+    both (interim_of parsed.minor parsed.fields) (heard.Bad (refusal_status fault) ∷ []) (interims (waits_for parsed.minor parsed.fields (framing parsed.minor parsed.fields))) (body_status form _ fault f, tt)
 
 -- of all events of a text
 pub have_refusal_statuses : (text : List ℕ) (events : List Heard) (rest : ℕ) → Messages text events rest → HaveStatuses events

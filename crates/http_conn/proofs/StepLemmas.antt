@@ -22,7 +22,7 @@ use Rattle.http_head.specs.HeadScan.{HasScanned}
 use Rattle.http_payload.specs.declared.payload_fault.PayloadFault.{PayloadFault}
 use Rattle.http_payload.specs.Bodies.{IsBody, IsFault, IsPartial as IsPartialBody}
 use Rattle.http_payload.proofs.LawLemmas.{fault_stays}
-use Rattle.http_conn.specs.Messages.{HasHead, IsFirstRequest, Requests, IsBadHead, too_long, too_many, malformed, host, conflict, coding, too_large, IsBadMessage, bad_head, bad_body, status_of, in_head, in_body, IsLastRequest, IsOpen, Messages, unfinished, refused, ended, events_of, request_events, interim_of, waits_for, with_body, rest_length, closes_connection}
+use Rattle.http_conn.specs.Messages.{HasHead, IsFirstRequest, Requests, IsBadHead, too_long, too_many, malformed, host, conflict, coding, too_large, IsBadMessage, bad_head, bad_body, refusal_status, in_head, in_body, IsLastRequest, IsOpen, Messages, unfinished, refused, ended, events_of, request_events, interim_of, waits_for, with_body, rest_length, closes_connection}
 use Rattle.http_conn.specs.declared.events.TheConstants.{REQUEST_LIMIT}
 use Rattle.http_conn.specs.declared.parser_state.ParserState.{ParserState}
 use Rattle.http_conn.specs.declared.parser_state.ParserState.TheVariants.{Head, Body, Closed, Failed}
@@ -220,7 +220,7 @@ awaits_none count len parsed form old_events interim events new body interim_is 
 
 -- a body that has not come
 pub awaits_body : (count len : ℕ) (parsed : RequestHead) (form : BodyForm) (old_events new : List Heard) (partial : PartialBody)
-    → new ≡ old_events ++ (if expects_continue parsed.minor parsed.fields form then heard.Interim ∷ [] else []) → IsPartialBody form [] → payload.Represents form partial.payload []
+    → new ≡ old_events ++ (if expects_continue parsed.minor parsed.fields form then heard.Interim ∷ [] else []) → IsPartialBody form [] → payload.RepresentsBody form partial.payload []
     → partial.head ≡ parsed → partial.len ≡ len → partial.count ≡ count → StartsBody count len parsed form old_events (Body partial) new
 awaits_body count len parsed form old_events new partial new_is is_partial stands said_is len_same count_same left ends says framed len_is text before r =
     let none : drop (length left) left ≡ [] = drop-length left in
@@ -236,7 +236,7 @@ awaits_body count len parsed form old_events new partial new_is is_partial stand
       there = omega arith;
       begins = subst (λ s. HasHead left (length left) s form) (sym said_is) (whole_has_head left parsed form ends says framed);
       body = subst (IsPartialBody form) (sym none) is_partial;
-      represents = subst (payload.Represents form partial.payload) (sym none) stands;
+      represents = subst (payload.RepresentsBody form partial.payload) (sym none) stands;
       rest = len_same ∙ len_is;
     }
 
@@ -309,7 +309,7 @@ body_grows partial text events s bytes = drop-append-le s.head s.left bytes s.th
 
 -- the body has ended
 pub body_ends : (partial : PartialBody) (front body : List ℕ) (old_events new : List Heard) (next : ParserState)
-    → ((form : BodyForm) (text : List ℕ) → payload.Represents form partial.payload text → IsBody form (text ++ front) body)
+    → ((form : BodyForm) (text : List ℕ) → payload.RepresentsBody form partial.payload text → IsBody form (text ++ front) body)
     → EndsRequest partial.count partial.head body old_events next new → StepsTo (Body partial) old_events front next new
 body_ends partial front body old_events new next whole finishes text before s =
     let left : List ℕ = s.left ++ front in
@@ -336,8 +336,8 @@ body_ends partial front body old_events new next whole finishes text before s =
 
 -- the body continues
 pub body_waits : (partial new : PartialBody) (bytes : List ℕ) (old_events : List Heard) → new.head ≡ partial.head → new.count ≡ partial.count → new.len ≡ partial.len + length bytes
-    → ((form : BodyForm) (text : List ℕ) → payload.Represents form partial.payload text → IsPartialBody form (text ++ bytes))
-    → ((form : BodyForm) (text : List ℕ) → payload.Represents form partial.payload text → payload.Represents form new.payload (text ++ bytes))
+    → ((form : BodyForm) (text : List ℕ) → payload.RepresentsBody form partial.payload text → IsPartialBody form (text ++ bytes))
+    → ((form : BodyForm) (text : List ℕ) → payload.RepresentsBody form partial.payload text → payload.RepresentsBody form new.payload (text ++ bytes))
     → StepsTo (Body partial) old_events bytes (Body new) old_events
 body_waits partial new bytes old_events said_is count_is len_is is_partial stands text before s =
     let left : List ℕ = s.left ++ bytes in
@@ -354,18 +354,18 @@ body_waits partial new bytes old_events said_is count_is len_is is_partial stand
       there = omega (arith, s.there, length-append s.left bytes);
       begins = subst (λ h. HasHead left s.head h s.form) (sym said_is) (head_stays s.left bytes s.head partial.head s.form s.begins);
       body = subst (IsPartialBody s.form) (sym cut) (is_partial s.form (drop s.head s.left) s.represents);
-      represents = subst (payload.Represents s.form new.payload) (sym cut) (stands s.form (drop s.head s.left) s.represents);
+      represents = subst (payload.RepresentsBody s.form new.payload) (sym cut) (stands s.form (drop s.head s.left) s.represents);
       rest = omega (arith, len_is, s.rest, blank_stays s.left bytes s.head s.begins.ends, blank_fits s.left, length-append s.left bytes);
     }
 
 -- the body is refused
 pub body_refused : (partial : PartialBody) (bytes : List ℕ) (old_events new : List Heard) (fault : PayloadFault)
-    → ((form : BodyForm) (text : List ℕ) → payload.Represents form partial.payload text → IsFault form (text ++ bytes) fault)
-    → new ≡ old_events ++ heard.Bad (status_of fault) ∷ [] → StepsTo (Body partial) old_events bytes Closed new
+    → ((form : BodyForm) (text : List ℕ) → payload.RepresentsBody form partial.payload text → IsFault form (text ++ bytes) fault)
+    → new ≡ old_events ++ heard.Bad (refusal_status fault) ∷ [] → StepsTo (Body partial) old_events bytes Closed new
 body_refused partial bytes old_events new fault bad new_is text before s =
     let left : List ℕ = s.left ++ bytes in
     let cut : drop s.head left ≡ drop s.head s.left ++ bytes = body_grows partial text (before ++ old_events) s bytes in
-    refuses partial.count left (text ++ bytes) before old_events (interim_of partial.head.minor partial.head.fields) new (status_of fault) s.requests
+    refuses partial.count left (text ++ bytes) before old_events (interim_of partial.head.minor partial.head.fields) new (refusal_status fault) s.requests
     (requests_stay s.requests text s.left bytes s.reads) s.stays s.is
     (bad_body s.head partial.head s.form fault (head_stays s.left bytes s.head partial.head s.form s.begins) (subst (λ t. IsFault s.form t fault) (sym cut) (bad s.form (drop s.head s.left) s.represents)))
     new_is

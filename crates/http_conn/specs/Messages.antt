@@ -101,10 +101,10 @@ pub data IsBadHead (text : List ℕ) : ℕ → Type 0 where
       → framing parsed.minor parsed.fields ≡ Err framing_fault.TooLarge → IsBadHead text 413
 
 -- the status that refuses a body. No body is at fault for being out of memory.
-abbrev pub status_of : PayloadFault → ℕ
-status_of payload_fault.Malformed = 400
-status_of payload_fault.TooLarge = 413
-status_of payload_fault.NoMemory = 500
+abbrev pub refusal_status : PayloadFault → ℕ
+refusal_status payload_fault.Malformed = 400
+refusal_status payload_fault.TooLarge = 413
+refusal_status payload_fault.NoMemory = 500
 
 -- No text that begins so begins with a request: the events before the refusal, and its status.
 pub data IsBadMessage (text : List ℕ) : List Heard → ℕ → Type 0 where
@@ -112,7 +112,7 @@ pub data IsBadMessage (text : List ℕ) : List Heard → ℕ → Type 0 where
   bad_body : (len : ℕ) (parsed : RequestHead) (form : BodyForm) (fault : PayloadFault)
       → HasHead text len parsed form
       → IsFault form (drop len text) fault
-      → IsBadMessage text (interim_of parsed.minor parsed.fields) (status_of fault)
+      → IsBadMessage text (interim_of parsed.minor parsed.fields) (refusal_status fault)
 
 -- the statuses of refusals
 abbrev pub IsRefusalStatus : ℕ → Type 0

@@ -48,7 +48,7 @@ pub record InBody (partial : PartialBody) (text : List ℕ) (events : List Heard
   pub there : head ≤ length left
   pub begins : HasHead left head partial.head form
   pub body : IsPartialBody form (drop head left)
-  pub represents : payload.Represents form partial.payload (drop head left)
+  pub represents : payload.RepresentsBody form partial.payload (drop head left)
   pub rest : partial.len ≡ rest_length left
 
 -- No event follows, however the text goes on.

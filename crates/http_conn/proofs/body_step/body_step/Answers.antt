@@ -29,7 +29,7 @@ returns-in-Ok-clause-parses c =
     subst (λ front. StepsTo (Body c.args.partial) old_events front (Body new) old_events) (sym front_is)
     (body_waits c.args.partial new bytes old_events refl refl (omega (arith, all, c.in-Some.ensures))
     (λ form text s. c.in-Ok.ensures.partial c.if-fed.false form text s)
-    (λ form text s. subst (λ front. payload.Represents form c.feed.new.self (text ++ front)) front_is (c.in-Ok.ensures.represents form text s)))
+    (λ form text s. subst (λ front. payload.RepresentsBody form c.feed.new.self (text ++ front)) front_is (c.in-Ok.ensures.represents form text s)))
 
 -- nothing makes a body of it
 pub returns-in-Err-Malformed-clause-parses : goal.returns-in-Err-Malformed-clause-parses
