@@ -1,7 +1,7 @@
 -- The refusals that are heard have a status of their own.
 use Rattle.std.proofs.Common.{ℕ, ◌<◌, ◌≤◌, Bool, true, false, if◌then◌else◌, List, [], ◌∷◌, ◌++◌, arith}
 use Rattle.std.specs.List.{AllByRecursion}
-use Rattle.http_conn.specs.Messages.{IsBadHead, too_long, too_many, malformed, host, conflict, coding, too_large, IsBadMessage, bad_head, bad_body, IsPartialMessage, in_head, in_body, Messages, unfinished, refused, ended, events_of, request_events, interim_of, waits_for, status_of}
+use Rattle.http_conn.specs.Messages.{IsBadHead, too_long, too_many, malformed, host, conflict, coding, too_large, IsBadMessage, bad_head, bad_body, IsPartialMessage, in_head, in_body, Messages, unfinished, refused, ended, events_of, request_events, interim_of, waits_for, refusal_status}
 use Rattle.http_head.specs.BodyFraming.{framing}
 use Rattle.http_payload.specs.Bodies.{IsFault}
 use Rattle.http_head.specs.declared.body_form.BodyForm.{BodyForm}
@@ -43,7 +43,7 @@ head_status text _ (conflict len said e h f) = (omega arith, omega arith)
 head_status text _ (coding len said e h f) = (omega arith, omega arith)
 head_status text _ (too_large len said e h f) = (omega arith, omega arith)
 
-body_status : (form : BodyForm) (text : List ℕ) (fault : PayloadFault) → IsFault form text fault → (200 ≤ status_of fault) × (status_of fault < 600)
+body_status : (form : BodyForm) (text : List ℕ) (fault : PayloadFault) → IsFault form text fault → (200 ≤ refusal_status fault) × (refusal_status fault < 600)
 body_status form text Malformed f = (omega arith, omega arith)
 body_status form text TooLarge f = (omega arith, omega arith)
 body_status form text NoMemory f = absurd f
@@ -51,7 +51,7 @@ body_status form text NoMemory f = absurd f
 badly : (text : List ℕ) (hears : List Heard) (status : ℕ) → IsBadMessage text hears status → AreRefused (hears ++ heard.Bad status ∷ [])
 badly text _ _ (bad_head status b) = (head_status text status b, tt)
 badly text _ _ (bad_body len said form fault h f) =
-    both (interim_of said.minor said.fields) (heard.Bad (status_of fault) ∷ []) (interims (waits_for said.minor said.fields (framing said.minor said.fields))) (body_status form _ fault f, tt)
+    both (interim_of said.minor said.fields) (heard.Bad (refusal_status fault) ∷ []) (interims (waits_for said.minor said.fields (framing said.minor said.fields))) (body_status form _ fault f, tt)
 
 -- of all that is heard in a text
 pub are_refused : (text : List ℕ) (hears : List Heard) (rest : ℕ) → Messages text hears rest → AreRefused hears
