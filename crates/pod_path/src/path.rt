@@ -52,6 +52,10 @@ pub trait Taken {
     /// Whether the path is a row.
     fn taken(&self, path: &Path) -> bool
         ensures { result ≡ is_row self.now path.now };
+
+    /// Whether a path with this text is a row: for a look-up that makes no path.
+    fn taken_text(&self, text: &str) -> bool
+        ensures { result ≡ is_row self.now text.now };
 }
 
 impl PartialEq for Path {
