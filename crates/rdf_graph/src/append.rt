@@ -4,8 +4,9 @@ ghost use Rattle.std.specs.Prelude.{length, take};
 ghost use Rattle.rdf_graph.specs.Term.{datatype_text, escaped, escaped_byte, text};
 ghost use Rattle.rdf_graph.specs.Triple.{line};
 
-use crate::term::{Term, XSD_STRING, escape};
+use crate::term::{Term, escape};
 use crate::triple::Triple;
+use crate::vocabulary::XSD_STRING;
 use pod_base::Mem;
 use std::alloc::Global;
 

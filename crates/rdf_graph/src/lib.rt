@@ -27,12 +27,14 @@ mod triple_line;
 mod triple_order;
 mod triple_ref;
 mod triple_walk;
+pub mod vocabulary;
 
 pub use change::{Change, changed};
 pub use graph::Graph;
 pub use laws::{change_law, order_law, set_law, subject_law};
 pub use patch::{Patch, PatchFault, instantiate, the_mapping};
 pub use pattern::{Found, Mapping, Pattern, Slot};
+pub use size::TRIPLES_LIMIT;
 pub use solution_mappings::solutions;
 pub use term::{Term, Written};
 pub use triple::Triple;

@@ -8,6 +8,9 @@ use crate::graph::Graph;
 use crate::term::Term;
 use crate::triple::Triple;
 
+/// The most bytes that the triples of a document may have in their stored form, repeats included.
+pub const TRIPLES_LIMIT: u64 = 8_388_608;
+
 impl Term {
     /// How many bytes the term's stored form has: one for its kind, and for each of its texts eight
     /// and its bytes. At most 2^64 - 1.

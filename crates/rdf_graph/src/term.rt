@@ -6,12 +6,10 @@ ghost use Rattle.rdf_graph.specs.TermLaws.{term_eq_laws};
 ghost use Rattle.rdf_graph.specs.Written.{written_rest};
 ghost use Rattle.rdf_graph.specs.declared.term.Term.TheVariants.{Iri as IriTerm};
 
+use crate::vocabulary::XSD_STRING;
 use iri_ref::Iri;
 use pod_base::{Mem, NoMemory, Text};
 use std::alloc::Global;
-
-/// The IRI of the datatype that a literal's text leaves out.
-pub(crate) const XSD_STRING: &str = "http://www.w3.org/2001/XMLSchema#string";
 
 /// A term of RDF 1.1: an IRI, a blank node by its label, or a literal with a datatype or a language
 /// tag.
