@@ -1,6 +1,7 @@
 -- The IRIs that access lists use.
 use Rattle.std.specs.Prelude.{ℕ, List}
-use Rattle.acl_rules.specs.declared.vocabulary.TheConstants.{RDF_TYPE, ACL_AUTHORIZATION}
+use Rattle.rdf_graph.specs.declared.vocabulary.TheConstants.{RDF_TYPE}
+use Rattle.acl_rules.specs.declared.vocabulary.TheConstants.{ACL_AUTHORIZATION}
 use Rattle.acl_rules.specs.declared.vocabulary.TheConstants.{ACL_ACCESS_TO, ACL_DEFAULT, ACL_MODE}
 use Rattle.acl_rules.specs.declared.vocabulary.TheConstants.{ACL_READ, ACL_APPEND, ACL_WRITE}
 use Rattle.acl_rules.specs.declared.vocabulary.TheConstants.{ACL_CONTROL, ACL_AGENT}

@@ -11,11 +11,12 @@ ghost use Rattle.acl_rules.specs.declared.rule.Subject.TheVariants.{Group as Gro
 use crate::rule::Subject;
 use crate::vocabulary::{
     ACL_AGENT, ACL_AGENT_CLASS, ACL_AGENT_GROUP, ACL_APPEND, ACL_AUTHENTICATED_AGENT,
-    ACL_AUTHORIZATION, ACL_CONTROL, ACL_MODE, ACL_READ, ACL_WRITE, FOAF_AGENT, RDF_TYPE, is_iri,
+    ACL_AUTHORIZATION, ACL_CONTROL, ACL_MODE, ACL_READ, ACL_WRITE, FOAF_AGENT, is_iri,
 };
 use iri_ref::Iri;
 use pod_base::{Mem, Mode, Text};
 use pod_path::Path;
+use rdf_graph::vocabulary::RDF_TYPE;
 use rdf_graph::{Term, Triple};
 use std::alloc::Global;
 

@@ -1,12 +1,9 @@
-//! The IRIs that access lists use. No other file has them.
+//! The IRIs that access lists use beside those of RDF. No other file has them.
 ghost use Rattle.std.specs.Prelude.{◌≡◌};
 ghost use Rattle.rdf_graph.specs.Term.{term_eq};
 ghost use Rattle.rdf_graph.specs.declared.term.Term.TheVariants.{Iri};
 
 use rdf_graph::Term;
-
-/// The property of a node's class.
-pub const RDF_TYPE: &str = "http://www.w3.org/1999/02/22-rdf-syntax-ns#type";
 
 /// The class of rules.
 pub const ACL_AUTHORIZATION: &str = "http://www.w3.org/ns/auth/acl#Authorization";
