@@ -1,0 +1,10 @@
+pub mod OrderedRows
+pub mod Joined
+pub mod Tests
+pub mod Sets
+pub mod Lookups
+pub mod Governed
+pub mod Steps
+pub mod Shown
+pub mod Changes
+pub mod DefinitionLaws

@@ -1,0 +1,138 @@
+//! The access lists of rows, with their rules, and which of them governs a path.
+ghost use Rattle.std.specs.Prelude.{◌≡◌, ◌++◌, IfOk, OnOk, IfSome, IfNone, List, ℕ, option_copied};
+ghost use Rattle.std.specs.Prelude.{option_to_list};
+ghost use Rattle.std.specs.List.{find};
+ghost use Rattle.pod_path.specs.Hierarchy.{subject_of};
+ghost use Rattle.pod_rows.specs.Access.{about, rules_in};
+ghost use Rattle.pod_rows.specs.AclLists.{list_of, lists_of, is_list_of, first_list, container_list};
+ghost use Rattle.pod_rows.specs.Tree.{ancestors};
+
+use acl_rules::{Items, Rules, rules_of};
+use iri_ref::Iri;
+use pod_base::Mem;
+use pod_command::{Content, Row};
+use pod_path::Path;
+use std::alloc::Global;
+
+/// An access list: the path whose list it is, and its rules.
+#[derive(Drop)]
+pub(crate) struct AclList {
+    pub at: Path,
+    pub rules: Rules,
+}
+
+/// The rules of a content: none where it holds bytes.
+fn rules_in(alloc: Global, base: &Iri, content: &Content) -> Mem<Rules>
+    ensures { IfOk result (λ rules. rules.list ≡ rules_in base.now content.now) }
+{
+    match content {
+        Content::Graph(graph) => rules_of(alloc, graph, base),
+        Content::Bytes { ctype: _, bytes: _ } => Ok(Rules {
+            list: Items::new(alloc),
+        }),
+    }
+}
+
+/// The access list that a row is, if it is one.
+fn list_of(alloc: Global, base: &Iri, row: &Row) -> Mem<Option<AclList>>
+    ensures { IfOk result (λ list. list ≡ list_of base.now row.now) }
+{
+    if !row.path.is_acl() {
+        return Ok(None);
+    }
+    let subject = row.path.subject(alloc)?;
+    let rules = rules_in(alloc, base, &row.content)?;
+    match subject {
+        Some(at) => Ok(Some(AclList { at, rules })),
+        None => Ok(None),
+    }
+}
+
+/// Appends a list, if there is one.
+fn push_some(lists: &mut Vec<AclList>, list: Option<AclList>) -> Mem<()>
+    ensures { OnOk result (lists.new.items ≡ lists.old.items ++ option_to_list list) }
+{
+    match list {
+        Some(list) => {
+            lists.push(list)?;
+            Ok(())
+        }
+        None => Ok(()),
+    }
+}
+
+/// The access lists of the rows, in their order.
+pub(crate) fn lists_of(alloc: Global, base: &Iri, rows: &[Row]) -> Mem<Vec<AclList>>
+    ensures { IfOk result (λ lists. lists.items ≡ lists_of base.now rows.now) }
+{
+    let mut lists = Vec::new(alloc);
+    for row in rows {
+        let list = list_of(alloc, base, row)?;
+        push_some(&mut lists, list)?;
+    }
+    Ok(lists)
+}
+
+/// The list of a path.
+pub(crate) fn list_at<'a>(lists: &'a [AclList], path: &[u8]) -> Option<&'a AclList>
+    ensures { option_copied result ≡ find (is_list_of path.now) lists.entry.now }
+{
+    lists
+        .iter()
+        .find(|list| list.at.as_str().as_bytes() == path)
+}
+
+/// The list of a text, where the text is a container.
+fn container_list<'a>(lists: &'a [AclList], path: &[u8]) -> Option<&'a AclList>
+    ensures { option_copied result ≡ container_list lists.entry.now path.now }
+{
+    if path.ends_with(b"/") {
+        list_at(lists, path)
+    } else {
+        None
+    }
+}
+
+/// The list of the nearest ancestor that has one.
+pub(crate) fn inherited<'a>(lists: &'a [AclList], path: &[u8]) -> Option<&'a AclList>
+    ensures { option_copied result ≡ first_list lists.entry.now (ancestors path.now) }
+{
+    let mut n = path.len();
+    while n > 0 {
+        n -= 1;
+        let found = container_list(lists, &path[..n]);
+        if found.is_some() {
+            return found;
+        }
+    }
+    None
+}
+
+/// The text before `end`, where the text ends in it.
+fn strip_end<'a>(text: &'a str, end: &str) -> Option<&'a str>
+    ensures some { IfSome (option_copied result) (λ prefix. text.entry.now ≡ prefix ++ end.now) }
+    ensures none { IfNone (option_copied result) ((prefix : List ℕ)
+        → text.entry.now ≡ prefix ++ end.now → ⊥) }
+{
+    text.strip_suffix(end)
+}
+
+/// The text of what an access list or a description is about.
+fn subject_text(path: &str) -> Option<&str>
+    ensures { option_copied result ≡ subject_of path.entry.now }
+{
+    match strip_end(path, ".acl") {
+        Some(subject) => Some(subject),
+        None => strip_end(path, ".meta"),
+    }
+}
+
+/// What an access list or a description is about, and any other path itself.
+pub(crate) fn about(path: &str) -> &str
+    ensures { result.now ≡ about path.entry.now (subject_of path.entry.now) }
+{
+    match subject_text(path) {
+        Some(subject) => subject,
+        None => path,
+    }
+}

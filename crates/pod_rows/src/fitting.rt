@@ -1,0 +1,60 @@
+//! [`fits`]: whether an entry applies to a state; [`snapshot`]: a state as a snapshot.
+ghost use Rattle.std.specs.Prelude.{◌≡◌, IfOk, IsTrue};
+ghost use Rattle.pod_rows.specs.Apply.{Applies};
+ghost use Rattle.pod_rows.specs.WellFormed.{pod_of};
+
+use crate::edits::after_edits;
+use crate::state::PodState;
+use crate::well_formed::is_well_formed;
+use iri_ref::Iri;
+use pod_base::{Mem, NoMemory};
+use pod_command::{Entry, Snapshot};
+use std::alloc::Global;
+
+/// Whether the entry applies to the state: it has the next number, its edits can be carried out,
+/// and the pod is well-formed after them.
+pub fn fits<S: PodState>(alloc: Global, state: &S, entry: &Entry) -> Mem<bool>
+    ensures sound { IfOk result (λ r. IsTrue r
+        → Applies (S.pod state.now) (S.next_number state.now) entry.now) }
+    ensures complete { IfOk result (λ r.
+        Applies (S.pod state.now) (S.next_number state.now) entry.now → IsTrue r) }
+{
+    let next = state.next();
+    if entry.seq != next {
+        return Ok(false);
+    }
+    if next >= 1 << 63 {
+        return Ok(false);
+    }
+    let rows = state.rows(alloc)?;
+    match after_edits(alloc, rows.as_slice(), entry.edits.as_slice())? {
+        Some(new) => is_well_formed(alloc, state.base(), state.owner(), new.as_slice()),
+        None => Ok(false),
+    }
+}
+
+/// An equal IRI.
+fn copy_iri(alloc: Global, iri: &Iri) -> Mem<Iri>
+    ensures { IfOk result (λ copy. copy ≡ iri.now) }
+{
+    match iri.copy(alloc) {
+        Ok(copy) => Ok(copy),
+        Err(_) => Err(NoMemory),
+    }
+}
+
+/// The snapshot of a state.
+pub fn snapshot<S: PodState>(alloc: Global, state: &S) -> Mem<Snapshot>
+    ensures number { IfOk result (λ snapshot. snapshot.seq ≡ S.next_number state.now) }
+    ensures pod { IfOk result (λ snapshot. pod_of snapshot ≡ S.pod state.now) }
+{
+    let base = copy_iri(alloc, state.base())?;
+    let owner = state.owner().copy(alloc)?;
+    let rows = state.rows(alloc)?;
+    Ok(Snapshot {
+        seq: state.next(),
+        base,
+        owner,
+        rows,
+    })
+}

@@ -1,0 +1,41 @@
+//! A pod as a list of rows: when it is well-formed, what its containers show, which access list
+//! governs a path, and what a change makes of it.
+//!
+//! ```text
+//! let state = PlainRows::of(alloc, &snapshot)?;      // refused where it isn't well-formed
+//! let found = state.effective(&path);                // whose list, own or inherited, its rules
+//! let view = container_view(alloc, &state, &path)?;  // own triples, types, children
+//! if fits(alloc, &state, &entry)? {
+//!     let next = state.after(alloc, &entry)?;        // the pod after the entry
+//! }
+//! ```
+//!
+//! Proved, over one list of rows: a state's pod is well-formed (`PodState::is_well_formed`), and
+//! `of` refuses exactly the others (`well_formed`, `refused`); rows, children, access lists in force
+//! and members are those of the definitions (the clauses of [`PodState`]); a view is the graph of
+//! what a container shows; `fits` is true exactly where an entry applies (`sound`, `complete`), and
+//! `after` is what it makes of the pod (`pod`, `next`). [`laws`] says what follows from the
+//! definitions. The crate stands on `pod_command`, `acl_rules`, `rdf_graph`, `pod_path`, `iri_ref`
+//! and `pod_base`.
+#![tactic(auto)]
+
+mod acl_list;
+mod base;
+mod edits;
+mod fitting;
+mod guard;
+pub mod laws;
+mod limits;
+mod plain;
+mod search;
+mod state;
+mod view;
+pub mod vocabulary;
+mod well_formed;
+
+pub use fitting::{fits, snapshot};
+pub use limits::{BASE_BYTES_LIMIT, CONTENT_TYPE_BYTES_LIMIT, ROWS_LIMIT};
+pub use plain::{PlainRows, StateFault};
+pub use state::{Effective, PodState};
+pub use view::container_view;
+pub use well_formed::is_well_formed;

@@ -1,0 +1,133 @@
+//! [`container_view`]: what a container shows.
+ghost use Rattle.std.specs.Prelude.{◌≡◌, ◌++◌, ◌∷◌, [], All, IfOk, OnOk, option_copied};
+ghost use Rattle.acl_rules.specs.Vocabulary.{rdf_type};
+ghost use Rattle.pod_path.specs.Hierarchy.{uri_of};
+ghost use Rattle.rdf_graph.specs.Triple.{IsRdf, iri_triple};
+ghost use Rattle.pod_rows.specs.GraphSets.{graph_of};
+ghost use Rattle.pod_rows.specs.View.{own_triples, type_triples, view_of};
+ghost use Rattle.pod_rows.specs.ContainedTriples.{child_triples};
+
+use crate::state::PodState;
+use crate::vocabulary::{LDP_BASIC_CONTAINER, LDP_CONTAINER, LDP_CONTAINS, LDP_RESOURCE};
+use iri_ref::Iri;
+use pod_base::{List, Mem, NoMemory};
+use pod_command::{Content, Row};
+use pod_path::Path;
+use rdf_graph::vocabulary::RDF_TYPE;
+use rdf_graph::{Graph, Term, Triple};
+use std::alloc::Global;
+
+/// The view of a container (LDP 1.0, section 5.2): its own triples, its three types, and a triple
+/// for each child.
+pub fn container_view<S: PodState>(alloc: Global, state: &S, path: &Path) -> Mem<Graph>
+    ensures { IfOk result (λ view. view ≡ view_of (S.pod state.now) path.now) }
+{
+    let children = state.children(alloc, path)?;
+    let uri = path.uri(alloc, state.base())?;
+    let own = own_triples(alloc, state.find(path))?;
+    let typed = with_types(alloc, own.into_vec(), &uri)?;
+    let shown = with_children(alloc, typed, state.base(), &uri, children.as_slice())?;
+    Ok(graph_of(shown))
+}
+
+/// The graph of triples of RDF.
+fn graph_of(triples: Vec<Triple>) -> Graph
+    requires { All IsRdf triples.items }
+    ensures { result ≡ graph_of triples.items }
+{
+    let graph = Graph::of(List::from_vec(triples));
+    let _in_order = graph.as_slice();
+    graph
+}
+
+/// The own triples of a row: none where there is no row.
+fn own_triples(alloc: Global, row: Option<&Row>) -> Mem<List<Triple>>
+    ensures own { IfOk result (λ own. own.items ≡ own_triples (option_copied row.entry)) }
+    ensures rdf { IfOk result (λ own. All IsRdf own.items) }
+{
+    match row {
+        Some(row) => match &row.content {
+            Content::Graph(graph) => {
+                let copy = graph.copy(alloc)?;
+                Ok(copy.into_list())
+            }
+            Content::Bytes { ctype: _, bytes: _ } => Ok(List::new(alloc)),
+        },
+        None => Ok(List::new(alloc)),
+    }
+}
+
+/// The IRI of a constant.
+fn constant(alloc: Global, text: &str) -> Mem<Iri>
+    ensures { IfOk result (λ iri. iri ≡ text.now) }
+{
+    match Iri::read(alloc, text) {
+        Ok(iri) => Ok(iri),
+        Err(_) => Err(NoMemory),
+    }
+}
+
+/// An equal IRI.
+fn copy_iri(alloc: Global, iri: &Iri) -> Mem<Iri>
+    ensures { IfOk result (λ copy. copy ≡ iri.now) }
+{
+    match iri.copy(alloc) {
+        Ok(copy) => Ok(copy),
+        Err(_) => Err(NoMemory),
+    }
+}
+
+/// The triple of three IRIs.
+fn iri_triple(alloc: Global, subject: &Iri, property: &str, object: Iri) -> Mem<Triple>
+    ensures { IfOk result (λ t. t ≡ iri_triple subject.now property.now object) }
+{
+    let subject = copy_iri(alloc, subject)?;
+    let property = constant(alloc, property)?;
+    Ok(Triple {
+        s: Term::Iri(subject),
+        p: Term::Iri(property),
+        o: Term::Iri(object),
+    })
+}
+
+/// The triples, and one that gives the container a type.
+fn with_type(alloc: Global, triples: Vec<Triple>, uri: &Iri, class: &str) -> Mem<Vec<Triple>>
+    ensures { IfOk result (λ all. all.items
+        ≡ triples.items ++ iri_triple uri.now rdf_type class.now ∷ []) }
+{
+    let class = constant(alloc, class)?;
+    let triple = iri_triple(alloc, uri, RDF_TYPE, class)?;
+    let mut all = triples;
+    all.push(triple)?;
+    Ok(all)
+}
+
+/// The triples, and the three types of a container.
+fn with_types(alloc: Global, triples: Vec<Triple>, uri: &Iri) -> Mem<Vec<Triple>>
+    ensures { IfOk result (λ all. all.items ≡ triples.items ++ type_triples uri.now) }
+{
+    let one = with_type(alloc, triples, uri, LDP_BASIC_CONTAINER)?;
+    let two = with_type(alloc, one, uri, LDP_CONTAINER)?;
+    let three = with_type(alloc, two, uri, LDP_RESOURCE)?;
+    Ok(three)
+}
+
+/// The triples, and one for each child of the container with this URI.
+fn with_children(
+    alloc: Global,
+    triples: Vec<Triple>,
+    base: &Iri,
+    uri: &Iri,
+    children: &[Path],
+) -> Mem<Vec<Triple>>
+    ensures { IfOk result (λ all. all.items
+        ≡ triples.items ++ child_triples base.now uri.now children.now) }
+{
+    let mut all = triples;
+    for child in children {
+        let object = child.uri(alloc, base)?;
+        let triple = iri_triple(alloc, uri, LDP_CONTAINS, object)?;
+        all.push(triple)?;
+    }
+    Ok(all)
+}
