@@ -1,0 +1,3 @@
+pub mod GoverningLists
+pub mod BasisLemmas
+pub mod GraphGrants

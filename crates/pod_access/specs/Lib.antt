@@ -1,0 +1,4 @@
+-- whom a pod grants what, and with which bases; what `WAC-Allow` tells
+pub mod PodGrants
+pub mod Bases
+pub mod AllowField

@@ -1,0 +1,65 @@
+//! [`allow_field`].
+
+ghost use Rattle.std.specs.Prelude.{◌≡◌, IfOk};
+ghost use Rattle.pod_access.specs.AllowField.{allow_field, control_by, modes_at, modes_by};
+ghost use Rattle.pod_rows.specs.Access.{governed, rules_at};
+
+use crate::bases::ground_in;
+use acl_rules::{How, Rules};
+use pod_base::{Agent, Bytes, Mem, Mode};
+use pod_path::Path;
+use pod_rows::PodState;
+use std::alloc::Global;
+use wac_decide::{granted_modes, wac_allow};
+
+/// All modes of an access list, where Control of what it is about is granted, else none.
+fn list_modes<S: PodState>(
+    state: &S,
+    rules: &Rules,
+    how: How,
+    at: &Path,
+    agent: &Agent,
+) -> [bool; 4]
+    requires { rules.now.list ≡ rules_at (S.pod state.now) at.now }
+    ensures { result ≡ control_by (S.pod state.now) agent.now (governed at.now how) }
+{
+    let granted = ground_in(state, rules, how, at, agent, Mode::Control).is_some();
+    [granted, granted, granted, granted]
+}
+
+/// The modes that an access list grants.
+fn resource_modes<S: PodState>(
+    state: &S,
+    rules: &Rules,
+    how: How,
+    at: &Path,
+    agent: &Agent,
+) -> [bool; 4]
+    requires { rules.now.list ≡ rules_at (S.pod state.now) at.now }
+    ensures { result ≡ modes_by (S.pod state.now) agent.now (governed at.now how) }
+{
+    granted_modes(rules, how, at, agent, state)
+}
+
+/// What an agent may do at a path, in the order read, write, append, control.
+fn modes_at<S: PodState>(state: &S, path: &Path, agent: &Agent) -> [bool; 4]
+    ensures { result ≡ modes_at (S.pod state.now) agent.now path.now }
+{
+    let effective = state.effective(path);
+    if path.is_acl() {
+        list_modes(state, effective.rules, effective.how, effective.at, agent)
+    } else {
+        resource_modes(state, effective.rules, effective.how, effective.at, agent)
+    }
+}
+
+/// The value of `WAC-Allow` for a path: what the agent and what everyone may do there. Of an access
+/// list all four modes are told where Control of what it is about is granted, else none; of a
+/// description those of what it is about.
+pub fn allow_field<S: PodState>(alloc: Global, state: &S, path: &Path, agent: &Agent) -> Mem<Bytes>
+    ensures { IfOk result (λ value. value ≡ allow_field (S.pod state.now) agent.now path.now) }
+{
+    let user = modes_at(state, path, agent);
+    let public = modes_at(state, path, &Agent::Public);
+    wac_allow(alloc, user, public)
+}
