@@ -3,6 +3,8 @@ pub mod Places
 pub mod Parts
 pub mod Pairs
 pub mod QuotedString
--- the elements of a list, and the value of a repeated field
+-- the elements of a list, words in it, and the values of the fields of a name
 pub mod Elements
 pub mod Joined
+pub mod Values
+pub mod Words

@@ -23,11 +23,15 @@ mod pairs;
 mod parts;
 mod quoted_string;
 mod quoting;
+mod values;
+mod words;
 
 pub use blanks::{trim, trim_end, trim_start};
 pub use elements::Elements;
 pub use joined::joined_value;
 pub use pairs::two_parts;
 pub use parts::Parts;
-pub use quoted_string::is_quoted_string;
+pub use quoted_string::{QuotedBytes, is_quoted_string};
 pub use quoting::Quoting;
+pub use values::only_value;
+pub use words::{has_word, some_has_word};

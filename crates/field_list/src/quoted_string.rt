@@ -2,6 +2,7 @@
 
 ghost use Rattle.std.specs.Prelude.{◌≡◌};
 ghost use Rattle.field_list.specs.QuotedString as spec;
+ghost use Rattle.field_list.specs.QuotedString.{meaning, meaning_rest};
 
 use crate::quoting::{Place, Quoting, next_place};
 use httparse::is_header_value_token;
@@ -34,5 +35,65 @@ pub fn is_quoted_string(text: &[u8]) -> bool
     match text.split_first() {
         Some((first, rest)) => *first == b'"' && is_rest(Place::Inside, rest),
         None => false,
+    }
+}
+
+/// Whether a byte is part of what a quoted string means.
+fn is_meant(place: Place, byte: u8) -> bool
+    ensures { result ≡ spec.is_meant place byte }
+{
+    match place {
+        Place::Outside => false,
+        Place::Inside => byte != b'"' && byte != b'\\',
+        Place::Escaped => true,
+    }
+}
+
+/// The bytes that a quoted string means, one after another: those between its quotes, without the
+/// backslashes that escape.
+#[derive(Drop)]
+pub struct QuotedBytes<'a> {
+    place: Place,
+    rest: &'a [u8],
+}
+
+impl<'a> QuotedBytes<'a> {
+    /// The bytes of a quoted string.
+    pub fn of(text: &'a [u8]) -> QuotedBytes<'a>
+        ensures { meaning_rest result ≡ meaning text.entry.now }
+    {
+        match text.split_first() {
+            Some((_quote, rest)) => QuotedBytes {
+                place: Place::Inside,
+                rest,
+            },
+            None => QuotedBytes {
+                place: Place::Inside,
+                rest: text,
+            },
+        }
+    }
+}
+
+impl<'a> Iterator for QuotedBytes<'a> {
+    ghost use Rattle.std.specs.Iterator.{YieldsFirst, item_count};
+    ghost use Rattle.field_list.specs.QuotedString.{meaning_rest};
+
+    type Item = u8;
+
+    ghost next_gives = { YieldsFirst meaning_rest };
+
+    ghost remaining = { item_count meaning_rest };
+
+    fn next(&mut self) -> Option<u8> {
+        while let Some((byte, more)) = self.rest.split_first() {
+            let place = self.place;
+            self.place = next_place(Quoting::Strings, place, *byte);
+            self.rest = more;
+            if is_meant(place, *byte) {
+                return Some(*byte);
+            }
+        }
+        None
     }
 }
