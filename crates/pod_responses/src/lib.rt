@@ -1,0 +1,28 @@
+//! The responses of a pod: status, fields and body of each, as one table (RFC 9110, section 15;
+//! Solid Protocol 0.11, sections 4 and 5).
+//!
+//! ```ignore
+//! let response = created(alloc, &base, &target, &location)?;   // 201 with Location and Link
+//! ```
+//!
+//! Proved: each call returns the response that `specs/Responses.antt` has for it, and which methods
+//! a path takes is one predicate ([`is_allowed`]), of which the field `Allow` is the list. The
+//! fields that depend on the connection (`Date`, `Connection`, `Content-Length`) aren't part of it.
+//!
+//! It stands on `pod_path` for paths and URIs, on `moment_date` for dates, on `conditional_req` for
+//! entity tags, and on `pod_base`.
+#![tactic(auto)]
+
+mod allow;
+mod capabilities;
+mod changes;
+mod field;
+mod links;
+mod refusals;
+mod representation;
+
+pub use allow::is_allowed;
+pub use capabilities::{options, options_of_server};
+pub use changes::{changed, created};
+pub use refusals::{not_allowed, not_modified, refusal, unauthorized, unsatisfiable, unsupported};
+pub use representation::{Representation, partial, shown, upgraded};
