@@ -1,0 +1,3 @@
+pub mod ProgressLemmas
+pub mod KeyLemmas
+pub mod TextLemmas
