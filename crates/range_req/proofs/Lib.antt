@@ -1,2 +1,5 @@
 pub mod NumberLemmas
 pub mod RangeLemmas
+pub mod NoteLemmas
+pub mod NumberDigits
+pub mod BodyLemmas

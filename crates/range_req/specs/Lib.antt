@@ -4,3 +4,5 @@ pub mod ByteRanges
 pub mod RangeSets
 -- the body of a response with several parts
 pub mod Multipart
+-- internal: cited by private clauses alone
+pub mod Boundaries

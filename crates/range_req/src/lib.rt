@@ -17,6 +17,7 @@
 //! and on `pod_base`.
 #![tactic(auto)]
 
+mod boundary_search;
 mod byte_range;
 mod multipart_body;
 mod number;

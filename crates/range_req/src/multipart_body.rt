@@ -1,64 +1,15 @@
 //! The body of a response with several parts of a body (RFC 9110, section 14.6).
 
-ghost use Rattle.std.specs.Prelude.{◌≡◌, ◌+◌, ◌<◌, ◌++◌, true, false, IfOk, length, slice_range};
-ghost use Rattle.std.specs.String.{string_bytes};
+ghost use Rattle.std.specs.Prelude.{◌≡◌, ◌+◌, ◌++◌, true, IfOk, length, slice_range};
 ghost use Rattle.std.specs.List.{flat_map, list_all};
 ghost use Rattle.range_req.specs.Multipart as spec;
 ghost use Rattle.range_req.specs.RangeSets.{is_within};
 
+use crate::boundary_search::free_boundary;
 use crate::byte_range::Part;
 use itoa::Buffer;
-use memchr::memmem;
-use pod_base::{Bytes, BytesBuilder, List, Mem, NoMemory, Text};
-use std::alloc::{AllocError, Global};
-
-/// Whether the bytes stand somewhere in a body.
-fn occurs(body: &[u8], needle: &[u8]) -> bool
-    ensures yes { result ≡ true → spec.Occurs body.now needle.now }
-    ensures no { result ≡ false → spec.Occurs body.now needle.now → ⊥ }
-{
-    match memmem::find(body, needle) {
-        Some(_) => true,
-        None => false,
-    }
-}
-
-/// The delimiter of the boundary with that number.
-fn delimiter(alloc: Global, number: u64) -> Result<String, AllocError>
-    ensures { IfOk result (λ text. string_bytes text ≡ spec.delimiter (spec.boundary number)) }
-{
-    let mut digits = Buffer::new();
-    let mut text = String::with_capacity(alloc, 26)?;
-    text.push_str("--pod-")?;
-    text.push_str(digits.format(number))?;
-    Ok(text)
-}
-
-/// The boundary with that number.
-fn boundary(alloc: Global, number: u64) -> Result<String, AllocError>
-    ensures { IfOk result (λ text. string_bytes text ≡ spec.boundary number) }
-{
-    let mut digits = Buffer::new();
-    let mut text = String::with_capacity(alloc, 24)?;
-    text.push_str("pod-")?;
-    text.push_str(digits.format(number))?;
-    Ok(text)
-}
-
-/// The first boundary whose delimiter isn't in a body. A body that had them all would need more
-/// memory than there is.
-fn free_boundary(alloc: Global, body: &[u8]) -> Mem<String>
-    ensures { IfOk result (λ text. spec.IsFreeBoundary body.now (string_bytes text)) }
-{
-    for number in 0..u64::MAX {
-        let delimiter = delimiter(alloc, number)?;
-        if !occurs(body, delimiter.as_bytes()) {
-            let boundary = boundary(alloc, number)?;
-            return Ok(boundary);
-        }
-    }
-    Err(NoMemory)
-}
+use pod_base::{Bytes, BytesBuilder, List, Mem, Text};
+use std::alloc::Global;
 
 /// Appends pieces one after another.
 fn append_all(alloc: Global, text: &mut BytesBuilder, pieces: &[&[u8]]) -> Mem<()>

@@ -1,5 +1,5 @@
 use Rattle.std.proofs.Common.{arith}
-use Rattle.range_req.proofs.multipart_body.occurs.Goals as goal
+use Rattle.range_req.proofs.boundary_search.occurs.Goals as goal
 
 -- an occurrence is within the body
 pub returns-in-None-clause-no : goal.returns-in-None-clause-no
