@@ -2,13 +2,19 @@
 //!
 //! ```ignore
 //! let stem = stem(alloc, Some(b"a b.acl"))?;   // a%20b.acl_
+//! let path = choose(alloc, &container, Some(b"notes"), false, &rows)?;   // /notes, /notes-2, ..
 //! ```
 //!
-//! Proved: [`stem`] is the definition `stem_of` of the slug.
+//! Proved: [`stem`] is the definition `stem_of` of the slug (`text`), and part of a path as it is
+//! (`plain`). [`choose`] gives the path of the first free candidate (`path`), and fails with a limit
+//! exactly where that path passes it (`normal`, `fault`): among at most [`ROW_LIMIT`] rows one of the
+//! candidates is free.
 //!
-//! It stands on `percent_encoding`, and on `pod_path` and `pod_base`, whose words its contract cites.
+//! It stands on `percent_encoding`, `itoa`, `iri_ref`, `pod_path` and `pod_base`.
 #![tactic(auto)]
 
+mod names;
 mod stems;
 
+pub use names::{ROW_LIMIT, choose};
 pub use stems::{STEM_LIMIT, stem};

@@ -1,11 +1,13 @@
 //! The stem of a slug.
 
-ghost use Rattle.std.specs.Prelude.{◌≡◌, ◌++◌, ◌∷◌, [], nat_eq, IfOk, Some, string_bytes};
+ghost use Rattle.std.specs.Prelude.{◌≡◌, ◌++◌, ◌∷◌, [], Bool, nat_eq, IfOk, Some, string_bytes};
 ghost use Rattle.std.specs.List.{ends_with};
 ghost use Rattle.std.specs.Option.{option_copied};
 ghost use Rattle.percent_encoding.specs.Percent.{percent_decode};
 ghost use Rattle.pod_path.specs.Characters.{is_unreserved};
+ghost use Rattle.pod_path.specs.Hierarchy.{IsPlainName};
 ghost use Rattle.pod_path.specs.Norm.{is_auxiliary_name};
+ghost use Rattle.slug_naming.specs.PlainTexts.{IsPlainText};
 ghost use Rattle.slug_naming.specs.Stems as spec;
 
 use percent_encoding::{percent_decode, percent_encode_byte};
@@ -72,7 +74,8 @@ fn without_dots(mut bytes: &[u8]) -> &[u8]
 
 /// Appends a byte as a character of a path, or its escape.
 fn push_escaped(text: &mut String, byte: u8) -> Result<(), AllocError>
-    ensures { IfOk result (λ _. string_bytes text.new ≡ string_bytes text.old ++ spec.escaped byte) }
+    ensures text { IfOk result (λ _. string_bytes text.new ≡ string_bytes text.old ++ spec.escaped byte) }
+    ensures plain { IsPlainText (spec.escaped byte) }
 {
     if is_unreserved(byte) {
         text.push(char::from(byte))
@@ -90,8 +93,10 @@ fn escaped_len(byte: u8) -> usize
 
 /// Appends as many of these bytes as there is room for.
 fn push_fitting(text: &mut String, bytes: &[u8]) -> Result<(), AllocError>
-    ensures { IfOk result (λ _. string_bytes text.new
+    ensures text { IfOk result (λ _. string_bytes text.new
         ≡ string_bytes text.old ++ spec.fitting STEM_LIMIT bytes.now) }
+    ensures plain { IsPlainText (string_bytes text.old)
+        → IfOk result (λ _. IsPlainText (string_bytes text.new)) }
 {
     let mut room = STEM_LIMIT;
     let mut rest = bytes;
@@ -136,7 +141,8 @@ fn finish(text: &mut String) -> Result<(), AllocError>
 
 /// The stem of a slug as a string.
 fn slug_stem(alloc: Global, slug: &[u8]) -> Result<String, AllocError>
-    ensures { IfOk result (λ text. string_bytes text ≡ spec.stem_of (Some slug.now)) }
+    ensures text { IfOk result (λ text. string_bytes text ≡ spec.stem_of (Some slug.now)) }
+    ensures plain { IfOk result (λ text. (folder : Bool) → IsPlainName (string_bytes text) folder) }
 {
     let bytes = name_bytes(alloc, slug)?;
     let mut text = String::with_capacity(alloc, STEM_LIMIT + 1)?;
@@ -146,8 +152,9 @@ fn slug_stem(alloc: Global, slug: &[u8]) -> Result<String, AllocError>
 }
 
 /// The stem of a slug, or without one, as a string.
-fn stem_text(alloc: Global, slug: Option<&[u8]>) -> Result<String, AllocError>
-    ensures { IfOk result (λ text. string_bytes text ≡ spec.stem_of (option_copied slug.entry)) }
+pub(crate) fn stem_text(alloc: Global, slug: Option<&[u8]>) -> Result<String, AllocError>
+    ensures text { IfOk result (λ text. string_bytes text ≡ spec.stem_of (option_copied slug.entry)) }
+    ensures plain { IfOk result (λ text. (folder : Bool) → IsPlainName (string_bytes text) folder) }
 {
     match slug {
         Some(slug) => slug_stem(alloc, slug),
@@ -162,7 +169,10 @@ fn stem_text(alloc: Global, slug: Option<&[u8]>) -> Result<String, AllocError>
 /// characters and escapes are dropped. A stem that ends in `.acl` or `.meta` gets `_` after it, and
 /// an empty one is `item`.
 pub fn stem(alloc: Global, slug: Option<&[u8]>) -> Mem<Text>
-    ensures { IfOk result (λ text. text ≡ spec.stem_of (option_copied slug.entry)) }
+    ensures text { IfOk result (λ text. text ≡ spec.stem_of (option_copied slug.entry)) }
+
+    // It is part of a member's path as it is, of a container and of another.
+    ensures plain { IfOk result (λ text. (folder : Bool) → IsPlainName text folder) }
 {
     let text = stem_text(alloc, slug)?;
     let text = Text::from_string(alloc, text)?;
