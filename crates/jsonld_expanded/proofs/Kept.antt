@@ -6,7 +6,7 @@ use Rattle.std.proofs.lemmas.List.Sums.{sum_by-cons}
 use Rattle.rdf_graph.specs.Size.{saturated, triple_size, triples_size}
 use Rattle.rdf_graph.specs.Triple.{IsRdf}
 use Rattle.rdf_graph.specs.declared.triple.Triple.{Triple}
-use Rattle.jsonld_expanded.specs.declared.reader.TheConstants.{TRIPLES_LIMIT}
+use Rattle.rdf_graph.specs.declared.size.TheConstants.{TRIPLES_LIMIT}
 use Rattle.jsonld_expanded.specs.declared.walk.Walk.{Walk}
 use Rattle.jsonld_expanded.specs.Expands.{State}
 use Rattle.jsonld_expanded.specs.Walks.{Stands}

@@ -5,7 +5,7 @@ use Rattle.rdf_graph.specs.Size.{triples_size}
 use Rattle.rdf_graph.specs.declared.triple.Triple.{Triple}
 use Rattle.serde_json.specs.Data.{Data}
 use Rattle.serde_json.specs.Read.{read}
-use Rattle.jsonld_expanded.specs.declared.reader.TheConstants.{TRIPLES_LIMIT}
+use Rattle.rdf_graph.specs.declared.size.TheConstants.{TRIPLES_LIMIT}
 use Rattle.jsonld_expanded.specs.Expands.{Expands, ExpandsTo}
 
 -- `serde_json` has this value for the bytes

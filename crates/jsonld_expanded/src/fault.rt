@@ -19,7 +19,7 @@ pub enum JsonLdFault {
     /// The JSON stands for no graph.
     #[error("not in the profile of expanded JSON-LD")]
     OutOfProfile,
-    /// The encoded triples are longer than [`TRIPLES_LIMIT`](crate::TRIPLES_LIMIT).
+    /// The encoded triples are longer than [`TRIPLES_LIMIT`](rdf_graph::TRIPLES_LIMIT).
     #[error("too many triples")]
     TooLarge,
     /// Memory ran out.

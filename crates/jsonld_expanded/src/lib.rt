@@ -28,4 +28,4 @@ mod walk;
 mod words;
 
 pub use fault::JsonLdFault;
-pub use reader::{TRIPLES_LIMIT, read};
+pub use reader::read;

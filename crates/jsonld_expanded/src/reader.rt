@@ -17,13 +17,10 @@ use crate::walk::Walk;
 use crate::words::Words;
 use iri_ref::Iri;
 use pod_base::{List, Mem};
-use rdf_graph::Graph;
+use rdf_graph::{Graph, TRIPLES_LIMIT};
 use serde_json::Value;
 use std::alloc::Global;
 use std::collections::BTreeSet;
-
-/// The most bytes that the triples of a document may have in their encoded form, repeats included.
-pub const TRIPLES_LIMIT: u64 = 8_388_608;
 
 /// The graph of a document.
 ///

@@ -7,10 +7,9 @@ ghost use Rattle.rdf_graph.specs.declared.term.Term.TheVariants.{Iri as IriTerm}
 ghost use Rattle.jsonld_expanded.specs.Expands.{Says, start};
 ghost use Rattle.jsonld_expanded.specs.Walks.{Advances, Stands};
 
-use crate::reader::TRIPLES_LIMIT;
 use iri_ref::Iri;
 use pod_base::{Mem, NoMemory};
-use rdf_graph::{Term, Triple};
+use rdf_graph::{TRIPLES_LIMIT, Term, Triple};
 use std::alloc::Global;
 
 #[derive(Drop)]

@@ -6,21 +6,10 @@ ghost use Rattle.jsonld_expanded.specs.Vocabulary.{xsd_boolean, xsd_integer, xsd
 
 use iri_ref::Iri;
 use pod_base::{Mem, NoMemory};
+use rdf_graph::vocabulary::{
+    RDF_FIRST, RDF_NIL, RDF_REST, RDF_TYPE, XSD_BOOLEAN, XSD_INTEGER, XSD_STRING,
+};
 use std::alloc::Global;
-
-const RDF_TYPE: &str = "http://www.w3.org/1999/02/22-rdf-syntax-ns#type";
-
-const RDF_FIRST: &str = "http://www.w3.org/1999/02/22-rdf-syntax-ns#first";
-
-const RDF_REST: &str = "http://www.w3.org/1999/02/22-rdf-syntax-ns#rest";
-
-const RDF_NIL: &str = "http://www.w3.org/1999/02/22-rdf-syntax-ns#nil";
-
-const XSD_STRING: &str = "http://www.w3.org/2001/XMLSchema#string";
-
-const XSD_BOOLEAN: &str = "http://www.w3.org/2001/XMLSchema#boolean";
-
-const XSD_INTEGER: &str = "http://www.w3.org/2001/XMLSchema#integer";
 
 /// The IRIs, each made once for a document.
 #[derive(Drop)]

@@ -2,7 +2,7 @@ use Rattle.std.proofs.Common.{◌≤◌, List, Err, ap}
 use Rattle.rdf_graph.specs.Graph.{SameSet}
 use Rattle.rdf_graph.specs.declared.triple.Triple.{Triple}
 use Rattle.serde_json.specs.View.{view}
-use Rattle.jsonld_expanded.specs.declared.reader.TheConstants.{TRIPLES_LIMIT}
+use Rattle.rdf_graph.specs.declared.size.TheConstants.{TRIPLES_LIMIT}
 use Rattle.jsonld_expanded.specs.Outcomes.{IsDocumentOf}
 use Rattle.jsonld_expanded.proofs.Readings.{both, document_of, too_large}
 use Rattle.jsonld_expanded.proofs.reader.read.Goals as goal
