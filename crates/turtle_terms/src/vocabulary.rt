@@ -9,6 +9,10 @@ ghost use Rattle.turtle_terms.specs.declared.vocabulary.Word.TheVariants.{XsdDou
 
 use iri_ref::{Iri, IriFault};
 use pod_base::{Mem, NoMemory};
+use rdf_graph::vocabulary::{
+    RDF_FIRST, RDF_NIL, RDF_REST, RDF_TYPE, XSD_BOOLEAN, XSD_DECIMAL, XSD_DOUBLE, XSD_INTEGER,
+    XSD_STRING,
+};
 use std::alloc::Global;
 
 /// An IRI of RDF or XML Schema that a document may mean without writing it.
@@ -33,15 +37,15 @@ impl Word {
         ensures { result.now ≡ word_text self }
     {
         match self {
-            Word::RdfType => "http://www.w3.org/1999/02/22-rdf-syntax-ns#type",
-            Word::RdfNil => "http://www.w3.org/1999/02/22-rdf-syntax-ns#nil",
-            Word::RdfFirst => "http://www.w3.org/1999/02/22-rdf-syntax-ns#first",
-            Word::RdfRest => "http://www.w3.org/1999/02/22-rdf-syntax-ns#rest",
-            Word::XsdString => "http://www.w3.org/2001/XMLSchema#string",
-            Word::XsdInteger => "http://www.w3.org/2001/XMLSchema#integer",
-            Word::XsdDecimal => "http://www.w3.org/2001/XMLSchema#decimal",
-            Word::XsdDouble => "http://www.w3.org/2001/XMLSchema#double",
-            Word::XsdBoolean => "http://www.w3.org/2001/XMLSchema#boolean",
+            Word::RdfType => RDF_TYPE,
+            Word::RdfNil => RDF_NIL,
+            Word::RdfFirst => RDF_FIRST,
+            Word::RdfRest => RDF_REST,
+            Word::XsdString => XSD_STRING,
+            Word::XsdInteger => XSD_INTEGER,
+            Word::XsdDecimal => XSD_DECIMAL,
+            Word::XsdDouble => XSD_DOUBLE,
+            Word::XsdBoolean => XSD_BOOLEAN,
         }
     }
 
