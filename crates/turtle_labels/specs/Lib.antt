@@ -1,0 +1,5 @@
+pub mod TokensBefore
+pub mod Unnamed
+pub mod Laws
+-- internal: cited by private clauses alone
+pub mod Taken
