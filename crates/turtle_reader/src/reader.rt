@@ -1,0 +1,150 @@
+//! The reader of lexemes.
+
+ghost use Rattle.std.specs.Prelude.{◌≡◌, ◌++◌, ◌∷◌, [], List, ℕ, IfOk, IfErr, OnOk, IfSome, IsTrue};
+ghost use Rattle.std.specs.Bool.{OnTrue, OnFalse};
+ghost use Rattle.turtle_terms.specs.declared.fault.TurtleKind.TheVariants as Why;
+ghost use Rattle.turtle_terms.specs.declared.fault.TurtleFault.TheVariants.{Bad};
+
+use crate::context::Context;
+use crate::lexeme::Lexeme;
+use crate::meaning::Meaning;
+use crate::referent::{ResolvedTriple, resolved};
+use iri_ref::Iri;
+use pod_base::Mem;
+use std::alloc::Global;
+use turtle_grammar::{Machine, Production, Refusal, Start, Symbol, SymbolicTriple};
+use turtle_terms::{TurtleFault, TurtleKind, Vocabulary};
+
+/// Reads the lexemes of a text one by one, from a start symbol and a base on. It keeps the meanings
+/// of those since the last complete statement.
+#[derive(Drop)]
+pub struct Reader {
+    machine: Machine,
+    context: Context,
+    vocabulary: Vocabulary,
+    meanings: Vec<Meaning>,
+    since: usize,
+}
+
+/// The fault of this kind at a position.
+fn fault_at(at: usize, kind: TurtleKind) -> TurtleFault
+    ensures { result ≡ Bad at kind }
+{
+    TurtleFault::Bad { at, kind }
+}
+
+impl Reader {
+    ghost use Rattle.turtle_grammar.specs.Readings.{HasRead, IsDerived, IsUnfinished, Waits};
+    ghost use Rattle.turtle_reader.specs.Contexts.{advanced};
+    ghost use Rattle.turtle_reader.specs.Lexemes.{IsLexemeOf};
+    ghost use Rattle.turtle_reader.specs.Readings.{IsReading, ReadsOn, IsRefused, Resolves};
+    ghost use Rattle.turtle_reader.specs.Readings.{produced_last, Keeps};
+
+    /// Before the first lexeme.
+    pub fn new(alloc: Global, start: Start, base: &Iri) -> Mem<Reader>
+        ensures { IfOk result (λ reader. (bytes : List ℕ)
+            → IsReading start base.now bytes [] [] [] reader) }
+    {
+        let context = Context::new(alloc, base)?;
+        let vocabulary = Vocabulary::new(alloc)?;
+        Ok(Reader {
+            machine: Machine::new(alloc, start),
+            context,
+            vocabulary,
+            meanings: Vec::new(alloc),
+            since: 0,
+        })
+    }
+
+    /// Lets go of the meanings of complete statements.
+    fn forget(&mut self)
+        ensures { Keeps self.old self.new }
+    {
+        if self.machine.is_complete() {
+            if let Some(since) = self.since.checked_add(self.meanings.len()) {
+                self.since = since;
+                self.meanings.clear();
+            }
+        }
+    }
+
+    /// Reads the next lexeme. After a fault the reader has read nothing that is known.
+    ///
+    /// # Errors
+    ///
+    /// The fault of the lexeme, at its start: `Grammar` where nothing goes on with it, else `Prefix`
+    /// or `BadIri` where its IRI is none, else `Depth` where it opens a bracket too many.
+    pub fn step(&mut self, alloc: Global, bytes: &[u8], lexeme: Lexeme) -> Result<(), TurtleFault>
+        requires { IsLexemeOf bytes.now lexeme }
+        ensures read { OnOk result (ReadsOn bytes.now lexeme self.old self.new) }
+        ensures refused { IfErr result (λ fault. IsRefused bytes.now lexeme self.old fault) }
+    {
+        self.forget();
+        let meaning = self.context.meaning(alloc, &self.vocabulary, bytes, lexeme);
+        match self.machine.step(lexeme.symbol) {
+            Ok(()) => match meaning {
+                Ok(meaning) => {
+                    self.keep(alloc, lexeme.symbol, meaning)?;
+                    Ok(())
+                }
+                Err(fault) => Err(fault),
+            },
+            Err(Refusal::Grammar) => Err(fault_at(lexeme.from, TurtleKind::Grammar)),
+            Err(Refusal::Depth) => match meaning {
+                Ok(_) => Err(fault_at(lexeme.from, TurtleKind::Depth)),
+                Err(fault) => Err(fault),
+            },
+            Err(Refusal::NoMemory) => Err(TurtleFault::NoMemory),
+        }
+    }
+
+    /// Passes a lexeme with this meaning.
+    fn keep(&mut self, alloc: Global, symbol: Symbol, meaning: Meaning) -> Mem<()>
+        ensures context { OnOk result (self.new.context
+            ≡ advanced self.old.context.directive self.old.context symbol meaning) }
+        ensures meanings { OnOk result (self.new.meanings.items ≡ self.old.meanings.items ++ meaning ∷ []) }
+        ensures since { OnOk result (self.new.since ≡ self.old.since) }
+        ensures machine { OnOk result (self.new.machine ≡ self.old.machine) }
+    {
+        self.context.advance(alloc, symbol, &meaning)?;
+        self.meanings.push(meaning)?;
+        Ok(())
+    }
+
+    /// What the last lexeme produced, in order. A String's triple is produced with the lexeme after
+    /// it, which may add a tag or a datatype.
+    pub fn produced(&self) -> &[Production]
+        ensures { result.now ≡ produced_last self.now }
+    {
+        self.machine.produced()
+    }
+
+    /// The triple of the last lexeme, where it is a String to which nothing is added.
+    pub fn waiting(&self) -> Option<SymbolicTriple>
+        ensures { Waits result self.now.machine }
+    {
+        self.machine.waiting()
+    }
+
+    /// Whether what was read has a derivation.
+    pub fn is_complete(&self) -> bool
+        ensures complete { OnTrue result (IsDerived self.now.machine) }
+        ensures unfinished { OnFalse result (IsUnfinished self.now.machine) }
+    {
+        self.machine.is_complete()
+    }
+
+    /// What the nodes of a triple refer to that the last lexeme produced, or that waits. It is out of
+    /// memory where a node names a lexeme without such a meaning, which no node of these does.
+    pub fn triple(&self, alloc: Global, triple: &SymbolicTriple) -> Mem<ResolvedTriple>
+        ensures { IfOk result (λ resolved. Resolves triple.now self.now resolved) }
+    {
+        resolved(
+            alloc,
+            &self.vocabulary,
+            self.meanings.as_slice(),
+            self.since,
+            triple,
+        )
+    }
+}
