@@ -1,0 +1,6 @@
+pub mod Triples
+pub mod Spells
+pub mod Faults
+pub mod Laws
+-- internal: cited by private clauses alone
+pub mod Progress

@@ -1,0 +1,49 @@
+-- The triples of a document, by the meanings of its tokens (RDF 1.1 Turtle, section 7).
+use Rattle.std.specs.Prelude.{◌≡◌, ℕ, List, [], ◌∷◌, Option, Some}
+use Rattle.rdf_graph.specs.declared.term.Term.{Term}
+use Rattle.rdf_graph.specs.declared.term.Term.TheVariants.{Blank}
+use Rattle.rdf_graph.specs.declared.triple.Triple.{Triple as RdfTriple}
+use Rattle.turtle_lex.specs.declared.token.Token.{Token}
+use Rattle.turtle_grammar.specs.declared.production.Node.{Node}
+use Rattle.turtle_grammar.specs.declared.production.SymbolicTriple.{SymbolicTriple}
+use Rattle.turtle_grammar.specs.declared.production.Production.{Production}
+use Rattle.turtle_grammar.specs.declared.production.Production.TheVariants.{Prefix, Base, Triple}
+use Rattle.turtle_labels.specs.TokensBefore.{AreTokensBefore}
+use Rattle.turtle_labels.specs.Unnamed.{IsUnnamed, written_labels}
+use Rattle.turtle_reader.specs.declared.meaning.Meaning.{Meaning}
+use Rattle.turtle_reader.specs.declared.referent.Referent.{Referent}
+use Rattle.turtle_reader.specs.declared.referent.Referent.TheVariants as referent_of
+use Rattle.turtle_reader.specs.Referents.{referent}
+
+-- the label of the unnamed node of this number in a document of these bytes
+abbrev pub IsLabelOf : List ℕ → ℕ → List ℕ → Type 0
+IsLabelOf bytes number label = (tokens : List Token) × AreTokensBefore bytes tokens
+    × IsUnnamed (written_labels bytes tokens) number label
+
+-- The term of what a node refers to. A document has neither variables nor formulas.
+abbrev pub IsReferentTerm : List ℕ → Option Referent → Term → Type 0
+IsReferentTerm bytes (Some (referent_of.Term t)) term = term ≡ t
+IsReferentTerm bytes (Some (referent_of.Unnamed number)) term =
+    (label : List ℕ) × IsLabelOf bytes number label × (term ≡ Blank label)
+IsReferentTerm bytes other term = ⊥
+
+-- The term of a node, where these are the meanings of the tokens.
+abbrev pub IsNodeTerm : List ℕ → List Meaning → Node → Term → Type 0
+IsNodeTerm bytes meanings node term = IsReferentTerm bytes (referent meanings node) term
+
+pub record IsTripleOf (bytes : List ℕ) (meanings : List Meaning) (symbolic : SymbolicTriple)
+    (triple : RdfTriple) : Type 0 where
+  pub subject : IsNodeTerm bytes meanings symbolic.subject triple.s
+  pub predicate : IsNodeTerm bytes meanings symbolic.predicate triple.p
+  pub object : IsNodeTerm bytes meanings symbolic.object triple.o
+
+-- The triples of productions, in their order.
+abbrev pub AreTriplesOf : List ℕ → List Meaning → List Production → List RdfTriple → Type 0
+AreTriplesOf bytes meanings [] triples = triples ≡ []
+AreTriplesOf bytes meanings (Prefix name iri ∷ productions) triples =
+    AreTriplesOf bytes meanings productions triples
+AreTriplesOf bytes meanings (Base iri ∷ productions) triples =
+    AreTriplesOf bytes meanings productions triples
+AreTriplesOf bytes meanings (Triple symbolic ∷ productions) triples =
+    (first : RdfTriple) × (rest : List RdfTriple) × (triples ≡ first ∷ rest)
+    × IsTripleOf bytes meanings symbolic first × AreTriplesOf bytes meanings productions rest

@@ -1,0 +1,28 @@
+//! Reads documents of Turtle (RDF 1.1 Turtle) as graphs.
+//!
+//! ```text
+//! let base = Iri::read(alloc, "http://e.example/")?;
+//! match read(alloc, &base, b"<a> <b> [], ( 1 ) .") {
+//!     Ok(graph) => ..,
+//!     Err(TurtleFault::Bad { at, kind }) => ..,
+//! }
+//! ```
+//!
+//! Proved of [`read`]: it returns the graph that the bytes spell (clause `spells`, by `Spells` of
+//! `specs/Spells.antt`), and they then have no fault (`sound`); else the first fault over all kinds
+//! (`fault`, by `IsFirstFault` of `specs/Faults.antt`). Where the bytes spell a graph, no bracket is too
+//! deep and the triples aren't too large, that graph is the answer, or out of memory (`only`). By
+//! [`laws`] a text spells one graph and has one first fault, at the least position of all its faults.
+//!
+//! It reads the tokens once, by the reader of `turtle_reader`, and once more for the labels of
+//! `turtle_labels` where the document has an unnamed node. Triples share the memory of their terms.
+#![tactic(auto)]
+
+mod document;
+pub mod laws;
+mod reading;
+mod triples;
+mod unnamed;
+
+pub use reading::read;
+pub use turtle_terms::{Scope, TurtleFault, TurtleKind, term};
