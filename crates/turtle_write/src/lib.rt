@@ -6,7 +6,8 @@
 //! ```
 //!
 //! Proved: [`write()`] returns `graph_text` of `rdf_graph`, subject, predicate, object and ` .` LF for
-//! each triple in the order of the lines (clause `text`), and [`len()`] its length (clause `length`).
+//! each triple in the order of the lines (clause `text`), and [`len()`] its length (clause `length`),
+//! as [`term_len`] does of a term's text.
 //! The text is written once, into memory of its length.
 #![tactic(auto)]
 
@@ -14,4 +15,4 @@ mod text;
 mod text_len;
 
 pub use text::write;
-pub use text_len::len;
+pub use text_len::{len, term_len};

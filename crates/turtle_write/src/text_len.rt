@@ -8,10 +8,8 @@ ghost use Rattle.rdf_graph.specs.Triple.{line};
 ghost use Rattle.std.specs.List.{flat_map};
 ghost use Rattle.turtle_write.specs.HasEscape.{has_escape};
 
+use rdf_graph::vocabulary::XSD_STRING;
 use rdf_graph::{Graph, Term, Triple};
-
-/// The datatype that a literal's text leaves out.
-const XSD_STRING: &str = "http://www.w3.org/2001/XMLSchema#string";
 
 /// The number as a length.
 #[tactic(auto, unfolding(rdf_graph::specs::Size::saturated))]
@@ -67,9 +65,9 @@ fn quoted_len(lexical: &str) -> u64
     sum(len_of(2), escaped_len(lexical.as_bytes()))
 }
 
-/// The length of a term's text.
+/// The length of a term's text, at most 2^64 - 1.
 #[tactic(auto, unfolding(rdf_graph::specs::Term::text))]
-fn term_len(term: &Term) -> u64
+pub fn term_len(term: &Term) -> u64
     ensures { result ≡ saturated (length (text term.now)) }
 {
     match term {
