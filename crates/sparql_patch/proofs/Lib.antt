@@ -1,0 +1,2 @@
+pub mod TripleLemmas
+pub mod NamedLemmas

@@ -1,0 +1,181 @@
+-- The last namings of triples.
+use Rattle.std.proofs.Common.{◌≡◌, inl, inr, ◌&&◌, ◌||◌, ℕ, Bool, true, false, not, List, [], ◌∷◌, ◌++◌, map, Some, None, if◌then◌else◌, refl, sym, ap, ◌∙◌, subst, append-nil}
+use Rattle.std.specs.List.{AllByRecursion, Contains, IsDistinct, filter}
+use Rattle.std.proofs.lemmas.Bool.{and_parts, and_from}
+use Rattle.std.proofs.lemmas.List.Elements.{Contains-append_left, Contains-append_right, Contains-append_cases}
+use Rattle.std.proofs.lemmas.Map.Keys.{IsDistinct-head, IsDistinct-tail, IsDistinct-push}
+use Rattle.rdf_graph.proofs.Members.{contains_cases, contains_here, contains_there, contains_none, contains_filter}
+use Rattle.rdf_graph.specs.Patch.{IsBound}
+use Rattle.rdf_graph.specs.Pattern.{HasVariable}
+use Rattle.rdf_graph.specs.declared.patch.Patch.{Patch}
+use Rattle.rdf_graph.specs.declared.pattern.Pattern.{Pattern}
+use Rattle.rdf_graph.specs.declared.triple.Triple.{Triple}
+use Rattle.sparql_patch.specs.declared.named.Named.{Named}
+use Rattle.sparql_patch.specs.Laws.{LastNamingDecides, DeletionsAreInGraph, EachIsListedOnce, WithoutRepeats, naming}
+use Rattle.sparql_patch.specs.NamedUpdate.{triple_eq, has_triple, has_word, if_last, is_named, last_named, last_word, pattern_of, IsSpelledAt}
+use Rattle.sparql_patch.proofs.TripleLemmas.{triple_eq_decides, triple_eq_laws, has_triple_decides}
+
+not_false : (b : Bool) → not b ≡ true → b ≡ false
+not_false true e = cc
+not_false false e = refl
+
+not_true : (b : Bool) → b ≡ false → not b ≡ true
+not_true true e = cc
+not_true false e = refl
+
+true_is_false : (b : Bool) → b ≡ true → b ≡ false → ⊥
+true_is_false true t f = cc
+true_is_false false t f = cc
+
+same_word : (insert : Bool) (x : Named) → has_word insert x ≡ true → x.insert ≡ insert
+same_word true x e = e
+same_word false x e = not_false x.insert e
+
+word_of : (insert : Bool) (x : Named) → x.insert ≡ insert → has_word insert x ≡ true
+word_of true x e = e
+word_of false x e = not_true x.insert e
+
+-- what `if_last` lists
+module _ (insert : Bool) (x : Named) (others : List Named) where
+  pub listed_last : has_word insert x ≡ true → is_named others x.triple ≡ false → if_last insert x others ≡ x.triple ∷ []
+  listed_last word free = ap (λ b. if b then x.triple ∷ [] else []) (and_from _ _ word (not_true _ free))
+
+  pub unlisted : (has_word insert x && not (is_named others x.triple)) ≡ false → if_last insert x others ≡ []
+  unlisted e = ap (λ b. if b then x.triple ∷ [] else []) e
+
+  -- by the test
+  pub if_last-cases : (P : List Triple → Type 0) → (has_word insert x ≡ true → is_named others x.triple ≡ false → P (x.triple ∷ [])) → P [] → P (if_last insert x others)
+  if_last-cases P listed none = by_test (has_word insert x && not (is_named others x.triple)) refl where
+    by_test : (b : Bool) → (has_word insert x && not (is_named others x.triple)) ≡ b → P (if b then x.triple ∷ [] else [])
+    by_test true e = let parts = and_parts _ _ e in listed parts.0 (not_false _ parts.1)
+    by_test false e = none
+
+-- the word of what others name
+word_of_named : (x : Named) (xs : List Named) (t : Triple) → is_named xs t ≡ true → last_word (x ∷ xs) t ≡ last_word xs t
+word_of_named x xs t e = ap (λ b. if b then last_word xs t else if triple_eq t x.triple then Some x.insert else None) e
+
+word_of_unnamed : (x : Named) (xs : List Named) (t : Triple) → is_named xs t ≡ false
+    → last_word (x ∷ xs) t ≡ (if triple_eq t x.triple then Some x.insert else None)
+word_of_unnamed x xs t e = ap (λ b. if b then last_word xs t else if triple_eq t x.triple then Some x.insert else None) e
+
+some_if : (b insert : Bool) (i : Bool) → (if b then Some i else None) ≡ Some insert → (b ≡ true) × (i ≡ insert)
+some_if true insert i e = (refl, cc)
+some_if false insert i e = cc
+
+-- a triple with a last word is named
+pub named_if_word : (named : List Named) (t : Triple) (insert : Bool) → last_word named t ≡ Some insert → is_named named t ≡ true
+named_if_word [] t insert e = cc
+named_if_word (x ∷ xs) t insert e = by_test (triple_eq t x.triple) refl where
+  by_rest : (b : Bool) → is_named xs t ≡ b → triple_eq t x.triple ≡ false → is_named xs t ≡ true
+  by_rest true named other = named
+  by_rest false free other =
+      absurd (true_is_false (triple_eq t x.triple) (some_if (triple_eq t x.triple) insert x.insert (sym (word_of_unnamed x xs t free) ∙ e)).0 other)
+
+  by_test : (b : Bool) → triple_eq t x.triple ≡ b → (b || is_named xs t) ≡ true
+  by_test true same = refl
+  by_test false other = by_rest (is_named xs t) refl other
+
+-- a listed triple has that last word, and back
+module _ (insert : Bool) (t : Triple) where
+  pub word_of_listed : (named : List Named) → Contains (last_named insert named) t → last_word named t ≡ Some insert
+  word_of_listed [] h = absurd (contains_none t h)
+  word_of_listed (x ∷ xs) h = elim (Contains-append_cases (last_named insert xs) (if_last insert x xs) t h) [
+    | inl before ↦ let word = word_of_listed xs before in word_of_named x xs t (named_if_word xs t insert word) ∙ word
+    | inr here ↦ if_last-cases insert x xs (λ ts. Contains ts t → last_word (x ∷ xs) t ≡ Some insert) (λ word free h.
+        let same : x.triple ≡ t = only x.triple t h in
+        word_of_unnamed x xs t (subst (λ (u : Triple). is_named xs u ≡ false) same free)
+        ∙ ap (λ b. if b then Some x.insert else None) ((triple_eq_decides t x.triple).1 (sym same)) ∙ ap Some (same_word insert x word)) (λ h. absurd (contains_none t h)) here
+  ] where
+    only : (u t : Triple) → Contains (u ∷ []) t → u ≡ t
+    only u t h = elim (contains_cases u [] t h) [ inl e ↦ e | inr none ↦ absurd (contains_none t none) ]
+
+  pub listed_by_word : (named : List Named) → last_word named t ≡ Some insert → Contains (last_named insert named) t
+  listed_by_word [] e = cc
+  listed_by_word (x ∷ xs) e = by_test (λ before. listed_by_word xs before) (is_named xs t) refl where
+    by_test : (last_word xs t ≡ Some insert → Contains (last_named insert xs) t) → (b : Bool) → is_named xs t ≡ b → Contains (last_named insert (x ∷ xs)) t
+    by_test before true named = Contains-append_left (last_named insert xs) (if_last insert x xs) t (before (sym (word_of_named x xs t named) ∙ e))
+    by_test before false free =
+        let parts = some_if (triple_eq t x.triple) insert x.insert (sym (word_of_unnamed x xs t free) ∙ e) in
+        let same : t ≡ x.triple = (triple_eq_decides t x.triple).0 parts.0 in
+        let listed = listed_last insert x xs (word_of insert x parts.1) (subst (λ (u : Triple). is_named xs u ≡ false) same free) in
+        Contains-append_right (last_named insert xs) (if_last insert x xs) t
+        (subst (λ (ts : List Triple). Contains ts t) (sym listed) (subst (λ (u : Triple). Contains (x.triple ∷ []) u) (sym same) (contains_here x.triple [])))
+
+pub last_naming_decides : LastNamingDecides
+last_naming_decides named insert t = (word_of_listed insert t named, listed_by_word insert t named)
+
+pub deletions_in_graph : DeletionsAreInGraph
+deletions_in_graph g named t = (
+  λ h. let parts = (contains_filter (has_triple g) (last_named false named) t).0 h in
+      ((has_triple_decides g t).0 parts.1, word_of_listed false t named parts.0),
+  λ h. (contains_filter (has_triple g) (last_named false named) t).1 (listed_by_word false t named h.1, (has_triple_decides g t).1 h.0),
+)
+
+once_nothing : IsDistinct triple_eq []
+unfolding IsDistinct
+once_nothing = tt
+
+pub listed_once : EachIsListedOnce
+listed_once [] insert = once_nothing
+listed_once (x ∷ xs) insert = if_last-cases insert x xs (λ ts. IsDistinct triple_eq (last_named insert xs ++ ts)) (λ word free.
+    IsDistinct-push triple_eq_laws (last_named insert xs) x.triple (listed_once xs insert) (absent free))
+    (subst (IsDistinct triple_eq) (sym (append-nil (last_named insert xs))) (listed_once xs insert)) where
+      absent : is_named xs x.triple ≡ false → has_triple (last_named insert xs) x.triple ≡ false
+      absent free = by_test (has_triple (last_named insert xs) x.triple) refl where
+        by_test : (b : Bool) → has_triple (last_named insert xs) x.triple ≡ b → b ≡ false
+        by_test true e = absurd (true_is_false _ (named_if_word xs x.triple insert (word_of_listed insert x.triple xs ((has_triple_decides (last_named insert xs) x.triple).0 e))) free)
+        by_test false e = refl
+
+-- without repeats
+named_so : (insert : Bool) (t : Triple) (named : List Named) → Contains (last_named insert named) t → Contains named (naming t insert)
+named_so insert t [] h = absurd (contains_none t h)
+named_so insert t (x ∷ xs) h = elim (Contains-append_cases (last_named insert xs) (if_last insert x xs) t h) [
+  | inl before ↦ contains_there x xs (naming t insert) (named_so insert t xs before)
+  | inr here ↦ if_last-cases insert x xs (λ ts. Contains ts t → Contains (x ∷ xs) (naming t insert)) (λ word free h.
+      elim (contains_cases x.triple [] t h) [
+        | inl same ↦ subst (λ (y : Named). Contains (x ∷ xs) y) (is_naming x t insert same (same_word insert x word)) (contains_here x xs)
+        | inr none ↦ absurd (contains_none t none)
+      ]) (λ h. absurd (contains_none t h)) here
+] where
+  is_naming : (x : Named) (t : Triple) (insert : Bool) → x.triple ≡ t → x.insert ≡ insert → x ≡ naming t insert
+  is_naming x t insert a b = ap (λ u. naming u x.insert) a ∙ ap (naming t) b
+
+unnamed : (t : Triple) (xs : List Named) → AllByRecursion (λ (y : Named). triple_eq t y.triple ≡ false) xs → is_named xs t ≡ false
+unnamed t [] h = refl
+unnamed t (y ∷ ys) h = ap (λ b. b || is_named ys t) h.0 ∙ unnamed t ys h.1
+
+listed_so : (insert : Bool) (t : Triple) (named : List Named) → IsDistinct (λ (x y : Named). triple_eq x.triple y.triple) named
+    → Contains named (naming t insert) → Contains (last_named insert named) t
+listed_so insert t [] distinct h = absurd (contains_none (naming t insert) h)
+listed_so insert t (x ∷ xs) distinct h = elim (contains_cases x xs (naming t insert) h) [
+  | inl same ↦
+      let triple : x.triple ≡ t = ap (λ (y : Named). y.triple) same in
+      let listed = listed_last insert x xs (word_of insert x (ap (λ (y : Named). y.insert) same))
+      (unnamed x.triple xs (IsDistinct-head (λ (a b : Named). triple_eq a.triple b.triple) x xs distinct)) in
+      Contains-append_right (last_named insert xs) (if_last insert x xs) t
+      (subst (λ (ts : List Triple). Contains ts t) (sym listed) (subst (λ (u : Triple). Contains (x.triple ∷ []) u) triple (contains_here x.triple [])))
+  | inr there ↦ Contains-append_left (last_named insert xs) (if_last insert x xs) t
+      (listed_so insert t xs (IsDistinct-tail (λ (a b : Named). triple_eq a.triple b.triple) x xs distinct) there)
+]
+
+pub without_repeats : WithoutRepeats
+without_repeats named insert t distinct = (named_so insert t named, listed_so insert t named distinct)
+
+-- the patterns of triples have no variables
+no_variable : (ts : List Triple) (name : List ℕ) (pattern : Pattern) → Contains (map pattern_of ts) pattern → HasVariable pattern name → ⊥
+no_variable [] name pattern h v = contains_none pattern h
+no_variable (t ∷ ts) name pattern h v = elim (contains_cases (pattern_of t) (map pattern_of ts) pattern h) [
+  | inl same ↦ fixed t name (subst (λ (p : Pattern). HasVariable p name) (sym same) v)
+  | inr there ↦ no_variable ts name pattern there v
+] where
+  fixed : (t : Triple) (name : List ℕ) → HasVariable (pattern_of t) name → ⊥
+  fixed t name v = elim v [
+    | inl s ↦ cc
+    | inr v ↦ elim v [ inl p ↦ cc | inr o ↦ cc ]
+  ]
+
+pub spelled_bound : (g : List Triple) (named : List Named) (patch : Patch) → IsSpelledAt g named patch → IsBound patch
+spelled_bound g named patch h name v = elim v [
+  | inl (pattern, has, variable) ↦ absurd (no_variable (filter (has_triple g) (last_named false named)) name pattern (subst (λ (ps : List Pattern). Contains ps pattern) h.deletions has) variable)
+  | inr (pattern, has, variable) ↦ absurd (no_variable (last_named true named) name pattern (subst (λ (ps : List Pattern). Contains ps pattern) h.insertions has) variable)
+]

@@ -1,0 +1,31 @@
+-- What follows from the definitions. Each law is the contract of a function of `laws`.
+use Rattle.std.specs.Prelude.{◌≡◌, ◌↔◌, Bool, false, List, Some, Contains}
+use Rattle.std.specs.List.{IsDistinct, filter}
+use Rattle.rdf_graph.specs.declared.triple.Triple.{Triple}
+use Rattle.sparql_patch.specs.declared.named.Named.{Named}
+use Rattle.sparql_patch.specs.NamedUpdate.{triple_eq, has_triple, last_named, last_word}
+
+-- A triple is listed under a word exactly where its last naming is with that word.
+abbrev pub LastNamingDecides : Type 0
+LastNamingDecides = (named : List Named) (insert : Bool) (t : Triple)
+    → Contains (last_named insert named) t ↔ (last_word named t ≡ Some insert)
+
+-- Of these the deletions are those in the graph.
+abbrev pub DeletionsAreInGraph : Type 0
+DeletionsAreInGraph = (g : List Triple) (named : List Named) (t : Triple)
+    → Contains (filter (has_triple g) (last_named false named)) t
+    ↔ (Contains g t × (last_word named t ≡ Some false))
+
+-- No triple is listed twice.
+abbrev pub EachIsListedOnce : Type 0
+EachIsListedOnce = (named : List Named) (insert : Bool) → IsDistinct triple_eq (last_named insert named)
+
+-- the naming of a triple with a word
+abbrev pub naming : Triple → Bool → Named
+naming t insert = record { triple = t; insert = insert }
+
+-- Where no triple is named twice, the listed ones are those that are named with the word.
+abbrev pub WithoutRepeats : Type 0
+WithoutRepeats = (named : List Named) (insert : Bool) (t : Triple)
+    → IsDistinct (λ (x y : Named). triple_eq x.triple y.triple) named
+    → Contains (last_named insert named) t ↔ Contains named (naming t insert)

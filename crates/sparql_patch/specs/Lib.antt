@@ -1,0 +1,4 @@
+pub mod NamedUpdate
+pub mod Laws
+-- internal: cited by private clauses alone
+pub mod Progress
