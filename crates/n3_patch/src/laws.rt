@@ -1,0 +1,17 @@
+//! Laws of patch documents, for the proofs of what stands on them.
+//!
+//! Each is the contract of a function that does nothing.
+
+ghost use Rattle.n3_patch.specs.Laws.{HasOnePatch, HasOneRule, PatchBreaksNone, HasOneSpelledPatch};
+
+/// Triples have at most one patch, or at most one rule that they break first.
+pub fn one_judgement()
+    ensures patch { HasOnePatch }
+    ensures rule { HasOneRule }
+    ensures either { PatchBreaksNone }
+{}
+
+/// A text spells at most one patch.
+pub fn one_spelled_patch()
+    ensures { HasOneSpelledPatch }
+{}

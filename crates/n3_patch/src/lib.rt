@@ -1,0 +1,39 @@
+//! N3 Patch (Solid Protocol, section 5.3.1): the patch that a text spells.
+//!
+//! ```text
+//! match read(alloc, &base, b"_:p a <http://www.w3.org/ns/solid/terms#InsertDeletePatch> .") {
+//!     Ok(patch) => .., // conditions, deletions and insertions
+//!     Err(N3Fault::Constraint(rule)) => .., // the first rule that the document breaks
+//!     Err(fault) => ..,
+//! }
+//! ```
+//!
+//! Proved: [`read`] returns the patch that the text spells (`PatchSpells` of `specs/Spells.antt`, clause
+//! `spells`), else the first fault of syntax, else the first broken rule, and `TooLarge` last (clause
+//! `fault`, `IsN3Fault` of `specs/Faults.antt`). [`judge`] does the same over triples (clauses `patch`,
+//! `fault`; `specs/Parts.antt`, `specs/Rules.antt`, `specs/Size.antt`). Each part is a set, in the order
+//! in which its patterns stand. What both return meets what `rdf_graph::instantiate` requires (clause
+//! `bound`). [`laws`] has what follows from the definitions.
+//!
+//! It depends on `turtle_reader` for what the tokens of a document mean, on `turtle_labels` for its
+//! unnamed nodes, and on `rdf_graph` for terms and patches.
+#![tactic(auto)]
+
+mod document;
+mod fault;
+mod judging;
+pub mod laws;
+mod made;
+mod patterns;
+mod reading;
+mod rules;
+mod size;
+mod triples;
+mod unnamed;
+mod vocabulary;
+
+pub use fault::{CONDITIONS_LIMIT, Judgement, N3Fault, PatchRule};
+pub use judging::judge;
+pub use reading::read;
+pub use triples::{PatchNode, PatchTriple};
+pub use vocabulary::{Part, SOLID_DELETES, SOLID_INSERT_DELETE_PATCH, SOLID_INSERTS, SOLID_WHERE};

@@ -1,0 +1,138 @@
+//! The triples of a patch document.
+
+ghost use Rattle.std.specs.Prelude.{◌≡◌, IfOk};
+ghost use Rattle.n3_patch.specs.Nodes.{node_eq, is_iri, is_iri_term, is_formula, is_blank};
+ghost use Rattle.n3_patch.specs.Nodes.{is_blank_term, slot_of, pattern_from, pattern_of};
+ghost use Rattle.n3_patch.specs.Parts.{is_inside, is_outside};
+
+use pod_base::{Mem, Text};
+use rdf_graph::{Pattern, Slot, Term};
+use std::alloc::Global;
+
+/// A node of a triple.
+#[derive(Debug, Drop)]
+pub enum PatchNode {
+    Term(Term),
+    /// The variable of this name.
+    Variable(Text),
+    /// The formula that the symbol of this index opens.
+    Formula(usize),
+}
+
+/// A triple of a patch document.
+#[derive(Debug, Drop)]
+pub struct PatchTriple {
+    pub subject: PatchNode,
+    pub predicate: PatchNode,
+    pub object: PatchNode,
+    /// The formula that it is part of, by the index of its `{`.
+    pub formula: Option<usize>,
+}
+
+fn is_iri_term(term: &Term, iri: &str) -> bool
+    ensures { result ≡ is_iri_term iri.now term.now }
+{
+    match term {
+        Term::Iri(other) => other.as_str() == iri,
+        _ => false,
+    }
+}
+
+fn is_blank_term(term: &Term) -> bool
+    ensures { result ≡ is_blank_term term.now }
+{
+    matches!(term, Term::Blank(_))
+}
+
+impl PatchNode {
+    /// Whether it is this IRI.
+    pub(crate) fn is_iri(&self, iri: &str) -> bool
+        ensures { result ≡ is_iri iri.now self.now }
+    {
+        match self {
+            PatchNode::Term(term) => is_iri_term(term, iri),
+            _ => false,
+        }
+    }
+
+    pub(crate) fn is_formula(&self) -> bool
+        ensures { result ≡ is_formula self.now }
+    {
+        matches!(self, PatchNode::Formula(_))
+    }
+
+    pub(crate) fn is_blank(&self) -> bool
+        ensures { result ≡ is_blank self.now }
+    {
+        match self {
+            PatchNode::Term(term) => is_blank_term(term),
+            _ => false,
+        }
+    }
+
+    /// Whether it is the same node.
+    pub(crate) fn is(&self, other: &PatchNode) -> bool
+        ensures { result ≡ node_eq self.now other.now }
+    {
+        match self {
+            PatchNode::Term(term) => match other {
+                PatchNode::Term(other) => term == other,
+                _ => false,
+            },
+            PatchNode::Variable(name) => match other {
+                PatchNode::Variable(other) => name.as_str() == other.as_str(),
+                _ => false,
+            },
+            PatchNode::Formula(index) => match other {
+                PatchNode::Formula(other) => *index == *other,
+                _ => false,
+            },
+        }
+    }
+
+    fn slot(&self, alloc: Global) -> Mem<Option<Slot>>
+        ensures { IfOk result (λ slot. slot ≡ slot_of self.now) }
+    {
+        match self {
+            PatchNode::Term(term) => Ok(Some(Slot::Fixed(term.copy(alloc)?))),
+            PatchNode::Variable(name) => Ok(Some(Slot::Var(name.copy(alloc)?))),
+            PatchNode::Formula(_) => Ok(None),
+        }
+    }
+}
+
+/// The pattern of these slots.
+fn pattern_from(s: Option<Slot>, p: Option<Slot>, o: Option<Slot>) -> Option<Pattern>
+    ensures { result ≡ pattern_from s p o }
+{
+    match (s, p, o) {
+        (Some(s), Some(p), Some(o)) => Some(Pattern { s, p, o }),
+        _ => None,
+    }
+}
+
+impl PatchTriple {
+    /// Whether it stands in a formula.
+    pub(crate) fn is_inside(&self) -> bool
+        ensures { result ≡ is_inside self.now }
+    {
+        self.formula.is_some()
+    }
+
+    /// Whether it stands outside formulas.
+    pub(crate) fn is_outside(&self) -> bool
+        ensures { result ≡ is_outside self.now }
+    {
+        !self.is_inside()
+    }
+
+    /// Its pattern, if no node is a formula.
+    pub(crate) fn pattern(&self, alloc: Global) -> Mem<Option<Pattern>>
+        ensures { IfOk result (λ pattern. pattern ≡ pattern_of self.now) }
+    {
+        let s = self.subject.slot(alloc)?;
+        let p = self.predicate.slot(alloc)?;
+        let o = self.object.slot(alloc)?;
+        Ok(pattern_from(s, p, o))
+    }
+}
