@@ -1,0 +1,2 @@
+-- the two lines, and their words
+pub mod Lines

@@ -1,0 +1,18 @@
+//! How much memory a line takes. Nothing rests on these numbers: a line grows where it has to.
+
+use itoa::Buffer;
+
+/// How many digits a number has.
+pub(crate) fn number_len(number: u64) -> usize {
+    let mut digits = Buffer::new();
+    digits.format(number).len()
+}
+
+/// The sum of these lengths, at most that of a `usize`.
+pub(crate) fn total(lengths: &[usize]) -> usize {
+    let mut sum = 0usize;
+    for length in lengths {
+        sum = sum.saturating_add(*length);
+    }
+    sum
+}
