@@ -64,47 +64,13 @@ impl Pair {
             (D.faults second.old) (D.faults second.new)) }
     {
         match choose_disk(first, second) {
-            Ok(choice) => open_choice(alloc, choice, first, second),
+            Ok(choice) => match choice {
+                Choice::Take { side, epoch } => open_on(alloc, side, epoch, first, second),
+                Choice::Damaged { side, at } => Err(OpenFault::Damaged { side, at }),
+                Choice::Empty => Err(OpenFault::Empty),
+            },
             Err(_fault) => Err(OpenFault::DiskFault),
         }
-    }
-}
-
-// Opens what was chosen by the classes of the disks.
-fn open_choice<D: Disk>(
-    alloc: Global,
-    choice: Choice,
-    first: &mut D,
-    second: &mut D,
-) -> Result<(Pair, List<Bytes>), OpenFault>
-    requires { IsChosenBy (D.content first.old) (D.content second.old)
-        (D.image first.old) (D.image second.old) choice }
-    ensures first { LeavesOnly D.moment D.left_since first.old first.new
-        (IsWhileOpened (D.image first.old)) }
-    ensures second { LeavesOnly D.moment D.left_since second.old second.new
-        (IsWhileOpened (D.image second.old)) }
-    ensures one { (side : Side)
-        × (other_of side first.new second.new ≡ other_of side first.old second.old) }
-    ensures other { IfOk result (λ opened. other_of opened.0.active first.new second.new
-        ≡ other_of opened.0.active first.old second.old) }
-    ensures clean { IfOk result
-        (λ opened. IsPairClean D.image first.new second.new opened.0 opened.1.items) }
-    ensures passed { IfOk result
-        (λ opened. IsPassedBeside D.image first.new second.new opened.0) }
-    ensures records { IfOk result
-        (λ opened. IfBothVisible (D.content first.old) (D.content second.old)
-        (StoreStands opened.0.active opened.0.journal.format opened.0.journal.epoch
-        opened.1.items)) }
-    ensures no_fewer_first { D.faults first.old ≤ D.faults first.new }
-    ensures no_fewer_second { D.faults second.old ≤ D.faults second.new }
-    ensures cause { IfErr result (HasStoreCause (D.content first.old) (D.content second.old)
-        (D.faults first.old) (D.faults first.new)
-        (D.faults second.old) (D.faults second.new)) }
-{
-    match choice {
-        Choice::Take { side, epoch } => open_on(alloc, side, epoch, first, second),
-        Choice::Damaged { side, at } => Err(OpenFault::Damaged { side, at }),
-        Choice::Empty => Err(OpenFault::Empty),
     }
 }
 
