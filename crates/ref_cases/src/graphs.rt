@@ -3,6 +3,7 @@
 //! e.example), `_` for a label, `"` for an integer, `'` for a plain string and `?` for a variable. Any other
 //! word is a text in English.
 
+use crate::patches;
 use case_lines::{shown_whole, text};
 use iri_ref::{Iri, IriFault};
 use pod_base::{List, Mem, NoMemory, Text};
@@ -69,7 +70,8 @@ fn slot(alloc: Global, word: &str) -> Mem<Slot> {
     }
 }
 
-fn patterns(alloc: Global, field: &str) -> Mem<List<Pattern>> {
+/// The patterns of a field.
+pub(crate) fn patterns(alloc: Global, field: &str) -> Mem<List<Pattern>> {
     let mut patterns = Vec::new(alloc);
     for row in field.split(';') {
         let mut words = row.split(' ');
@@ -85,7 +87,7 @@ fn patterns(alloc: Global, field: &str) -> Mem<List<Pattern>> {
 }
 
 /// The graph of a field, without what is no triple of RDF.
-fn graph(alloc: Global, field: &str) -> Mem<Graph> {
+pub(crate) fn graph(alloc: Global, field: &str) -> Mem<Graph> {
     let mut graph = Graph::new(alloc);
     for row in field.split(';') {
         let mut words = row.split(' ');
@@ -104,7 +106,7 @@ fn graph(alloc: Global, field: &str) -> Mem<Graph> {
 }
 
 /// The text of triples, as it is shown.
-fn lines(alloc: Global, triples: &[Triple]) -> Mem<String> {
+pub(crate) fn lines(alloc: Global, triples: &[Triple]) -> Mem<String> {
     let mut text = Vec::new(alloc);
     for triple in triples {
         triple.append_to(alloc, &mut text)?;
@@ -133,13 +135,18 @@ fn patched(alloc: Global, graph: &Graph, patch: &Patch) -> Mem<String> {
     }
 }
 
-fn patch(alloc: Global, old: &str, parts: [&str; 3]) -> Mem<String> {
+/// The patch of three fields: conditions, deletions and insertions.
+pub(crate) fn read_patch(alloc: Global, parts: [&str; 3]) -> Mem<Patch> {
     let [conditions, deletions, insertions] = parts;
-    let patch = Patch {
+    Ok(Patch {
         conditions: patterns(alloc, conditions)?,
         deletions: patterns(alloc, deletions)?,
         insertions: patterns(alloc, insertions)?,
-    };
+    })
+}
+
+fn patch(alloc: Global, old: &str, parts: [&str; 3]) -> Mem<String> {
+    let patch = read_patch(alloc, parts)?;
     patched(alloc, &graph(alloc, old)?, &patch)
 }
 
@@ -176,6 +183,32 @@ fn matching(alloc: Global, old: &str, words: [&str; 3]) -> Mem<String> {
     lines(alloc, found.as_slice())
 }
 
+/// The triples that a walk gives.
+fn walk(alloc: Global, old: &str, words: [&str; 3]) -> Mem<String> {
+    let [s, p, o] = words;
+    let (s, p, o) = (wanted(alloc, s)?, wanted(alloc, p)?, wanted(alloc, o)?);
+    let graph = graph(alloc, old)?;
+    let mut text = Vec::new(alloc);
+    for triple in graph.walk(s.as_ref(), p.as_ref(), o.as_ref()) {
+        triple.append_to(alloc, &mut text)?;
+    }
+    Ok(shown_whole(alloc, text.as_slice())?)
+}
+
+/// The list of a graph: how many triples it has, and which.
+fn list(alloc: Global, old: &str) -> Mem<String> {
+    let list = graph(alloc, old)?.into_list();
+    let lines = lines(alloc, list.as_slice())?;
+    Ok(format!(in alloc; "{} [{lines}]", list.len())?)
+}
+
+/// The graph of the list of a graph.
+fn in_order(alloc: Global, old: &str) -> Mem<String> {
+    let graph = Graph::in_order(graph(alloc, old)?.into_list());
+    let lines = lines(alloc, graph.as_slice())?;
+    Ok(format!(in alloc; "{} [{lines}]", graph.len())?)
+}
+
 fn has_iris(alloc: Global, old: &str, words: [&str; 3]) -> Mem<String> {
     let [s, p, o] = words;
     let graph = graph(alloc, old)?;
@@ -199,8 +232,11 @@ fn call(alloc: Global, case: &[&str]) -> Mem<String> {
         ["solutions", old, conditions, name] => solve(alloc, old, conditions, name),
         ["matching", old, s, p, o] => matching(alloc, old, [s, p, o]),
         ["has_iris", old, s, p, o] => has_iris(alloc, old, [s, p, o]),
+        ["walk", old, s, p, o] => walk(alloc, old, [s, p, o]),
+        ["into_list", only] => list(alloc, only),
+        ["in_order", only] => in_order(alloc, only),
         ["cmp", one, other] => compare(alloc, one, other),
-        _ => Ok(String::from_str(alloc, "no case")?),
+        _ => patches::call(alloc, case),
     }
 }
 

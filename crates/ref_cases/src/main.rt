@@ -3,6 +3,7 @@
 #![tactic(auto)]
 
 mod graphs;
+mod patches;
 mod paths;
 mod references;
 mod tokens;
