@@ -13,13 +13,20 @@
 //! | `needs-read` FIELD.. | whether the preconditions need a reader |
 //! | `ranges` VALUE SIZE | the parts of a body |
 //! | `multipart` TYPE BODY VALUE | the boundary and the text of a response with several parts |
+//! | `stem` SLUG, or nothing | the stem of a slug, or without one |
+//! | `name` CONTAINER SLUG KIND ROW.. | the path of a new member, where KIND is `folder` for a container |
+//! | `unnamed` CONTAINER KIND ROW.. | that without a slug |
+//! | `tokens` TABLE | whether a text is a token table |
+//! | `agent` TABLE FIELD.. | who makes a request |
 //! | `upgrade` KEY | the key that accepts an upgrade |
 #![tactic(auto)]
 
 mod accepts;
 mod lists;
+mod names;
 mod preconditions;
 mod ranges;
+mod tokens;
 mod upgrades;
 
 use std::alloc::{AllocError, Global};
@@ -39,6 +46,16 @@ fn answer(alloc: Global, fields: &[&str]) -> Result<String, AllocError> {
         ["needs-read", lines @ ..] => preconditions::needs_read(alloc, lines),
         ["ranges", value, size] => ranges::answer(alloc, value, size),
         ["multipart", ctype, body, value] => ranges::text(alloc, ctype, body, value),
+        ["stem"] => names::item(alloc),
+        ["stem", slug] => names::stem_answer(alloc, slug),
+        ["name", container, slug, kind, rows @ ..] => {
+            names::for_slug(alloc, container, slug, kind, rows)
+        }
+        ["unnamed", container, kind, rows @ ..] => {
+            names::answer(alloc, container, None, kind, rows)
+        }
+        ["tokens", table] => tokens::table(alloc, table),
+        ["agent", table, lines @ ..] => tokens::agent(alloc, table, lines),
         ["upgrade", key] => upgrades::answer(alloc, key),
         _ => String::from_str(alloc, "no case"),
     }

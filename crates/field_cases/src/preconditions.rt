@@ -63,7 +63,7 @@ fn value_of(alloc: Global, text: &str) -> Result<Vec<u8>, AllocError> {
 }
 
 /// Appends the field that `name: value` is.
-fn add_field(alloc: Global, fields: &mut Fields, line: &str) -> Mem<()> {
+pub(crate) fn add_field(alloc: Global, fields: &mut Fields, line: &str) -> Mem<()> {
     let (name, value) = line.split_once(": ").unwrap_or((line, ""));
     let value = value_of(alloc, value)?;
     let name = Text::of(alloc, name)?;
