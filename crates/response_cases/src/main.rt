@@ -1,0 +1,51 @@
+//! Cases of the responses of a pod. It reads one case from each line of standard input, and prints
+//! the line with what the libraries answer as one more field. `stdin` has the cases, and `stdout`
+//! what is expected of them, worked out by hand from the table of response fields and RFC 9110.
+//!
+//! The base is `https://pod.example/`, and every response was made at the moment 784,111,777. A
+//! response is its status, its fields, each after `|`, and its body after `||`.
+//!
+//! | Fields | Answer |
+//! |---|---|
+//! | `date` SECOND | the date of a moment |
+//! | `allowed` METHOD PATH | whether the path takes the method |
+//! | `shown` PATH TYPE, and `ranges` where parts may be asked for | the response to a read |
+//! | `part` PATH TYPE RANGE | the response to a read of a part |
+//! | `parts` PATH TYPE | the response to a read of several parts |
+//! | `created` TARGET PATH | the response to a request that made a resource |
+//! | `changed` | the response to another change |
+//! | `options` PATH | what a path, or the server (`*`), takes |
+//! | `not-modified` | the response where the client has the representation |
+//! | `upgraded` ACCEPT | the response to an upgrade |
+//! | `refusal` STATUS WORD, `unauthorized` WORD, `not-allowed` PATH, `unsupported` METHOD PATH, `unsatisfiable` SIZE | a refusal |
+#![tactic(auto)]
+
+mod made;
+mod print;
+mod read;
+mod refused;
+
+use std::alloc::{AllocError, Global};
+use std::io;
+
+/// What the library answers to the fields of a case.
+fn answer(alloc: Global, fields: &[&str]) -> Result<String, AllocError> {
+    match fields {
+        ["date", second] => read::date(alloc, second),
+        ["allowed", method, path] => made::allowed(alloc, method, path),
+        ["shown", path, ctype] => read::shown_at(alloc, path, ctype, false),
+        ["shown", path, ctype, "ranges"] => read::shown_at(alloc, path, ctype, true),
+        ["part", path, ctype, range] => read::part(alloc, path, ctype, Some(range)),
+        ["parts", path, ctype] => read::part(alloc, path, ctype, None),
+        ["created", target, path] => made::created_at(alloc, target, path),
+        ["changed"] => made::other(alloc),
+        ["options", path] => made::options_at(alloc, path),
+        ["not-modified"] => read::same(alloc),
+        ["upgraded", accept] => read::opened(alloc, accept),
+        _ => refused::answer(alloc, fields),
+    }
+}
+
+fn main(rt: HostRuntime) -> io::Result<()> {
+    case_lines::run(&rt, answer)
+}
