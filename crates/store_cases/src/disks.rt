@@ -1,6 +1,7 @@
 //! Calls of a disk in memory, and what a crash leaves of it. A call is a field: `len`, `read AT
 //! COUNT`, `write AT BYTES`, `cut LEN` or `sync`.
 
+use crate::images::first_word;
 use crate::number;
 use crate::tears::tears;
 use case_lines::{bytes, shown};
@@ -8,11 +9,6 @@ use pod_base::Mem;
 use pod_disk::{Call, Disk, MemDisk};
 use pod_io::Failed;
 use std::alloc::Global;
-
-/// The first word of a field, and what follows it.
-fn first_word(field: &str) -> (&str, &str) {
-    field.split_once(' ').unwrap_or((field, ""))
-}
 
 fn read(disk: &mut MemDisk, at: u64, into: &mut [u8]) -> Result<(), Failed> {
     let len = disk.bytes().len();
@@ -112,6 +108,24 @@ pub(crate) fn crash(alloc: Global, disk: &MemDisk, count: u64, field: &str) -> M
     }
     let left = disk.crash(alloc, count as usize, &tears(alloc, field)?)?;
     Ok(shown(alloc, left.as_slice())?)
+}
+
+/// Whether a disk has noted as many calls as a crash is after: `COUNT`, or `COUNT TEARS`.
+pub(crate) fn is_noted(disk: &MemDisk, field: &str) -> bool {
+    let (count, _tears) = first_word(field);
+    number(count) <= disk.noted().len() as u64
+}
+
+/// What a crash leaves of a disk after so many calls, with these tears, or for `-` what it holds.
+pub(crate) fn crash_image(alloc: Global, disk: &MemDisk, field: &str) -> Mem<Vec<u8>> {
+    let (count, torn) = first_word(field);
+    match count.parse::<usize>() {
+        Ok(count) => {
+            let count = count.min(disk.noted().len());
+            disk.crash(alloc, count, &tears(alloc, torn)?)
+        }
+        Err(_) => Ok(disk.bytes().to_vec(alloc)?),
+    }
 }
 
 fn letter(call: &Call) -> char {

@@ -1,0 +1,8 @@
+use Rattle.std.proofs.Common.{inl, sym, ◌∙◌}
+use Rattle.store_cases.proofs.KnownPairs.{doubt_of}
+use Rattle.store_cases.proofs.store.Store.repair.Goals as goal
+
+pub invariant_of-self : goal.invariant_of-self
+invariant_of-self c =
+    let doubt = doubt_of c.self.inside.first c.self.inside.second c.self.inside.pair (sym c.needs_repair.ensures ∙ c.if-not-needs_repair.false) c.self.invariant in
+    inl (doubt.0, c.in-Ok.ensures.repaired doubt.0 doubt.1 doubt.2)
