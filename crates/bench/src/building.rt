@@ -2,11 +2,11 @@
 ghost use Rattle.std.specs.Prelude.{All, IfOk};
 ghost use Rattle.rdf_graph.specs.Triple.{IsRdf};
 
+use crate::used::used_micros;
 use iri_ref::Iri;
 use pod_base::List;
 use rdf_graph::{Graph, Term, Triple};
 use std::alloc::Global;
-use std::time::Instant;
 
 /// The triple of these IRIs.
 pub fn make_triple(alloc: Global, s: &str, p: &str, o: &str) -> anyhow::Result<Triple>
@@ -60,13 +60,14 @@ pub fn build_graph(
 ) -> anyhow::Result<()> {
     let triples = make_triples(alloc, count)?;
     let wanted = make_triples(alloc, count)?;
-    let start = Instant::now(rt)?;
+    let start = used_micros(rt)?;
     let graph = Graph::of(triples);
-    let built = start.elapsed(rt)?.as_micros();
+    let built = used_micros(rt)?;
     let found = count_found(&graph, wanted.as_slice());
-    let searched = start.elapsed(rt)?.as_micros().saturating_sub(built);
+    let searched = used_micros(rt)?.saturating_sub(built);
     println!(rt; "{} triples, {found} found", graph.len())?;
     if times {
+        let built = built.saturating_sub(start);
         println!(rt; "built in {built} microseconds, searched in {searched}")?;
     }
     Ok(())

@@ -1,8 +1,8 @@
 //! The figure `codec`: a snapshot is decoded, and encoded again.
+use crate::used::{forget_peak, memory, peak_memory, used_micros};
 use anyhow::bail;
 use pod_command::{decode_snapshot, encode_snapshot};
 use std::alloc::Global;
-use std::time::Instant;
 
 /// Appends a number.
 fn push_number(form: &mut Vec<u8>, number: usize) -> anyhow::Result<()> {
@@ -75,35 +75,59 @@ fn rows_of_graphs(alloc: Global, rows: usize) -> anyhow::Result<Vec<u8>> {
     Ok(form)
 }
 
+/// Decodes the form of a snapshot, and prints how much memory the snapshot takes, and how much was
+/// taken at most while it was decoded.
+fn weigh(rt: &HostRuntime, alloc: Global, form: &[u8]) -> anyhow::Result<()> {
+    forget_peak(rt)?;
+    let before = memory(rt)?;
+    let snapshot = decode_snapshot(alloc, form)?;
+    let most = peak_memory(rt)?.saturating_sub(before);
+    let kept = memory(rt)?.saturating_sub(before);
+    println!(rt;
+        "{} rows take {kept} KiB, decoding took at most {most} KiB",
+        snapshot.rows.len()
+    )?;
+    Ok(())
+}
+
 /// Decodes the form of a snapshot, encodes what was decoded, and prints how many rows and bytes
 /// they are, and the times if asked.
 fn code(rt: &HostRuntime, alloc: Global, form: &[u8], times: bool) -> anyhow::Result<()> {
-    let start = Instant::now(rt)?;
+    let start = used_micros(rt)?;
     let snapshot = decode_snapshot(alloc, form)?;
-    let decoded = start.elapsed(rt)?.as_micros();
-    let start = Instant::now(rt)?;
+    let decoded = used_micros(rt)?;
     let encoded = encode_snapshot(alloc, &snapshot)?;
-    let again = start.elapsed(rt)?.as_micros();
+    let again = used_micros(rt)?.saturating_sub(decoded);
     if encoded.as_slice() != form {
         bail!("encoded to other bytes");
     }
     println!(rt; "{} rows in {} bytes", snapshot.rows.len(), form.len())?;
     if times {
+        let decoded = decoded.saturating_sub(start);
         println!(rt; "decoded in {decoded} microseconds, encoded in {again}")?;
     }
     Ok(())
 }
 
-/// Decodes and encodes a snapshot of so many rows of 300 bytes, and one of a tenth as many graphs of
-/// 50 triples.
+/// Decodes and encodes the form of a snapshot, and prints what memory and time it took, if asked.
+fn measure(rt: &HostRuntime, alloc: Global, form: &[u8], costs: bool) -> anyhow::Result<()> {
+    if costs {
+        weigh(rt, alloc, form)?;
+    }
+    code(rt, alloc, form, costs)
+}
+
+/// Decodes and encodes a snapshot of so many rows of 300 bytes, and one of so many graphs of 50
+/// triples.
 pub fn code_snapshots(
     rt: &HostRuntime,
     alloc: Global,
     rows: usize,
-    times: bool,
+    graphs: usize,
+    costs: bool,
 ) -> anyhow::Result<()> {
     let form = rows_of_bytes(alloc, rows)?;
-    code(rt, alloc, form.as_slice(), times)?;
-    let form = rows_of_graphs(alloc, rows / 10)?;
-    code(rt, alloc, form.as_slice(), times)
+    measure(rt, alloc, form.as_slice(), costs)?;
+    let form = rows_of_graphs(alloc, graphs)?;
+    measure(rt, alloc, form.as_slice(), costs)
 }

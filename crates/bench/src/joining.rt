@@ -4,11 +4,11 @@ ghost use Rattle.std.specs.Prelude.{All, IfOk};
 ghost use Rattle.rdf_graph.specs.Triple.{IsRdf};
 
 use crate::building::make_triple;
+use crate::used::used_micros;
 use iri_ref::Iri;
 use pod_base::{List, Text};
 use rdf_graph::{Found, Graph, Pattern, Slot, Term, Triple, solutions};
 use std::alloc::Global;
-use std::time::Instant;
 
 const FIRST: &str = "http://e.example/p";
 
@@ -66,9 +66,9 @@ pub fn join_conditions(
 ) -> anyhow::Result<()> {
     let graph = Graph::of(make_halves(alloc, count)?);
     let conditions = make_conditions(alloc)?;
-    let start = Instant::now(rt)?;
+    let start = used_micros(rt)?;
     let found = solutions(alloc, &graph, &conditions)?;
-    let took = start.elapsed(rt)?.as_micros();
+    let took = used_micros(rt)?.saturating_sub(start);
     let matches = match found {
         Found::Nothing => "no match",
         Found::One(_) => "one match",

@@ -6,16 +6,23 @@
 
 mod building;
 mod coding;
+mod deciding;
+mod fielding;
 mod joining;
+mod jsonld;
 mod opening;
 mod reading;
 mod serving;
+mod used;
 mod writing;
 
 use anyhow::bail;
 use building::build_graph;
 use coding::code_snapshots;
+use deciding::decide_access;
+use fielding::read_fields;
 use joining::join_conditions;
+use jsonld::exchange_graph;
 use opening::open_journal;
 use reading::{Looks, read_versions};
 use serving::serve_stream;
@@ -31,8 +38,9 @@ fn number(rt: &HostRuntime, place: usize, other: usize) -> anyhow::Result<usize>
 
 /// Runs the figures of graphs and their forms with small counts.
 fn run_small_graphs(rt: &HostRuntime, alloc: Global) -> anyhow::Result<()> {
+    decide_access(rt, alloc, 4, 1_000, false)?;
     build_graph(rt, alloc, 1_000, false)?;
-    code_snapshots(rt, alloc, 100, false)?;
+    code_snapshots(rt, alloc, 100, 10, false)?;
     join_conditions(rt, alloc, 1_000, false)
 }
 
@@ -41,7 +49,12 @@ fn run_small(rt: &HostRuntime, alloc: Global) -> anyhow::Result<()> {
     run_small_graphs(rt, alloc)?;
     open_journal(rt, alloc, false)?;
     serve_stream(rt, alloc, 100, 1, false)?;
-    write_graph(rt, alloc, 1_000, false)
+    write_graph(rt, alloc, 1_000, false)?;
+    exchange_graph(rt, alloc, 1_000, false)?;
+    for kind in 0..3 {
+        read_fields(rt, alloc, 1, kind)?;
+    }
+    Ok(())
 }
 
 /// Prints how many looks gave a version, and the rates if asked.
@@ -69,9 +82,12 @@ fn main(rt: HostRuntime) -> anyhow::Result<()> {
     };
     let first = number(&rt, 2, 0)?;
     match word.as_str() {
-        "codec" => code_snapshots(&rt, alloc, first, true),
+        "access" => decide_access(&rt, alloc, first, number(&rt, 3, 1)?, true),
+        "codec" => code_snapshots(&rt, alloc, first, number(&rt, 3, 0)?, true),
+        "fields" => read_fields(&rt, alloc, first, number(&rt, 3, 0)?),
         "graph" => build_graph(&rt, alloc, first, true),
         "join" => join_conditions(&rt, alloc, first, true),
+        "jsonld" => exchange_graph(&rt, alloc, first, true),
         "journal" => open_journal(&rt, alloc, true),
         "pipe" => serve_stream(&rt, alloc, first, number(&rt, 3, 1)?, true),
         "turtle" => write_graph(&rt, alloc, first, true),
