@@ -97,3 +97,25 @@ pub(crate) fn language(alloc: Global, field: &str) -> Result<String, AllocError>
         _ => String::from_str(alloc, "no token"),
     }
 }
+
+fn name(alloc: Global, bytes: &[u8], token: &Token) -> Mem<String>
+    requires { IsTokenOf bytes.now token.now }
+{
+    if token.kind != TokenKind::Variable {
+        return Ok(String::from_str(alloc, "no variable")?);
+    }
+    let name = turtle_terms::variable(alloc, bytes, token)?;
+    Ok(shown(alloc, name.as_str().as_bytes())?)
+}
+
+/// The name of the variable that is the first token of a text.
+pub(crate) fn variable(alloc: Global, field: &str) -> Result<String, AllocError> {
+    let text = bytes(alloc, field)?;
+    match next_token(text.as_slice(), 0) {
+        Ok(Some(token)) => match name(alloc, text.as_slice(), &token) {
+            Ok(shown) => Ok(shown),
+            Err(NoMemory) => Err(AllocError),
+        },
+        _ => String::from_str(alloc, "no token"),
+    }
+}
