@@ -1,8 +1,9 @@
 //! Cases of what a request is about, by its method, its target and its agent: `-` for anybody, `!` for
 //! a token that isn't accepted, and else the agent's IRI.
 
-use crate::print::{base, method, shown};
+use crate::print::{BASE, shown};
 use case_lines::bytes;
+use case_values::{iri_of, method_of};
 use pod_base::{Bytes, Fields, Mem, NoMemory, Request, Response, Text};
 use request_target::{Target, admit};
 use std::alloc::{AllocError, Global};
@@ -12,7 +13,7 @@ use token_table::Asked;
 fn request(alloc: Global, name: &str, target: &str) -> Mem<Request> {
     let target = bytes(alloc, target)?;
     Ok(Request {
-        method: method(name),
+        method: method_of(name),
         target: Bytes::of(alloc, target.as_slice())?,
         minor: 1,
         fields: Fields::new(alloc),
@@ -25,7 +26,7 @@ fn admitted(
     request: &Request,
     asked: &Asked<'_>,
 ) -> Mem<Option<Result<Target, Response>>> {
-    match base(alloc)? {
+    match iri_of(alloc, BASE)? {
         Some(base) => Ok(Some(admit(alloc, &base, request, asked)?)),
         None => Ok(None),
     }

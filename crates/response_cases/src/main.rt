@@ -18,7 +18,11 @@
 //! | `not-modified` | the response where the client has the representation |
 //! | `upgraded` ACCEPT | the response to an upgrade |
 //! | `admit` METHOD TARGET AGENT | what a request is about, or its refusal |
-//! | `refusal` STATUS WORD, `unauthorized` WORD, `not-allowed` PATH, `unsupported` METHOD PATH, `unsatisfiable` SIZE | a refusal |
+//! | `refusal` STATUS WORD | a refusal with that status |
+//! | `unauthorized` WORD | the refusal of an agent that isn't known |
+//! | `not-allowed` PATH | the refusal of a method that the path doesn't take |
+//! | `unsupported` METHOD PATH | the refusal of a body of another type |
+//! | `unsatisfiable` SIZE | the refusal of ranges that lie outside the body |
 #![tactic(auto)]
 
 mod admitted;

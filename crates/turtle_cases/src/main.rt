@@ -14,6 +14,7 @@ fn answer(alloc: Global, fields: &[&str]) -> Result<String, AllocError> {
     match fields {
         ["term", base, prefixes, text] => meanings::term(alloc, base, prefixes, text),
         ["language", text] => meanings::language(alloc, text),
+        ["variable", text] => meanings::variable(alloc, text),
         ["unnamed", numbers, document] => unnamed::answer(alloc, numbers, document),
         ["write", triples] => written::answer(alloc, triples),
         _ => String::from_str(alloc, "no case"),

@@ -13,3 +13,5 @@ pub mod Waiting
 pub mod OneProduced
 pub mod Naming
 pub mod NamingSteps
+pub mod OneTree
+pub mod Strings

@@ -4,8 +4,26 @@ use Rattle.turtle_grammar.specs.declared.symbol.Start.{Start}
 use Rattle.turtle_grammar.specs.declared.symbol.Symbol.{Symbol}
 use Rattle.turtle_grammar.specs.declared.production.Production.{Production}
 use Rattle.turtle_grammar.specs.declared.machine.Machine.{Machine}
-use Rattle.turtle_grammar.specs.Derivations.{Derives, GoesOn, IsFault, IsShallow}
+use Rattle.turtle_grammar.specs.Derivations.{Tree, tree_symbols, Derives, GoesOn, IsFault, IsShallow}
 use Rattle.turtle_grammar.specs.Readings.{HasRead, Produces, NamesNothing}
+
+-- Different trees have different symbols.
+abbrev pub IsUnambiguous : Type 0
+IsUnambiguous = (start : Start) (these those : Tree start)
+    → tree_symbols start these ≡ tree_symbols start those → these ≡ those
+
+-- the derivation of a list of symbols has one tree
+abbrev pub HasOneTree : Type 0
+HasOneTree =
+    (start : Start) (symbols : List Symbol) (these those : List Production)
+    (a : Derives start symbols these) (b : Derives start symbols those) → a.tree ≡ b.tree
+
+-- the derivation with a tree has one list of symbols, and produces one list
+abbrev pub HasOneList : Type 0
+HasOneList =
+    (start : Start) (one other : List Symbol) (these those : List Production)
+    (a : Derives start one these) (b : Derives start other those) → a.tree ≡ b.tree
+    → (one ≡ other) × (these ≡ those)
 
 -- what a list of symbols produces is one list
 abbrev pub HasOneDerivation : Type 0

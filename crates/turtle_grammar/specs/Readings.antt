@@ -19,7 +19,7 @@ use Rattle.turtle_grammar.specs.declared.fault.TheConstants.{DEPTH_LIMIT}
 use Rattle.turtle_grammar.specs.Derivations.{Derives, GoesOn, IsFault, IsTooDeep, IsShallow}
 use Rattle.turtle_grammar.specs.Derivations.{AreAllowed, braces_from, depth_from}
 use Rattle.turtle_grammar.specs.Names.{Names, IsAmong, GoalsName}
-use Rattle.turtle_grammar.specs.Stacks.{run, at_point, with_produced}
+use Rattle.turtle_grammar.specs.Stacks.{run, at_point, with_produced, waiting_triple}
 
 -- the index of the token at which a production ends
 abbrev pub end_of : Production → ℕ
@@ -142,6 +142,15 @@ Waits waiting machine =
     (start : Start) (symbols : List Symbol) (productions : List Production)
     → HasRead start symbols productions machine
     → Produces start symbols (productions ++ waiting_productions waiting)
+
+-- the last symbol is a String, which waits for what follows it
+abbrev pub HasString : Machine → Type 0
+HasString machine =
+    (triple : SymbolicTriple) × (waiting_triple machine.engine ≡ Some triple)
+
+-- there is a triple
+abbrev pub IsTriple : Option SymbolicTriple → Type 0
+IsTriple found = (triple : SymbolicTriple) × (found ≡ Some triple)
 
 -- the fault of a list where the symbol at this index is refused
 abbrev pub fault_at : Refusal → ℕ → GrammarFault

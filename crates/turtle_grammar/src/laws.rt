@@ -5,11 +5,20 @@
 ghost use Rattle.turtle_grammar.specs.Laws.{HasOneDerivation, HasOneProduce, PrefixesGoOn};
 ghost use Rattle.turtle_grammar.specs.Laws.{HasOneFault, DerivedHasNoFault, ReadGoesOn};
 ghost use Rattle.turtle_grammar.specs.Laws.{DerivedGoesOn, ReadIsShallow, NothingNamesNothing};
+ghost use Rattle.turtle_grammar.specs.Laws.{IsUnambiguous, HasOneTree, HasOneList};
 
 /// What a list of symbols derives is one list, and so is what it produces up to its last symbol.
 pub fn one_derivation()
     ensures derived { HasOneDerivation }
     ensures produced { HasOneProduce }
+{}
+
+/// The grammar is unambiguous: a derivation has one tree, which has one list of symbols, and derives
+/// one list of productions.
+pub fn one_tree()
+    ensures grammar { IsUnambiguous }
+    ensures tree { HasOneTree }
+    ensures list { HasOneList }
 {}
 
 /// What goes on has each of its prefixes going on, and what is derived goes on at each of them.

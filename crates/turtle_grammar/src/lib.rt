@@ -15,9 +15,10 @@
 //! the tree does (`Derives` of `specs/Derivations.antt`). [`derivation`] returns that list exactly
 //! where there is one and no bracket is too deep, else the fault of the least index (clauses
 //! `answer`, `only`). [`Machine`] does the same symbol by symbol (clauses `read`, `refused`,
-//! `complete`, `unfinished`), says what a last String would add (`waits`), and which tokens can still
-//! be named (`names`). Its memory is its stack, at most a few goals for each open bracket, and what
-//! the last symbol produced. [`laws`] has what proofs of readers cite.
+//! `complete`, `unfinished`), says what a last String would add (`waits`, `string`), and which tokens
+//! can still be named (`names`). Its memory is its stack, at most a few goals for each open bracket,
+//! and what the last symbol produced. The grammar is unambiguous: no two trees have the same symbols
+//! ([`laws::one_tree`]). [`laws`] has what proofs of readers cite.
 //!
 //! It depends on `turtle_lex` for the kinds of tokens and on `pod_base` for `NoMemory`.
 #![tactic(auto)]

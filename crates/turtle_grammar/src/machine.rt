@@ -74,6 +74,7 @@ impl Machine {
     ghost use Rattle.turtle_grammar.specs.Stacks.{Takes, step_of, cleared};
     ghost use Rattle.turtle_grammar.specs.Readings.{IsDerived, IsUnfinished, Waits, produced_by};
     ghost use Rattle.turtle_grammar.specs.Readings.{NamesOn, NamesNothing, WaitingNames};
+    ghost use Rattle.turtle_grammar.specs.Readings.{HasString, IsTriple};
 
     /// The machine before the first symbol. It has no memory yet.
     pub fn new(alloc: Global, start: Start) -> Machine
@@ -92,6 +93,7 @@ impl Machine {
         ensures read { OnOk result (ReadsOn symbol self.old self.new) }
         ensures refused { IfErr result (λ refusal. IsRefused refusal symbol self.old) }
         ensures names { OnOk result (NamesOn symbol self.old self.new) }
+        ensures string { OnOk result (symbol ≡ Symbol.Token TokenKind.Quoted → HasString self.new) }
     {
         if !is_allowed(self.start, self.braces, symbol) {
             return Err(Refusal::Grammar);
@@ -132,6 +134,7 @@ impl Machine {
     pub fn waiting(&self) -> Option<SymbolicTriple>
         ensures waits { Waits result self.now }
         ensures names { IfSome result (λ triple. WaitingNames triple self.now) }
+        ensures string { HasString self.now → IsTriple result }
     {
         self.engine.waiting()
     }

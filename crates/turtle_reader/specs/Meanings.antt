@@ -1,5 +1,5 @@
 -- What lexemes mean by themselves, under the base and the prefixes in force.
-use Rattle.std.specs.Prelude.{◌≡◌, ℕ, List, [], ◌∷◌, drop, Option, Some, None, Result, Ok, Err}
+use Rattle.std.specs.Prelude.{◌≡◌, ℕ, List, [], ◌∷◌, Option, Some, None, Result, Ok, Err}
 use Rattle.rdf_graph.specs.declared.term.Term.{Term}
 use Rattle.turtle_lex.specs.declared.token.TokenKind.{TokenKind}
 use Rattle.turtle_lex.specs.declared.token.TokenKind.TheVariants as Kind
@@ -9,7 +9,7 @@ use Rattle.turtle_grammar.specs.declared.symbol.Symbol.{Symbol}
 use Rattle.turtle_grammar.specs.declared.symbol.Symbol.TheVariants.{Token}
 use Rattle.turtle_terms.specs.declared.fault.TurtleFault.{TurtleFault}
 use Rattle.turtle_terms.specs.Prefixes.{Prefixes}
-use Rattle.turtle_terms.specs.Values.{prefix_value, language_value}
+use Rattle.turtle_terms.specs.Values.{prefix_value, language_value, variable_value}
 use Rattle.turtle_terms.specs.Meaning.{IsTermOf}
 use Rattle.turtle_reader.specs.declared.lexeme.Lexeme.{Lexeme}
 use Rattle.turtle_reader.specs.declared.meaning.Meaning.{Meaning}
@@ -23,7 +23,7 @@ use Rattle.turtle_reader.specs.Contexts.{context_after}
 -- the meaning of a language tag and of a variable
 abbrev pub special_meaning : TokenKind → List ℕ → Option Meaning
 special_meaning Kind.LangTag text = Some (meaning_of.Language (language_value text))
-special_meaning Kind.Variable text = Some (meaning_of.Variable (drop 1 text))
+special_meaning Kind.Variable text = Some (meaning_of.Variable (variable_value text))
 special_meaning kind text = None
 
 abbrev pub term_meaning : Option Term → Meaning

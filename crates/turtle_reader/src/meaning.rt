@@ -1,9 +1,8 @@
 //! What a lexeme means by itself, under the base and the prefixes in force.
 
-ghost use Rattle.std.specs.Prelude.{◌≡◌, ◌≢◌, Ok, Err, IfOk, IfErr, drop};
-ghost use Rattle.turtle_lex.specs.declared.token.TokenKind.TheVariants as Kind;
+ghost use Rattle.std.specs.Prelude.{◌≡◌, ◌≢◌, Ok, Err, IfOk, IfErr};
 ghost use Rattle.turtle_lex.specs.Laws.{text_of};
-ghost use Rattle.turtle_lex.specs.Tokens.{IsTokenOf, MatchesKind};
+ghost use Rattle.turtle_lex.specs.Tokens.{IsTokenOf};
 ghost use Rattle.turtle_terms.specs.declared.fault.TurtleFault.TheVariants.{NoMemory as NoMemoryFault};
 ghost use Rattle.turtle_reader.specs.Meanings.{special_meaning, IsTermMeaning, IsPlainMeaning};
 
@@ -12,7 +11,7 @@ use pod_base::{Mem, NoMemory, Text};
 use rdf_graph::Term;
 use std::alloc::Global;
 use turtle_lex::{Token, TokenKind};
-use turtle_terms::{Scope, TurtleFault, Vocabulary, language};
+use turtle_terms::{Scope, TurtleFault, Vocabulary, language, variable};
 
 /// What a lexeme means by itself.
 #[derive(Debug, Drop)]
@@ -28,17 +27,6 @@ pub enum Meaning {
     Name(Text),
     /// Any other lexeme has no meaning by itself.
     Nothing,
-}
-
-/// The name of a variable.
-fn variable(alloc: Global, bytes: &[u8], token: &Token) -> Mem<Text>
-    requires of_bytes { IsTokenOf bytes.now token.now }
-    ensures { IfOk result (λ name. name ≡ drop 1 (text_of bytes.now token.now)) }
-{
-    match std::str::from_utf8(&bytes[token.from + 1..token.to]) {
-        Ok(name) => Text::of(alloc, name),
-        Err(_) => Err(NoMemory),
-    }
 }
 
 /// The meaning of a language tag or a variable.

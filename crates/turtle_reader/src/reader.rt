@@ -13,6 +13,7 @@ use iri_ref::Iri;
 use pod_base::Mem;
 use std::alloc::Global;
 use turtle_grammar::{Machine, Production, Refusal, Start, Symbol, SymbolicTriple};
+use turtle_lex::TokenKind;
 use turtle_terms::{TurtleFault, TurtleKind, Vocabulary};
 
 /// Reads the lexemes of a text one by one, from a start symbol and a base on. It keeps the meanings
@@ -35,6 +36,7 @@ fn fault_at(at: usize, kind: TurtleKind) -> TurtleFault
 
 impl Reader {
     ghost use Rattle.turtle_grammar.specs.Readings.{HasRead, IsDerived, IsUnfinished, Waits};
+    ghost use Rattle.turtle_grammar.specs.Readings.{HasString, IsTriple};
     ghost use Rattle.turtle_reader.specs.Contexts.{advanced};
     ghost use Rattle.turtle_reader.specs.Lexemes.{IsLexemeOf};
     ghost use Rattle.turtle_reader.specs.Readings.{IsReading, ReadsOn, IsRefused, Resolves};
@@ -78,6 +80,8 @@ impl Reader {
         requires { IsLexemeOf bytes.now lexeme }
         ensures read { OnOk result (ReadsOn bytes.now lexeme self.old self.new) }
         ensures refused { IfErr result (λ fault. IsRefused bytes.now lexeme self.old fault) }
+        ensures string { OnOk result (lexeme.symbol ≡ Symbol.Token TokenKind.Quoted
+            → HasString self.new.machine) }
     {
         self.forget();
         let meaning = self.context.meaning(alloc, &self.vocabulary, bytes, lexeme);
@@ -121,7 +125,8 @@ impl Reader {
 
     /// The triple of the last lexeme, where it is a String to which nothing is added.
     pub fn waiting(&self) -> Option<SymbolicTriple>
-        ensures { Waits result self.now.machine }
+        ensures waits { Waits result self.now.machine }
+        ensures string { HasString self.now.machine → IsTriple result }
     {
         self.machine.waiting()
     }

@@ -8,7 +8,7 @@ use Rattle.turtle_lex.specs.declared.classes.Quote.{Quote}
 use Rattle.turtle_lex.specs.declared.classes.Quote.TheVariants.{Double, Single}
 use Rattle.turtle_lex.specs.Classes.{quote_char, is_iri_char, is_line_char, is_long_char}
 use Rattle.turtle_lex.specs.Pattern.{Pattern, one, ◌∘◌, ◌∣◌, many, maybe, Matches}
-use Rattle.turtle_lex.specs.Terminals.{uchar, echar, iri_ref, blank_label, lang_tag, quotes, short_string, long_string}
+use Rattle.turtle_lex.specs.Terminals.{uchar, echar, iri_ref, blank_label, lang_tag, variable, quotes, short_string, long_string}
 use Rattle.turtle_lex.specs.declared.token.TokenKind.TheVariants.{Quoted}
 use Rattle.turtle_lex.specs.Tokens.{IsString, MatchesKind}
 use Rattle.turtle_lex.proofs.LawLemmas.{matches_its_texts}
@@ -208,7 +208,7 @@ iri_cut text x = cut_of 1 text (iri_delimited text x)
 pub string_cut : (text : List ℕ) → MatchesKind Quoted text [] → IsCut (quote_count text) text
 string_cut text (quote, x) = cut_of (quote_count text) text (string_delimited quote text x)
 
--- a label begins with two ASCII bytes, and a tag with one
+-- a label begins with two ASCII bytes, and a tag and a variable with one
 pub label_cut : (text : List ℕ) → IsUtf8 text → Matches blank_label text [] → (2 ≤ length text) × IsCharBoundary text 2
 unfolding blank_label
 label_cut text utf8 (m, first, x) =
@@ -221,4 +221,11 @@ unfolding lang_tag
 tag_cut text utf8 (m, first, x) =
     let len : length text ≡ 1 + length m = ap length first ∙ length-append (64 ∷ []) m in
     let at : get_or text 0 0 ≡ 64 = ap (λ (t : List ℕ). get_or t 0 0) first in
+    (omega arith, IsCharBoundary-after_ascii text 0 utf8 (omega arith) (omega (arith, at)))
+
+pub variable_cut : (text : List ℕ) → IsUtf8 text → Matches variable text [] → (1 ≤ length text) × IsCharBoundary text 1
+unfolding variable
+variable_cut text utf8 (m, first, x) =
+    let len : length text ≡ 1 + length m = ap length first ∙ length-append (63 ∷ []) m in
+    let at : get_or text 0 0 ≡ 63 = ap (λ (t : List ℕ). get_or t 0 0) first in
     (omega arith, IsCharBoundary-after_ascii text 0 utf8 (omega arith) (omega (arith, at)))

@@ -43,3 +43,7 @@ label_value text = drop 2 text
 -- the tag of a LANGTAG, after its `@`, in lower case
 abbrev pub language_value : List ℕ → List ℕ
 language_value text = str_to_ascii_lowercase (drop 1 text)
+
+-- the name of a variable, after its `?`
+abbrev pub variable_value : List ℕ → List ℕ
+variable_value text = drop 1 text

@@ -33,5 +33,5 @@ pub use fault::{TurtleFault, TurtleKind};
 pub use iris::is_iri_kind;
 pub use scope::Scope;
 pub use term_of::term;
-pub use token_text::{label, language, lexical_form, prefix};
+pub use token_text::{label, language, lexical_form, prefix, variable};
 pub use vocabulary::{Vocabulary, Word};

@@ -9,6 +9,7 @@ ghost use Rattle.turtle_lex.specs.declared.token.TokenKind.TheVariants as Kind;
 ghost use Rattle.turtle_terms.specs.Escapes.{decoded};
 ghost use Rattle.turtle_terms.specs.Values.{without_ends, quote_count, is_colon, prefix_value};
 ghost use Rattle.turtle_terms.specs.Values.{string_value, label_value, language_value};
+ghost use Rattle.turtle_terms.specs.Values.{variable_value};
 
 use crate::escapes::{decode, has_backslash};
 use pod_base::{Mem, Text};
@@ -104,6 +105,16 @@ pub fn language(alloc: Global, bytes: &[u8], token: &Token) -> Mem<Text>
     let text = text_of(bytes, token);
     let tag = text[1..].to_ascii_lowercase(alloc)?;
     Text::from_string(alloc, tag)
+}
+
+/// The name of a variable, without its `?`.
+pub fn variable(alloc: Global, bytes: &[u8], token: &Token) -> Mem<Text>
+    requires of_bytes { IsTokenOf bytes.now token.now }
+    requires kind { token.now.kind ≡ Kind.Variable }
+    ensures { IfOk result (λ name. name ≡ variable_value (text_of_token bytes.now token.now)) }
+{
+    let text = text_of(bytes, token);
+    Text::of(alloc, &text[1..])
 }
 
 /// The prefix of a name, without its `:`.

@@ -1,6 +1,6 @@
 -- Faults of a lesser index have a lesser position.
 use Rattle.std.proofs.Common.{◌≡◌, ◌⊎◌, ℕ, ◌<◌, ◌≤◌, Bool, false, List, [], ◌∷◌, ◌++◌, length, Option, Some, None, Result, Ok, Err}
-use Rattle.std.proofs.Common.{inl, inr, refl, sym, ap, ◌∙◌, subst, arith}
+use Rattle.std.proofs.Common.{inl, inr, refl, ap, ◌∙◌, subst, arith}
 use Rattle.turtle_lex.specs.declared.token.Token.{Token as LexToken}
 use Rattle.turtle_lex.specs.declared.token.LexFault.TheVariants as lex
 use Rattle.turtle_lex.specs.Laws.{text_of}
@@ -20,9 +20,9 @@ use Rattle.turtle_reader.specs.Contexts.{at_start, context_from}
 use Rattle.turtle_reader.specs.Faults.{Next, HasNoIri}
 use Rattle.turtle_reader.specs.Lexemes.{lexemes_of, lexeme_answer, token_at}
 use Rattle.turtle_reader.specs.Meanings.{special_meaning, IsPlainMeaning, IsTokenMeaning, IsMeaningBy}
-use Rattle.turtle_text.specs.Faults.{Answer, AreFirst, listed_answer, IsFaultAt, HasFaultAt, place_of}
+use Rattle.turtle_text.specs.Faults.{Answer, listed_answer, IsFaultAt, HasFaultAt, place_of}
 use Rattle.turtle_text.proofs.Firsts.{first_shorter}
-use Rattle.turtle_text.proofs.OneFault.{places, lex_at, Placed, OfIri, sort_of}
+use Rattle.turtle_text.proofs.OneFault.{places, Placed, OfIri, sort_of}
 
 -- The position of an IRI's fault
 

@@ -16,6 +16,7 @@ use Rattle.turtle_grammar.specs.declared.symbol.Start.TheVariants as start_of
 use Rattle.turtle_grammar.specs.declared.production.Production.{Production}
 use Rattle.turtle_grammar.specs.Derivations.{Derives, GoesOn}
 use Rattle.turtle_grammar.proofs.Theorem.{same_productions}
+use Rattle.turtle_grammar.proofs.OneTree.{same_tree}
 use Rattle.turtle_terms.specs.declared.fault.TurtleKind.TheVariants as Why
 use Rattle.turtle_terms.specs.declared.fault.TurtleFault.{TurtleFault}
 use Rattle.turtle_terms.specs.declared.fault.TurtleFault.TheVariants.{Bad, TooLarge, NoMemory}
@@ -47,6 +48,17 @@ one_spelled base bytes ts us h k =
     subst (λ (z : List Meaning). AreTriplesOf bytes z h.productions us) meanings
     (subst (λ (z : List Production). AreTriplesOf bytes k.meanings z us) productions k.are_triples) in
     one_triples bytes h.meanings h.productions ts us h.are_triples triples
+
+-- and so are its tokens, whose derivation has one tree
+pub one_derivation : (base bytes : List ℕ) (ts us : List RdfTriple) (a : SpellsTriples base bytes ts) (b : SpellsTriples base bytes us)
+    → (a.tokens ≡ b.tokens) × (a.derives.tree ≡ b.derives.tree) × (ts ≡ us)
+one_derivation base bytes ts us a b =
+    let tokens : a.tokens ≡ b.tokens = one_list bytes a.tokens b.tokens a.are_tokens b.are_tokens in (
+      tokens,
+      same_tree start_of.Document a.derives.tree b.derives.tree
+          (a.derives.symbols_are ∙ ap (λ (z : List Token). symbols_of (lexemes_of z)) tokens ∙ sym b.derives.symbols_are),
+      one_spelled base bytes ts us a b,
+    )
 
 no_lexeme : (f : LexFault) (l : Lexeme) (r : Result (Option Lexeme) LexFault) → r ≡ Ok (Some l) → r ≡ Err f → ⊥
 no_lexeme f l r e h = cc

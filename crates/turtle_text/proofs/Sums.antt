@@ -1,5 +1,5 @@
 -- Triples one more at a time: their sizes, and their meaning.
-use Rattle.std.proofs.Common.{◌≡◌, ℕ, Bool, ◌+◌, List, [], ◌∷◌, ◌++◌, Option, Some, None, IfSome, slice_get, map, sum}
+use Rattle.std.proofs.Common.{◌≡◌, ℕ, Bool, true, ◌+◌, List, [], ◌∷◌, ◌++◌, Option, Some, None, IfSome, slice_get, map, sum}
 use Rattle.std.proofs.Common.{refl, sym, ap, ◌∙◌, subst, arith, append_assoc}
 use Rattle.std.proofs.lemmas.List.{append-nil}
 use Rattle.std.proofs.lemmas.List.Sums.{sum_by-cons}
@@ -19,7 +19,7 @@ use Rattle.turtle_grammar.specs.declared.production.Node.TheVariants as node
 use Rattle.turtle_grammar.specs.declared.production.SymbolicTriple.{SymbolicTriple}
 use Rattle.turtle_grammar.specs.declared.production.Production.{Production}
 use Rattle.turtle_grammar.specs.declared.production.Production.TheVariants.{Prefix, Base, Triple}
-use Rattle.turtle_grammar.specs.Readings.{Waits}
+use Rattle.turtle_grammar.specs.Readings.{Waits, IsTriple}
 use Rattle.turtle_labels.proofs.BeforeLemmas.{one_list_before}
 use Rattle.turtle_labels.proofs.UnnamedLemmas.{one_label}
 use Rattle.turtle_labels.specs.Unnamed.{IsUnnamed, written_labels}
@@ -215,6 +215,20 @@ weighs_one bytes reader string items s t size waits makes is = record {
     items ++ t ∷ [],
     adds_triple bytes reader s t items (items ++ t ∷ []) makes refl start base bytes' ls ps ms before h are,
     is ∙ ap saturated (sym (size_more items t)),
+  );
+}
+
+pub weighs_none : (bytes : List ℕ) (reader : Reader) (string : Bool) (items : List RdfTriple) (size : ℕ)
+    → Waits None reader.machine → (string ≡ true → IsTriple None) → size ≡ saturated (triples_size items)
+    → Weighs bytes reader string items size
+weighs_none bytes reader string items size waits has is = record {
+  waiting = None;
+  waits = waits;
+  has_string = has;
+  weighs = λ start base bytes' ls ps ms before h are. (
+    items,
+    subst (λ (z : List Production). AreTriplesOf bytes ms z items) (sym (append-nil before)) are,
+    is,
   );
 }
 

@@ -9,6 +9,7 @@ use Rattle.turtle_lex.specs.declared.token.Token.{Token}
 use Rattle.turtle_lex.specs.Tokens.{IsNext, AreTokensTo, is_string, kind_after, listed_token}
 use Rattle.turtle_lex.proofs.ListingLemmas.{listed_more}
 use Rattle.turtle_grammar.specs.declared.symbol.Start.TheVariants as start_of
+use Rattle.turtle_grammar.specs.declared.symbol.Symbol.TheVariants as SymbolOf
 use Rattle.turtle_grammar.specs.declared.production.Production.{Production}
 use Rattle.turtle_grammar.specs.declared.production.Production.TheVariants.{Triple}
 use Rattle.turtle_grammar.specs.declared.production.SymbolicTriple.{SymbolicTriple}
@@ -33,6 +34,14 @@ string_same true Kind.AtPrefix = refl
 string_same true Kind.AtBase = refl
 string_same true _ = refl
 string_same false _ = refl
+
+string_kind : (kind : TokenKind) → is_string kind ≡ true → kind ≡ Kind.Quoted
+string_kind Kind.Quoted e = refl
+string_kind _ e = absurd (let no : false ≡ true = e in cc)
+
+-- the lexeme of a String
+pub string_read : (t : Token) (l : Lexeme) → l ≡ lexeme_of t → is_string t.kind ≡ true → l.symbol ≡ SymbolOf.Token Kind.Quoted
+string_read t l e string = ap (λ (z : Lexeme). z.symbol) e ∙ ap SymbolOf.Token (string_kind t.kind string)
 
 -- What is refused
 

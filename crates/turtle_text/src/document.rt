@@ -1,7 +1,8 @@
 //! What was read of a document so far.
 
-ghost use Rattle.std.specs.Prelude.{◌≡◌, ◌≢◌, IfOk, IfErr, OnOk};
-ghost use Rattle.turtle_lex.specs.Tokens.{IsTokenOf};
+ghost use Rattle.std.specs.Prelude.{◌≡◌, ◌≢◌, true, IfOk, IfErr, OnOk};
+ghost use Rattle.turtle_lex.specs.Tokens.{IsTokenOf, is_string};
+ghost use Rattle.turtle_grammar.specs.Readings.{HasString};
 ghost use Rattle.turtle_terms.specs.declared.fault.TurtleFault.TheVariants.{NoMemory as NoMemoryFault};
 ghost use Rattle.turtle_reader.specs.Readings.{produced_last};
 ghost use Rattle.turtle_text.specs.Faults.{adds_to_string};
@@ -73,7 +74,8 @@ impl Document {
 
     /// Adds what the last token produced, and judges the size.
     fn add(&mut self, alloc: Global, bytes: &[u8], token: Token) -> Mem<()>
-        requires { AreSound bytes.now self.old.triples }
+        requires sound { AreSound bytes.now self.old.triples }
+        requires string { is_string token.kind ≡ true → HasString self.old.reader.machine }
         ensures reader { OnOk result (self.new.reader ≡ self.old.reader) }
         ensures adds { OnOk result (Adds bytes.now self.new.reader (produced_last self.new.reader)
             self.old.triples.list.items self.new.triples.list.items) }

@@ -1,8 +1,9 @@
 //! The triples of a document.
 
-ghost use Rattle.std.specs.Prelude.{◌≡◌, ◌+◌, ◌++◌, ◌∷◌, [], ℕ, Some, IfOk, OnOk, IfSome};
+ghost use Rattle.std.specs.Prelude.{◌≡◌, ◌+◌, ◌++◌, ◌∷◌, [], ℕ, true, Some, IfOk, OnOk, IfSome};
 ghost use Rattle.rdf_graph.specs.Size.{saturated};
 ghost use Rattle.rdf_graph.specs.Triple.{IsRdf};
+ghost use Rattle.turtle_grammar.specs.Readings.{HasString};
 ghost use Rattle.turtle_reader.specs.Readings.{produced_last};
 ghost use Rattle.turtle_text.specs.Triples.{IsReferentTerm};
 ghost use Rattle.turtle_text.specs.Progress.{AreLabelsOf, IsReferentTriple, Makes};
@@ -212,7 +213,8 @@ impl Triples {
         reader: &Reader,
         string: bool,
     ) -> Mem<u64>
-        requires { AreSound bytes.now self.old }
+        requires sound { AreSound bytes.now self.old }
+        requires string { string ≡ true → HasString reader.now.machine }
         ensures sound { OnOk result (AreSound bytes.now self.new) }
         ensures list { OnOk result (self.new.list ≡ self.old.list) }
         ensures weighs { IfOk result (Weighs bytes.now reader.now string self.old.list.items) }
@@ -222,7 +224,6 @@ impl Triples {
                 let triple = made(alloc, bytes, &mut self.labels, reader, &symbolic)?;
                 Ok(saturating_sum(self.size, triple.encoded_size()))
             }
-            None if string => Err(NoMemory),
             None => Ok(self.size),
         }
     }

@@ -1,6 +1,7 @@
 use Rattle.std.proofs.Common.{Bool, cond, Some, None, refl, sym, ap, ◌∙◌}
 use Rattle.turtle_grammar.proofs.Steps.{not_allowed, not_taken, too_deep, reads_on}
 use Rattle.turtle_grammar.proofs.NamingSteps.{names_on}
+use Rattle.turtle_grammar.proofs.Strings.{string_waits}
 use Rattle.turtle_grammar.proofs.machine.Machine.step.Goals as goal
 
 pub returns-then-not-is_allowed-clause-refused : goal.returns-then-not-is_allowed-clause-refused
@@ -28,3 +29,8 @@ pub returns-in-Ok-true-2-clause-names : goal.returns-in-Ok-true-2-clause-names
 returns-in-Ok-true-2-clause-names c since start ts ps h le names =
     names_on since start ts ps c.args.self.now c.args.symbol h le names c.take.new.self.engine
     (c.in-Ok-true.ensures.engine ∙ ap (λ (v : Bool). cond v (Some c.take.new.self.engine) None) c.in-Ok-true.field-0-test)
+
+pub returns-in-Ok-true-2-clause-string : goal.returns-in-Ok-true-2-clause-string
+returns-in-Ok-true-2-clause-string c quoted =
+    string_waits c.args.symbol c.args.self.now c.take.new.self
+    (c.in-Ok-true.ensures.engine ∙ ap (λ (v : Bool). cond v (Some c.take.new.self.engine) None) c.in-Ok-true.field-0-test) quoted

@@ -1,7 +1,7 @@
 use Rattle.std.proofs.Common.{sym, subst}
 use Rattle.turtle_grammar.specs.declared.machine.Machine.{Machine}
 use Rattle.turtle_grammar.specs.declared.fault.Refusal.{Refusal}
-use Rattle.turtle_grammar.specs.Readings.{ReadsOn, IsRefused}
+use Rattle.turtle_grammar.specs.Readings.{ReadsOn, IsRefused, HasString}
 use Rattle.turtle_reader.proofs.Stepping.{grammar_refused, iri_refused, deep_refused, goes_read, goes_deep, reads_on}
 use Rattle.turtle_reader.proofs.reader.Reader.step.Goals as goal
 
@@ -35,3 +35,7 @@ returns-in-Err-Depth-clause-refused c =
     iri_refused c.args.bytes.now c.args.lexeme c.args.self.now c.forget.new.self c.forget.ensures
     (goes_deep c.args.bytes.now c.args.lexeme c.args.self.now c.forget.new.self c.forget.ensures deep)
     c.in-Err-meaning.fault c.in-Err-meaning.ensures.fault
+
+pub returns-in-Ok-meaning-clause-string : goal.returns-in-Ok-meaning-clause-string
+returns-in-Ok-meaning-clause-string c quoted =
+    subst HasString (sym c.in_ok-keep-in-Ok-meaning.ensures.machine) (c.in-Ok.ensures.string quoted)

@@ -3,11 +3,14 @@ use Rattle.turtle_reader.specs.declared.lexeme.Lexeme.{Lexeme}
 use Rattle.turtle_reader.specs.declared.reader.Reader.{Reader}
 use Rattle.turtle_reader.specs.Lexemes.{IsLexemeOf, lexeme_of}
 use Rattle.turtle_reader.specs.Readings.{ReadsOn, IsRefused}
-use Rattle.turtle_text.proofs.Taking.{takes, refuses}
+use Rattle.turtle_text.proofs.Taking.{takes, refuses, string_read}
 use Rattle.turtle_text.proofs.document.Document.take.Goals as goal
 
 pub step-requires : goal.step-requires
 step-requires c = subst (IsLexemeOf c.args.bytes.now) (sym c.of.ensures) c.requires.of_bytes
+
+pub add-requires-clause-string : goal.add-requires-clause-string
+add-requires-clause-string c e = c.in-Ok.ensures.string (string_read c.args.token c.of.result c.of.ensures e)
 
 pub returns-in_ok-add-in-Ok-clause-read : goal.returns-in_ok-add-in-Ok-clause-read
 returns-in_ok-add-in-Ok-clause-read c =
