@@ -16,6 +16,7 @@ fn answer(alloc: Global, fields: &[&str]) -> Result<String, AllocError> {
     match fields {
         ["judge", triples] => judged::answer(alloc, triples),
         ["read", base, text] => texts::answer(alloc, base, text),
+        ["update", base, text] => texts::update(alloc, base, text),
         ["spelled", namings, graph] => named::answer(alloc, namings, graph),
         _ => String::from_str(alloc, "no case"),
     }
