@@ -17,6 +17,7 @@ fn answer(alloc: Global, fields: &[&str]) -> Result<String, AllocError> {
     match fields {
         ["judge", triples] => judged::answer(alloc, triples),
         ["read", base, text] => texts::answer(alloc, base, text),
+        ["update", base, text] => texts::update(alloc, base, text),
         ["spelled", namings, graph] => named::answer(alloc, namings, graph),
         ["outcome", kind, graph, parts] => outcomes::answer(alloc, kind, graph, parts),
         ["update-outcome", kind, graph, namings] => {

@@ -10,3 +10,4 @@ pub mod Ending
 pub mod OneNamed
 pub mod OneFault
 pub mod NamedSizes
+pub mod OneAnswer

@@ -52,7 +52,7 @@ one_update base bytes ps qs ms ns h k =
     let means : AreMeanings bytes (at_start base) h.lexemes ns = subst (λ (z : List Lexeme). AreMeanings bytes (at_start base) z ns) lexemes k.means in
     (same_productions Update (symbols_of h.lexemes) qs ps derives h.derives, one_means bytes (at_start base) h.lexemes ns ms means h.means)
 
-blank_along : (ps qs : List Production) (ms ns : List Meaning) → (qs ≡ ps) × (ns ≡ ms) → has_blank ns qs ≡ has_blank ms ps
+pub blank_along : (ps qs : List Production) (ms ns : List Meaning) → (qs ≡ ps) × (ns ≡ ms) → has_blank ns qs ≡ has_blank ms ps
 blank_along ps qs ms ns (e, f) = ap (has_blank ns) e ∙ ap (λ (z : List Meaning). has_blank z ps) f
 
 namings_along : (ps qs : List Production) (ms ns : List Meaning) (named : List Named) → (qs ≡ ps) × (ns ≡ ms) → AreNamingsOf ns qs named → AreNamingsOf ms ps named

@@ -1,12 +1,17 @@
 -- What follows from the definitions. Each law is the contract of a function of `laws`.
-use Rattle.std.specs.Prelude.{◌≡◌, ◌↔◌, ◌<◌, ℕ, Bool, false, List, Some, Contains}
+use Rattle.std.specs.Prelude.{◌≡◌, ◌↔◌, ◌<◌, ◌≤◌, ℕ, Bool, false, List, Some, Contains}
+use Rattle.std.specs.Prelude.{Result, Ok, Err}
 use Rattle.std.specs.List.{IsDistinct, filter}
+use Rattle.rdf_graph.specs.declared.size.TheConstants.{TRIPLES_LIMIT}
 use Rattle.rdf_graph.specs.declared.triple.Triple.{Triple}
 use Rattle.turtle_terms.specs.declared.fault.TurtleFault.{TurtleFault}
+use Rattle.sparql_patch.specs.declared.fault.SparqlFault.{SparqlFault}
+use Rattle.sparql_patch.specs.declared.fault.SparqlFault.TheVariants.{NoMemory}
 use Rattle.sparql_patch.specs.declared.named.Named.{Named}
 use Rattle.sparql_patch.specs.NamedUpdate.{triple_eq, has_triple, last_named, last_word}
-use Rattle.sparql_patch.specs.UpdateFaults.{HasFaultAt, IsFirstFault, place_of}
-use Rattle.sparql_patch.specs.UpdateSpells.{Names}
+use Rattle.sparql_patch.specs.UpdateFaults.{HasFaultAt, HasNoFault, IsFirstFault, place_of}
+use Rattle.sparql_patch.specs.UpdateFaults.{IsSparqlFault}
+use Rattle.sparql_patch.specs.UpdateSpells.{Names, named_size}
 
 -- A triple is listed under a word exactly where its last naming is with that word.
 abbrev pub LastNamingDecides : Type 0
@@ -47,3 +52,15 @@ HasOneFirstFault = (base bytes : List ℕ) (a b : TurtleFault) → IsFirstFault 
 abbrev pub PlacesAscend : Type 0
 PlacesAscend = (base bytes : List ℕ) (i j : ℕ) (f g : TurtleFault) → HasFaultAt base bytes i f
     → HasFaultAt base bytes j g → i < j → place_of f < place_of g
+
+-- A text is read as these triples, or has this fault, which is none of memory.
+abbrev pub IsReadAs : List ℕ → List ℕ → Result (List Named) SparqlFault → Type 0
+IsReadAs base bytes (Ok named) = Names base bytes named × HasNoFault base bytes
+    × (named_size named ≤ TRIPLES_LIMIT)
+IsReadAs base bytes (Err NoMemory) = ⊥
+IsReadAs base bytes (Err fault) = IsSparqlFault base bytes fault
+
+-- It is read in one way at most.
+abbrev pub HasOneAnswer : Type 0
+HasOneAnswer = (base bytes : List ℕ) (a b : Result (List Named) SparqlFault)
+    → IsReadAs base bytes a → IsReadAs base bytes b → a ≡ b

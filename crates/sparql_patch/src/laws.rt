@@ -4,7 +4,7 @@
 
 ghost use Rattle.sparql_patch.specs.Laws.{LastNamingDecides, DeletionsAreInGraph};
 ghost use Rattle.sparql_patch.specs.Laws.{EachIsListedOnce, WithoutRepeats, HasOneNaming};
-ghost use Rattle.sparql_patch.specs.Laws.{HasOneFirstFault, PlacesAscend};
+ghost use Rattle.sparql_patch.specs.Laws.{HasOneFirstFault, PlacesAscend, HasOneAnswer};
 
 /// The last naming of a triple decides, and each triple is listed once.
 pub fn last_naming()
@@ -27,4 +27,9 @@ pub fn one_naming()
 pub fn first_fault()
     ensures one { HasOneFirstFault }
     ensures least { PlacesAscend }
+{}
+
+/// A text is read as one list of triples, or has one fault beside out of memory.
+pub fn one_answer()
+    ensures { HasOneAnswer }
 {}
