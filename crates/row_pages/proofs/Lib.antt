@@ -1,0 +1,6 @@
+pub mod Ordered
+pub mod Around
+pub mod Below
+pub mod Changed
+pub mod Joined
+pub mod Done

@@ -1,0 +1,85 @@
+//! [`Item`]: a row with the access list that governs it.
+ghost use Rattle.std.specs.Prelude.{◌≡◌, IfOk};
+ghost use Rattle.row_pages.specs.Items.{Placed};
+
+use pod_base::{Mem, NoMemory};
+use pod_command::Row;
+use std::alloc::Global;
+use std::marker::Model;
+use std::sync::Arc;
+
+/// A row, and the access list that governs it: the number of the list in a table of the caller's,
+/// and whether the list is the row's own. A copy shares the row.
+#[derive(Drop)]
+pub struct Item {
+    row: Arc<Row>,
+    list: u32,
+    own: bool,
+}
+
+impl Model for Item {
+    ghost use Rattle.row_pages.specs.Items.{Placed};
+    ghost use Rattle.std.specs.Arc.{arc_value};
+
+    ghost Value = { Placed };
+
+    ghost view = { λ item. record { row = arc_value item.row; list = item.list; own = item.own } };
+}
+
+impl Item {
+    /// The item of a row.
+    pub fn new(alloc: Global, row: Row, list: u32, own: bool) -> Mem<Item>
+        ensures { IfOk result (λ item. item ≡ record { row = row; list = list; own = own }) }
+    {
+        match Arc::new(alloc, row) {
+            Ok(row) => Ok(Item { row, list, own }),
+            Err(_) => Err(NoMemory),
+        }
+    }
+
+    /// An item with the same row and another list.
+    pub fn governed_by(&self, list: u32, own: bool) -> Mem<Item>
+        ensures { IfOk result (λ item. item
+            ≡ record { row = self.now.row; list = list; own = own }) }
+    {
+        match Arc::try_clone(&self.row) {
+            Ok(row) => Ok(Item { row, list, own }),
+            Err(_) => Err(NoMemory),
+        }
+    }
+
+    /// The row.
+    pub fn row(&self) -> &Row
+        ensures { result.now ≡ self.now.row }
+    {
+        &self.row
+    }
+
+    /// The number of the list that governs the row.
+    pub fn list(&self) -> u32
+        ensures { result ≡ self.now.list }
+    {
+        self.list
+    }
+
+    /// Whether that list is the row's own.
+    pub fn is_own(&self) -> bool
+        ensures { result ≡ self.now.own }
+    {
+        self.own
+    }
+
+    /// The path of the row.
+    pub(crate) fn path(&self) -> &[u8]
+        ensures { result.now ≡ self.now.row.path }
+    {
+        self.row().path.as_str().as_bytes()
+    }
+
+    /// An equal item, which shares the row.
+    pub fn copy(&self) -> Mem<Item>
+        ensures { IfOk result (λ copy. copy ≡ self.now) }
+    {
+        self.governed_by(self.list, self.own)
+    }
+}

@@ -1,0 +1,168 @@
+//! [`Node`]: a page of items, or a book of pages.
+ghost use Rattle.std.specs.Prelude.{◌≡◌, ◌+◌, ◌<◌, ◌≤◌, ◌++◌, length, IfOk, OnOk};
+ghost use Rattle.std.specs.List.{flat_map};
+ghost use Rattle.row_pages.specs.Nodes.{IsNode, HaveItems};
+ghost use Rattle.row_pages.specs.Parts.{items_of_both};
+
+use crate::item::Item;
+use crate::limits::PAGE_LIMIT;
+use crate::part::{Grown, Part};
+use crate::parts::{below_in, find_in, put_in, share_all, without_in};
+use crate::steps::Steps;
+use pod_base::{Mem, NoMemory};
+use std::alloc::Global;
+use std::marker::Model;
+use std::sync::Arc;
+use std::sync::ledger::Ledger;
+
+/// From one part to [`PAGE_LIMIT`] parts, which versions share.
+#[derive(Drop)]
+pub(crate) struct Node<T: Part> {
+    parts: Arc<Vec<T>>,
+}
+
+impl<T: Part> Model for Node<T> {
+    ghost use Rattle.std.specs.Prelude.{List};
+    ghost use Rattle.std.specs.Arc.{arc_value};
+    ghost use Rattle.std.specs.Coded.{coded_list};
+    ghost use Rattle.row_pages.specs.Nodes.{IsNode};
+
+    ghost Value = { List T };
+
+    ghost coded = { coded_list T.code };
+
+    ghost view = { λ node. (arc_value node.parts).items };
+
+    ghost invariant = { λ node. IsNode T.items (arc_value node.parts).items };
+}
+
+impl<T: Part> Node<T> {
+    /// The node of these parts.
+    fn of(alloc: Global, parts: Vec<T>) -> Mem<Node<T>>
+        requires { IsNode T.items parts.items }
+        ensures { IfOk result (λ node. node ≡ parts.items) }
+    {
+        match Arc::new(alloc, parts) {
+            Ok(parts) => Ok(Node { parts }),
+            Err(_) => Err(NoMemory),
+        }
+    }
+
+    /// The node of copies of these parts.
+    fn of_slice(alloc: Global, parts: &[T]) -> Mem<Node<T>>
+        requires { IsNode T.items parts.now }
+        ensures { IfOk result (λ node. node ≡ parts.now) }
+    {
+        let mut all = Vec::with_capacity(alloc, parts.len())?;
+        share_all(parts, &mut all)?;
+        Node::of(alloc, all)
+    }
+
+    /// The parts.
+    fn parts(&self) -> &[T]
+        ensures parts { result.now ≡ self.now }
+        ensures node { IsNode T.items self.now }
+    {
+        self.parts.as_slice()
+    }
+}
+
+/// The node of these parts, or two nodes, where they are too many for one.
+fn grown<T: Part>(alloc: Global, parts: Vec<T>) -> Mem<Grown<Node<T>>>
+    requires some { 0 < length parts.items }
+    requires few { length parts.items ≤ 65 }
+    requires each { HaveItems T.items parts.items }
+    ensures { IfOk result (λ grown. items_of_both (flat_map T.items) grown.part grown.more
+        ≡ flat_map T.items parts.items) }
+{
+    if parts.len() <= PAGE_LIMIT {
+        let part = Node::of(alloc, parts)?;
+        return Ok(Grown { part, more: None });
+    }
+    let (first, second) = parts.as_slice().split_at(PAGE_LIMIT / 2);
+    let part = Node::of_slice(alloc, first)?;
+    let more = Node::of_slice(alloc, second)?;
+    Ok(Grown {
+        part,
+        more: Some(more),
+    })
+}
+
+/// Appends the nodes of parts: each but the last is full.
+pub(crate) fn push_nodes<T: Part>(alloc: Global, parts: &[T], nodes: &mut Vec<Node<T>>) -> Mem<()>
+    requires each { HaveItems T.items parts.now }
+    ensures items { OnOk result (flat_map (flat_map T.items) nodes.new.items
+        ≡ flat_map (flat_map T.items) nodes.old.items ++ flat_map T.items parts.now) }
+    ensures nodes { OnOk result (HaveItems (flat_map T.items) nodes.old.items
+        → HaveItems (flat_map T.items) nodes.new.items) }
+{
+    if parts.is_empty() {
+        return Ok(());
+    }
+    let (first, rest) = parts.split_at(parts.len().min(PAGE_LIMIT));
+    let node = Node::of_slice(alloc, first)?;
+    node.has_items();
+    nodes.push(node)?;
+    push_nodes(alloc, rest, nodes)
+}
+
+impl<T: Part> Part for Node<T> {
+    ghost items = { λ node. flat_map T.items node };
+
+    ghost cost = { 7 + T.cost };
+
+    fn single(alloc: Global, item: &Item) -> Mem<Node<T>> {
+        let mut parts = Vec::with_capacity(alloc, 1)?;
+        let part = T::single(alloc, item)?;
+        part.has_items();
+        parts.push(part)?;
+        Node::of(alloc, parts)
+    }
+
+    fn share(&self) -> Mem<Node<T>> {
+        match Arc::try_clone(&self.parts) {
+            Ok(parts) => Ok(Node { parts }),
+            Err(_) => Err(NoMemory),
+        }
+    }
+
+    fn has_items(&self) {
+        let _parts = self.parts();
+    }
+
+    fn first_path<L: Ledger>(&self, steps: &mut Steps<L>) -> &[u8] {
+        match self.parts().first() {
+            Some(part) => part.first_path(steps),
+            None => unreachable!(),
+        }
+    }
+
+    fn begins_below(&self, prefix: &[u8]) -> bool {
+        match self.parts().first() {
+            Some(part) => part.begins_below(prefix),
+            None => unreachable!(),
+        }
+    }
+
+    fn find<L: Ledger>(&self, path: &[u8], steps: &mut Steps<L>) -> Option<&Item> {
+        find_in(self.parts(), path, steps)
+    }
+
+    fn put(&self, alloc: Global, item: &Item) -> Mem<Grown<Node<T>>> {
+        let parts = put_in(alloc, self.parts(), item)?;
+        grown(alloc, parts)
+    }
+
+    fn without(&self, alloc: Global, path: &[u8]) -> Mem<Option<Node<T>>> {
+        let parts = without_in(alloc, self.parts(), path)?;
+        if parts.is_empty() {
+            return Ok(None);
+        }
+        let node = Node::of(alloc, parts)?;
+        Ok(Some(node))
+    }
+
+    fn below(&self, prefix: &[u8], into: &mut Vec<Item>) -> Mem<()> {
+        below_in(self.parts(), prefix, into)
+    }
+}

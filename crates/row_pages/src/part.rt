@@ -1,0 +1,152 @@
+//! [`Part`]: an item, a page of items, or a book of pages.
+ghost use Rattle.std.specs.Prelude.{◌≡◌, ◌+◌, ◌<◌, ◌≤◌, ◌++◌, ◌∷◌, [], ℕ, List, Some, IfOk, OnOk};
+ghost use Rattle.std.specs.Prelude.{length, option_copied};
+ghost use Rattle.row_pages.specs.Borders.{first_of, first_begins};
+ghost use Rattle.row_pages.specs.Items.{Placed, AreItemsInOrder, item_at, put_item, remove_item};
+ghost use Rattle.row_pages.specs.Items.{items_below, begins_with};
+ghost use Rattle.row_pages.specs.Parts.{items_if, items_of_both};
+
+use crate::item::Item;
+use crate::steps::Steps;
+use pod_base::Mem;
+use std::alloc::Global;
+use std::cmp::Ordering;
+use std::sync::ledger::Ledger;
+
+/// Whether the item's path begins with the text.
+pub(crate) fn begins_with(item: &Item, prefix: &[u8]) -> bool
+    ensures { result ≡ begins_with prefix.now item.now }
+{
+    item.path().starts_with(prefix)
+}
+
+/// A part that an item was put into, and the part after it where one became too large.
+#[derive(Drop)]
+pub(crate) struct Grown<P> {
+    pub part: P,
+    pub more: Option<P>,
+}
+
+/// A part of the items, which isn't changed: changes make new parts, which share what stays.
+pub(crate) trait Part: Drop {
+    /// The items of the part, in their order.
+    ghost items: { Self → List Placed };
+
+    /// How many paths a search in it reads at most.
+    ghost cost: { ℕ };
+
+    /// The part of one item.
+    fn single(alloc: Global, item: &Item) -> Mem<Self>
+        ensures { IfOk result (λ part. items part ≡ item.now ∷ []) };
+
+    /// An equal part, which shares its memory.
+    fn share(&self) -> Mem<Self>
+        ensures { IfOk result (λ part. part ≡ self.now) };
+
+    /// Each part has an item. It does nothing.
+    fn has_items(&self)
+        ensures { 0 < length (items self.now) };
+
+    /// The path of its first item: one step.
+    fn first_path<L: Ledger>(&self, steps: &mut Steps<L>) -> &[u8]
+        ensures path { first_of (items self.now) ≡ Some result.now }
+        ensures cost { steps.new ≡ steps.old + 1 };
+
+    /// Whether the path of its first item begins with the text.
+    fn begins_below(&self, prefix: &[u8]) -> bool
+        ensures { first_begins prefix.now (items self.now) ≡ Some result };
+
+    /// The item at a path.
+    fn find<L: Ledger>(&self, path: &[u8], steps: &mut Steps<L>) -> Option<&Item>
+        requires { AreItemsInOrder (items self.now) }
+        ensures found { option_copied result ≡ item_at (items self.now) path.now }
+        ensures cost { steps.new ≤ steps.old + cost };
+
+    /// The part with this item, in one part or two.
+    fn put(&self, alloc: Global, item: &Item) -> Mem<Grown<Self>>
+        requires { AreItemsInOrder (items self.now) }
+        ensures { IfOk result (λ grown. items_of_both items grown.part grown.more
+            ≡ put_item (items self.now) item.now) };
+
+    /// The part without the item at the path, if an item is left.
+    fn without(&self, alloc: Global, path: &[u8]) -> Mem<Option<Self>>
+        requires { AreItemsInOrder (items self.now) }
+        ensures { IfOk result (λ part. items_if items part
+            ≡ remove_item (items self.now) path.now) };
+
+    /// Appends the items whose paths begin with a text.
+    fn below(&self, prefix: &[u8], into: &mut Vec<Item>) -> Mem<()>
+        requires { AreItemsInOrder (items self.now) }
+        ensures { OnOk result (into.new.items
+            ≡ into.old.items ++ items_below (items self.now) prefix.now) };
+}
+
+impl Part for Item {
+    ghost items = { λ item. item ∷ [] };
+
+    ghost cost = { 1 };
+
+    fn single(_alloc: Global, item: &Item) -> Mem<Item> {
+        item.copy()
+    }
+
+    fn share(&self) -> Mem<Item> {
+        self.copy()
+    }
+
+    fn has_items(&self) {}
+
+    fn first_path<L: Ledger>(&self, steps: &mut Steps<L>) -> &[u8] {
+        steps.tick();
+        self.path()
+    }
+
+    fn begins_below(&self, prefix: &[u8]) -> bool {
+        begins_with(self, prefix)
+    }
+
+    fn find<L: Ledger>(&self, path: &[u8], steps: &mut Steps<L>) -> Option<&Item> {
+        if self.first_path(steps) == path {
+            Some(self)
+        } else {
+            None
+        }
+    }
+
+    fn put(&self, _alloc: Global, item: &Item) -> Mem<Grown<Item>> {
+        let part = item.copy()?;
+        match item.path().cmp(self.path()) {
+            Ordering::Less => {
+                let more = self.copy()?;
+                Ok(Grown {
+                    part,
+                    more: Some(more),
+                })
+            }
+            Ordering::Equal => Ok(Grown { part, more: None }),
+            Ordering::Greater => {
+                let first = self.copy()?;
+                Ok(Grown {
+                    part: first,
+                    more: Some(part),
+                })
+            }
+        }
+    }
+
+    fn without(&self, _alloc: Global, path: &[u8]) -> Mem<Option<Item>> {
+        if self.path() == path {
+            return Ok(None);
+        }
+        let part = self.copy()?;
+        Ok(Some(part))
+    }
+
+    fn below(&self, prefix: &[u8], into: &mut Vec<Item>) -> Mem<()> {
+        if begins_with(self, prefix) {
+            let item = self.copy()?;
+            into.push(item)?;
+        }
+        Ok(())
+    }
+}

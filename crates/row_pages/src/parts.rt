@@ -1,0 +1,284 @@
+//! Parts in their order: to which of them a path belongs, and what a change makes of them.
+ghost use Rattle.std.specs.Prelude.{◌≡◌, ◌+◌, ◌-◌, ◌<◌, ◌≤◌, ◌^◌, ◌++◌, ◌∷◌, [], ℕ, List, false};
+ghost use Rattle.std.specs.Prelude.{IfOk, OnOk, IfSome, IfNone, IsTrue, length, option_copied};
+ghost use Rattle.std.specs.List.{flat_map};
+ghost use Rattle.std.specs.Option.{option_to_list};
+ghost use Rattle.row_pages.specs.Borders.{first_of, first_at, starts_by, starts_after};
+ghost use Rattle.row_pages.specs.Borders.{AreBefore, AreAfter};
+ghost use Rattle.row_pages.specs.Items.{AreItemsInOrder, is_before, item_at, put_item};
+ghost use Rattle.row_pages.specs.Items.{remove_item, items_below};
+ghost use Rattle.row_pages.specs.Nodes.{HaveItems};
+
+use crate::item::Item;
+use crate::part::Part;
+use crate::steps::Steps;
+use pod_base::Mem;
+use std::alloc::Global;
+use std::cmp::Ordering;
+use std::marker::Brand;
+use std::sync::ledger::{Blank, Ledger};
+
+/// Whether the path is before the other in byte order.
+fn is_before(path: &[u8], other: &[u8]) -> bool
+    ensures { result ≡ is_before path.now other.now }
+{
+    path.cmp(other) == Ordering::Less
+}
+
+/// Whether the path is before the first one of the part.
+fn is_before_part<T: Part, L: Ledger>(path: &[u8], part: &T, steps: &mut Steps<L>) -> bool
+    ensures after { IsTrue result
+        → IsTrue (starts_after path.now (first_of (T.items part.now))) }
+    ensures by { result ≡ false → IsTrue (starts_by path.now (first_of (T.items part.now))) }
+    ensures cost { steps.new ≡ steps.old + 1 }
+{
+    let first = part.first_path(steps);
+    is_before(path, first)
+}
+
+/// How many of the parts begin at the path or before it. The first `low` parts do, and those from
+/// `high` on don't. It halves what is between.
+fn place_between<T: Part, L: Ledger>(
+    parts: &[T],
+    low: usize,
+    high: usize,
+    path: &[u8],
+    steps: &mut Steps<L>,
+) -> usize
+    requires range { low ≤ high }
+    requires within { high ≤ length parts.now }
+    requires before { 0 < low
+        → IsTrue (starts_by path.now (first_at T.items parts.now (low - 1))) }
+    requires after { high < length parts.now
+        → IsTrue (starts_after path.now (first_at T.items parts.now high)) }
+    ensures within { result ≤ length parts.now }
+    ensures before { 0 < result
+        → IsTrue (starts_by path.now (first_at T.items parts.now (result - 1))) }
+    ensures after { result < length parts.now
+        → IsTrue (starts_after path.now (first_at T.items parts.now result)) }
+    ensures cost { (b : ℕ) → high - low < 2 ^ b → steps.new ≤ steps.old + b }
+{
+    if low == high {
+        return low;
+    }
+    let middle = low + (high - low) / 2;
+    if is_before_part(path, &parts[middle], steps) {
+        place_between(parts, low, middle, path, steps)
+    } else {
+        place_between(parts, middle + 1, high, path, steps)
+    }
+}
+
+/// A part, and those before and after it.
+#[derive(Drop)]
+pub(crate) struct Around<'a, T> {
+    pub before: &'a [T],
+    pub part: &'a T,
+    pub after: &'a [T],
+}
+
+/// The part to which a path belongs: all items before the part are before the path, and all after
+/// the part are after it. None where there are no parts.
+pub(crate) fn around_counted<'a, T: Part, L: Ledger>(
+    parts: &'a [T],
+    path: &[u8],
+    steps: &mut Steps<L>,
+) -> Option<Around<'a, T>>
+    requires { AreItemsInOrder (flat_map T.items parts.now) }
+    ensures whole { IfSome result (λ around. parts.entry.now
+        ≡ around.before.now ++ around.part.now ∷ around.after.now) }
+    ensures before { IfSome result (λ around.
+        AreBefore path.now (flat_map T.items around.before.now)) }
+    ensures after { IfSome result (λ around.
+        AreAfter path.now (flat_map T.items around.after.now)) }
+    ensures none { IfNone result (parts.entry.now ≡ []) }
+    ensures cost { (b : ℕ) → length parts.entry.now < 2 ^ b → steps.new ≤ steps.old + b }
+{
+    let place = place_between(parts, 0, parts.len(), path, steps);
+    let (before, rest) = parts.split_at(place.saturating_sub(1));
+    let Some((part, after)) = rest.split_first() else {
+        return None;
+    };
+    Some(Around {
+        before,
+        part,
+        after,
+    })
+}
+
+/// [`around_counted`] on a count that nobody reads.
+fn around_blank<'a, T: Part, L: Ledger>(
+    parts: &'a [T],
+    path: &[u8],
+    blank: Blank,
+) -> Option<Around<'a, T>>
+    requires name { blank.name ≡ L.name }
+    requires parts { blank.parts ≡ L.parts }
+    requires some { 0 < blank.parts }
+    requires order { AreItemsInOrder (flat_map T.items parts.now) }
+    ensures whole { IfSome result (λ around. parts.entry.now
+        ≡ around.before.now ++ around.part.now ∷ around.after.now) }
+    ensures before { IfSome result (λ around.
+        AreBefore path.now (flat_map T.items around.before.now)) }
+    ensures after { IfSome result (λ around.
+        AreAfter path.now (flat_map T.items around.after.now)) }
+    ensures none { IfNone result (parts.entry.now ≡ []) }
+{
+    let mut steps = Steps::<L>::new(blank);
+    around_counted(parts, path, &mut steps)
+}
+
+/// The part to which a path belongs.
+fn split_at_path<'a, T: Part>(parts: &'a [T], path: &[u8]) -> Option<Around<'a, T>>
+    requires { AreItemsInOrder (flat_map T.items parts.now) }
+    ensures whole { IfSome result (λ around. parts.entry.now
+        ≡ around.before.now ++ around.part.now ∷ around.after.now) }
+    ensures before { IfSome result (λ around.
+        AreBefore path.now (flat_map T.items around.before.now)) }
+    ensures after { IfSome result (λ around.
+        AreAfter path.now (flat_map T.items around.after.now)) }
+    ensures none { IfNone result (parts.entry.now ≡ []) }
+{
+    around_blank::<T, Brand>(parts, path, Blank::new(1))
+}
+
+/// The item at a path.
+pub(crate) fn find_in<'a, T: Part, L: Ledger>(
+    parts: &'a [T],
+    path: &[u8],
+    steps: &mut Steps<L>,
+) -> Option<&'a Item>
+    requires { AreItemsInOrder (flat_map T.items parts.now) }
+    ensures found { option_copied result
+        ≡ item_at (flat_map T.items parts.entry.now) path.now }
+    ensures cost { (b : ℕ) → length parts.entry.now < 2 ^ b
+        → steps.new ≤ steps.old + b + T.cost }
+{
+    match around_counted(parts, path, steps) {
+        Some(around) => around.part.find(path, steps),
+        None => None,
+    }
+}
+
+/// Appends the parts, which share their memory with these.
+pub(crate) fn share_all<T: Part>(parts: &[T], into: &mut Vec<T>) -> Mem<()>
+    ensures { OnOk result (into.new.items ≡ into.old.items ++ parts.now) }
+{
+    for part in parts {
+        let shared = part.share()?;
+        into.push(shared)?;
+    }
+    Ok(())
+}
+
+/// Appends a part, if there is one.
+fn push_some<T: Part>(into: &mut Vec<T>, part: Option<T>) -> Mem<()>
+    ensures items { OnOk result (into.new.items ≡ into.old.items ++ option_to_list part) }
+    ensures some { OnOk result (HaveItems T.items (option_to_list part)) }
+{
+    match part {
+        Some(part) => {
+            part.has_items();
+            into.push(part)?;
+            Ok(())
+        }
+        None => Ok(()),
+    }
+}
+
+/// The parts before and after, with these between them.
+fn joined<T: Part>(
+    alloc: Global,
+    before: &[T],
+    part: Option<T>,
+    more: Option<T>,
+    after: &[T],
+) -> Mem<Vec<T>>
+    ensures items { IfOk result (λ all. all.items
+        ≡ before.now ++ (option_to_list part ++ (option_to_list more ++ after.now))) }
+    ensures part { IfOk result (λ _. HaveItems T.items (option_to_list part)) }
+    ensures more { IfOk result (λ _. HaveItems T.items (option_to_list more)) }
+{
+    let length = before.len().saturating_add(after.len());
+    let mut all = Vec::with_capacity(alloc, length.saturating_add(2))?;
+    share_all(before, &mut all)?;
+    push_some(&mut all, part)?;
+    push_some(&mut all, more)?;
+    share_all(after, &mut all)?;
+    Ok(all)
+}
+
+/// The parts with this item: at most one more than before.
+pub(crate) fn put_in<T: Part>(alloc: Global, parts: &[T], item: &Item) -> Mem<Vec<T>>
+    requires { AreItemsInOrder (flat_map T.items parts.now) }
+    ensures items { IfOk result (λ all. flat_map T.items all.items
+        ≡ put_item (flat_map T.items parts.now) item.now) }
+    ensures few { IfOk result (λ all. length all.items ≤ length parts.now + 1) }
+    ensures each { IfOk result (λ all. HaveItems T.items parts.now
+        → HaveItems T.items all.items) }
+    ensures some { IfOk result (λ all. 0 < length all.items) }
+{
+    match split_at_path(parts, item.path()) {
+        Some(around) => {
+            let grown = around.part.put(alloc, item)?;
+            let (part, more) = (grown.part, grown.more);
+            let all = joined(alloc, around.before, Some(part), more, around.after)?;
+            Ok(all)
+        }
+        None => {
+            let part = T::single(alloc, item)?;
+            let all = joined(alloc, parts, Some(part), None, parts)?;
+            Ok(all)
+        }
+    }
+}
+
+/// The parts without the item at the path.
+pub(crate) fn without_in<T: Part>(alloc: Global, parts: &[T], path: &[u8]) -> Mem<Vec<T>>
+    requires { AreItemsInOrder (flat_map T.items parts.now) }
+    ensures items { IfOk result (λ all. flat_map T.items all.items
+        ≡ remove_item (flat_map T.items parts.now) path.now) }
+    ensures few { IfOk result (λ all. length all.items ≤ length parts.now) }
+    ensures each { IfOk result (λ all. HaveItems T.items parts.now
+        → HaveItems T.items all.items) }
+{
+    match split_at_path(parts, path) {
+        Some(around) => {
+            let part = around.part.without(alloc, path)?;
+            let all = joined(alloc, around.before, part, None, around.after)?;
+            Ok(all)
+        }
+        None => Ok(Vec::new(alloc)),
+    }
+}
+
+/// Appends the items below a text, of parts after it. It stops at the first part that isn't below.
+fn below_after<T: Part>(parts: &[T], prefix: &[u8], into: &mut Vec<Item>) -> Mem<()>
+    requires order { AreItemsInOrder (flat_map T.items parts.now) }
+    requires after { AreAfter prefix.now (flat_map T.items parts.now) }
+    ensures { OnOk result (into.new.items
+        ≡ into.old.items ++ items_below (flat_map T.items parts.now) prefix.now) }
+{
+    let Some((part, rest)) = parts.split_first() else {
+        return Ok(());
+    };
+    if !part.begins_below(prefix) {
+        return Ok(());
+    }
+    part.below(prefix, into)?;
+    below_after(rest, prefix, into)
+}
+
+/// Appends the items whose paths begin with a text.
+pub(crate) fn below_in<T: Part>(parts: &[T], prefix: &[u8], into: &mut Vec<Item>) -> Mem<()>
+    requires { AreItemsInOrder (flat_map T.items parts.now) }
+    ensures { OnOk result (into.new.items
+        ≡ into.old.items ++ items_below (flat_map T.items parts.now) prefix.now) }
+{
+    let Some(around) = split_at_path(parts, prefix) else {
+        return Ok(());
+    };
+    around.part.below(prefix, into)?;
+    below_after(around.after, prefix, into)?;
+    Ok(())
+}

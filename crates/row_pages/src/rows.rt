@@ -1,0 +1,165 @@
+//! [`Rows`]: items in byte order of their paths.
+ghost use Rattle.std.specs.Prelude.{◌≡◌, ◌+◌, ◌<◌, ◌≤◌, ◌^◌, [], ℕ, List, IfOk, length, option_copied};
+ghost use Rattle.row_pages.specs.Items.{AreItemsInOrder, Placed, item_at, put_item, remove_item};
+ghost use Rattle.row_pages.specs.Items.{items_below};
+
+use crate::item::Item;
+use crate::node::{Node, push_nodes};
+use crate::part::Part;
+use crate::parts::{below_in, find_in, put_in, share_all, without_in};
+use crate::steps::Steps;
+use pod_base::{Mem, NoMemory};
+use std::alloc::Global;
+use std::marker::{Brand, Model};
+use std::sync::ledger::{Blank, Ledger};
+
+/// Items in byte order of the paths of their rows, each path once. It isn't changed: a change makes
+/// new pages where items changed, and shares the others.
+#[derive(Drop)]
+pub struct Rows {
+    books: Vec<Node<Node<Item>>>,
+    len: usize,
+}
+
+impl Model for Rows {
+    ghost use Rattle.std.specs.Prelude.{List};
+    ghost use Rattle.row_pages.specs.Items.{Placed};
+    ghost use Rattle.row_pages.specs.Nodes.{IsShelf};
+    ghost use Rattle.row_pages.specs.Parts.{all_items};
+
+    ghost Value = { List Placed };
+
+    ghost view = { λ rows. all_items rows.books.items };
+
+    ghost invariant = { λ rows. IsShelf rows.books.items rows.len };
+}
+
+impl Rows {
+    /// Of these items.
+    pub fn of(alloc: Global, items: &[Item]) -> Mem<Rows>
+        requires { AreItemsInOrder items.now }
+        ensures { IfOk result (λ rows. rows ≡ items.now) }
+    {
+        let mut pages = Vec::new(alloc);
+        push_nodes(alloc, items, &mut pages)?;
+        let mut books = Vec::new(alloc);
+        push_nodes(alloc, pages.as_slice(), &mut books)?;
+        Ok(Rows {
+            books,
+            len: items.len(),
+        })
+    }
+
+    /// How many items there are.
+    pub fn len(&self) -> usize
+        ensures { result ≡ length self.now }
+    {
+        self.len
+    }
+
+    /// Each path is there once, in byte order. It does nothing.
+    pub fn are_in_order(&self)
+        ensures { AreItemsInOrder self.now }
+    {
+        let _books = self.books.as_slice();
+    }
+
+    /// The item at a path. `steps` counts the paths that are read: at most 15 more than the binary
+    /// digits of the number of items.
+    pub fn find_counted<L: Ledger>(&self, path: &[u8], steps: &mut Steps<L>) -> Option<&Item>
+        ensures found { option_copied result ≡ item_at self.now path.now }
+        ensures cost { (b : ℕ) → length self.now < 2 ^ b → steps.new ≤ steps.old + b + 15 }
+    {
+        find_in(self.books.as_slice(), path, steps)
+    }
+
+    /// [`Rows::find_counted`] on a count that nobody reads.
+    fn find_blank<L: Ledger>(&self, path: &[u8], blank: Blank) -> Option<&Item>
+        requires name { blank.name ≡ L.name }
+        requires parts { blank.parts ≡ L.parts }
+        requires some { 0 < blank.parts }
+        ensures { option_copied result ≡ item_at self.now path.now }
+    {
+        let mut steps = Steps::<L>::new(blank);
+        self.find_counted(path, &mut steps)
+    }
+
+    /// The item at a path.
+    pub fn find(&self, path: &[u8]) -> Option<&Item>
+        ensures { option_copied result ≡ item_at self.now path.now }
+    {
+        self.find_blank::<Brand>(path, Blank::new(1))
+    }
+
+    /// Equal items, which share all memory.
+    pub fn share(&self, alloc: Global) -> Mem<Rows>
+        ensures { IfOk result (λ rows. rows ≡ self.now) }
+    {
+        let mut books = Vec::with_capacity(alloc, self.books.len())?;
+        share_all(self.books.as_slice(), &mut books)?;
+        Ok(Rows {
+            books,
+            len: self.len,
+        })
+    }
+
+    /// How many items there are with this one.
+    fn len_with(&self, item: &Item) -> Mem<usize>
+        ensures { IfOk result (λ len. len ≡ length (put_item self.now item.now)) }
+    {
+        match self.find(item.path()) {
+            Some(_) => Ok(self.len),
+            None => {
+                let len = next(self.len)?;
+                Ok(len)
+            }
+        }
+    }
+
+    /// How many items there are without the one at a path.
+    fn len_without(&self, path: &[u8]) -> usize
+        ensures { result ≡ length (remove_item self.now path.now) }
+    {
+        match self.find(path) {
+            Some(_) => self.len.saturating_sub(1),
+            None => self.len,
+        }
+    }
+
+    /// The items with this one, which replaces the one at its path.
+    pub fn put(&self, alloc: Global, item: &Item) -> Mem<Rows>
+        ensures { IfOk result (λ rows. rows ≡ put_item self.now item.now) }
+    {
+        let len = self.len_with(item)?;
+        let books = put_in(alloc, self.books.as_slice(), item)?;
+        Ok(Rows { books, len })
+    }
+
+    /// The items without the one at a path.
+    pub fn without(&self, alloc: Global, path: &[u8]) -> Mem<Rows>
+        ensures { IfOk result (λ rows. rows ≡ remove_item self.now path.now) }
+    {
+        let len = self.len_without(path);
+        let books = without_in(alloc, self.books.as_slice(), path)?;
+        Ok(Rows { books, len })
+    }
+
+    /// The items whose paths begin with a text, in order. Other pages aren't read.
+    pub fn below(&self, alloc: Global, prefix: &[u8]) -> Mem<Vec<Item>>
+        ensures { IfOk result (λ items. items.items ≡ items_below self.now prefix.now) }
+    {
+        let mut items = Vec::new(alloc);
+        below_in(self.books.as_slice(), prefix, &mut items)?;
+        Ok(items)
+    }
+}
+
+/// One more.
+fn next(len: usize) -> Mem<usize>
+    ensures { IfOk result (λ next. next ≡ len + 1) }
+{
+    match len.checked_add(1) {
+        Some(next) => Ok(next),
+        None => Err(NoMemory),
+    }
+}

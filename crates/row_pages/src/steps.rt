@@ -1,0 +1,42 @@
+//! [`Steps`]: a count of the paths that a search reads.
+ghost use Rattle.std.specs.Prelude.{◌≡◌, ◌+◌, ◌<◌};
+
+use std::marker::Model;
+use std::sync::ledger::{Blank, Book, Ledger, Share};
+
+/// How many paths of rows were read. It takes no bytes, and only [`Steps::tick`] changes it.
+#[derive(Drop)]
+pub struct Steps<L: Ledger> {
+    book: Book<L>,
+    share: Share<L>,
+}
+
+impl<L: Ledger> Model for Steps<L> {
+    ghost use Rattle.std.specs.Prelude.{ℕ, ◌<◌};
+
+    ghost Value = { ℕ };
+
+    ghost view = { λ s. s.book.total };
+
+    ghost invariant = { λ s. 0 < s.share.parts };
+}
+
+impl<L: Ledger> Steps<L> {
+    /// A count at 0. A caller takes `Blank::new(1)` for it.
+    pub fn new(blank: Blank) -> Steps<L>
+        requires name { blank.name ≡ L.name }
+        requires parts { blank.parts ≡ L.parts }
+        requires some { 0 < blank.parts }
+        ensures { result ≡ 0 }
+    {
+        let (book, share) = blank.open::<L>();
+        Steps { book, share }
+    }
+
+    /// One more path was read.
+    pub fn tick(&mut self)
+        ensures { self.new ≡ self.old + 1 }
+    {
+        self.book.add(&mut self.share, 1);
+    }
+}
