@@ -1,66 +1,20 @@
-//! Cases of `rdf_graph`: graphs, changes and patches. A graph or a list of patterns is a field of three words for each
-//! triple, and `;` after each but the last. A word begins with `<` for an IRI (a name without `http:` is one of
-//! e.example), `_` for a label, `"` for an integer, `'` for a plain string and `?` for a variable. Any other
-//! word is a text in English.
+//! Cases of `rdf_graph`: graphs, changes and patches. A graph or a list of patterns is a field of
+//! three words for each triple, and `;` after each but the last. A word is one of `marked_term`,
+//! where `"` begins an integer, or begins with `?` for a variable.
 
 use crate::patches;
 use case_lines::{shown_whole, text};
-use iri_ref::{Iri, IriFault};
+use case_values::{known, marked_graph, marked_term, triples_text};
 use pod_base::{List, Mem, NoMemory, Text};
+use rdf_graph::vocabulary::XSD_INTEGER;
 use rdf_graph::{
     Found, Graph, Patch, PatchFault, Pattern, Slot, Term, Triple, changed, instantiate, solutions,
 };
 use std::alloc::{AllocError, Global};
 
-/// The term of an IRI, or of a label where the text is no IRI.
-fn iri_term(alloc: Global, text: &str) -> Mem<Term> {
-    match Iri::read(alloc, text) {
-        Ok(iri) => Ok(Term::Iri(iri)),
-        Err(IriFault::NoMemory) => Err(NoMemory),
-        Err(IriFault::BadReference) => Ok(Term::Blank(Text::of(alloc, text)?)),
-    }
-}
-
-fn named(alloc: Global, name: &str) -> Mem<Term> {
-    if name.starts_with("http:") {
-        return iri_term(alloc, name);
-    }
-    let text = format!(in alloc; "http://e.example/{name}")?;
-    iri_term(alloc, text.as_str())
-}
-
-/// A literal of a datatype of XML Schema.
-fn literal(alloc: Global, lexical: &str, datatype: &str) -> Mem<Term> {
-    let datatype = format!(in alloc; "http://www.w3.org/2001/XMLSchema#{datatype}")?;
-    let lexical = Text::of(alloc, lexical)?;
-    match Iri::read(alloc, datatype.as_str()) {
-        Ok(datatype) => Ok(Term::Literal { lexical, datatype }),
-        Err(_) => Err(NoMemory),
-    }
-}
-
-fn term_of(alloc: Global, text: &str) -> Mem<Term> {
-    if let Some(name) = text.strip_prefix("<") {
-        return named(alloc, name);
-    }
-    if let Some(label) = text.strip_prefix("_") {
-        return Ok(Term::Blank(Text::of(alloc, label)?));
-    }
-    if let Some(number) = text.strip_prefix("\"") {
-        return literal(alloc, number, "integer");
-    }
-    if let Some(string) = text.strip_prefix("'") {
-        return literal(alloc, string, "string");
-    }
-    Ok(Term::Tagged {
-        lexical: Text::of(alloc, text)?,
-        lang: Text::of(alloc, "en")?,
-    })
-}
-
+/// The term of a word.
 fn term(alloc: Global, word: &str) -> Mem<Term> {
-    let text = text(alloc, word)?;
-    term_of(alloc, text.as_str())
+    marked_term(alloc, word, XSD_INTEGER)
 }
 
 fn slot(alloc: Global, word: &str) -> Mem<Slot> {
@@ -88,30 +42,7 @@ pub(crate) fn patterns(alloc: Global, field: &str) -> Mem<List<Pattern>> {
 
 /// The graph of a field, without what is no triple of RDF.
 pub(crate) fn graph(alloc: Global, field: &str) -> Mem<Graph> {
-    let mut graph = Graph::new(alloc);
-    for row in field.split(';') {
-        let mut words = row.split(' ');
-        if let (Some(s), Some(p), Some(o)) = (words.next(), words.next(), words.next()) {
-            let triple = Triple {
-                s: term(alloc, s)?,
-                p: term(alloc, p)?,
-                o: term(alloc, o)?,
-            };
-            if triple.is_rdf() {
-                graph.insert(alloc, triple)?;
-            }
-        }
-    }
-    Ok(graph)
-}
-
-/// The text of triples, as it is shown.
-pub(crate) fn lines(alloc: Global, triples: &[Triple]) -> Mem<String> {
-    let mut text = Vec::new(alloc);
-    for triple in triples {
-        triple.append_to(alloc, &mut text)?;
-    }
-    Ok(shown_whole(alloc, text.as_slice())?)
+    marked_graph(alloc, field, XSD_INTEGER)
 }
 
 fn patch_fault(alloc: Global, fault: PatchFault) -> Mem<String> {
@@ -129,7 +60,7 @@ fn patched(alloc: Global, graph: &Graph, patch: &Patch) -> Mem<String> {
     match instantiate(alloc, graph, patch) {
         Ok(change) => {
             let new = changed(alloc, graph, &change.copy(alloc)?)?;
-            lines(alloc, new.as_slice())
+            triples_text(alloc, new.as_slice())
         }
         Err(fault) => patch_fault(alloc, fault),
     }
@@ -180,7 +111,7 @@ fn matching(alloc: Global, old: &str, words: [&str; 3]) -> Mem<String> {
     let (s, p, o) = (wanted(alloc, s)?, wanted(alloc, p)?, wanted(alloc, o)?);
     let graph = graph(alloc, old)?;
     let found = graph.matching(alloc, s.as_ref(), p.as_ref(), o.as_ref())?;
-    lines(alloc, found.as_slice())
+    triples_text(alloc, found.as_slice())
 }
 
 /// The triples that a walk gives.
@@ -198,14 +129,14 @@ fn walk(alloc: Global, old: &str, words: [&str; 3]) -> Mem<String> {
 /// The list of a graph: how many triples it has, and which.
 fn list(alloc: Global, old: &str) -> Mem<String> {
     let list = graph(alloc, old)?.into_list();
-    let lines = lines(alloc, list.as_slice())?;
+    let lines = triples_text(alloc, list.as_slice())?;
     Ok(format!(in alloc; "{} [{lines}]", list.len())?)
 }
 
 /// The graph of the list of a graph.
 fn in_order(alloc: Global, old: &str) -> Mem<String> {
     let graph = Graph::in_order(graph(alloc, old)?.into_list());
-    let lines = lines(alloc, graph.as_slice())?;
+    let lines = triples_text(alloc, graph.as_slice())?;
     Ok(format!(in alloc; "{} [{lines}]", graph.len())?)
 }
 
@@ -224,7 +155,7 @@ fn compare(alloc: Global, one: &str, other: &str) -> Mem<String> {
 
 fn call(alloc: Global, case: &[&str]) -> Mem<String> {
     match case {
-        ["text", only] => lines(alloc, graph(alloc, only)?.as_slice()),
+        ["text", only] => triples_text(alloc, graph(alloc, only)?.as_slice()),
         ["size", only] => Ok(format!(in alloc; "{}", graph(alloc, only)?.encoded_size())?),
         ["patch", old, conditions, deletions, insertions] => {
             patch(alloc, old, [conditions, deletions, insertions])
@@ -242,8 +173,5 @@ fn call(alloc: Global, case: &[&str]) -> Mem<String> {
 
 /// What `rdf_graph` returns for a call and its arguments.
 pub(crate) fn answer(alloc: Global, case: &[&str]) -> Result<String, AllocError> {
-    match call(alloc, case) {
-        Ok(answer) => Ok(answer),
-        Err(NoMemory) => Err(AllocError),
-    }
+    known(call(alloc, case))
 }
