@@ -13,5 +13,6 @@ pub mod Waiting
 pub mod OneProduced
 pub mod Naming
 pub mod NamingSteps
+pub mod FirstSymbols
 pub mod OneTree
 pub mod Strings

@@ -9,7 +9,7 @@ use Rattle.turtle_grammar.specs.declared.symbol.Symbol.TheVariants.{Token, Inser
 use Rattle.turtle_grammar.specs.Trees.{Iri, iri_ref, pname_ln, pname_ns}
 use Rattle.turtle_grammar.specs.Trees.{Literal, string, tagged_string, typed_string, integer}
 use Rattle.turtle_grammar.specs.Trees.{decimal, double, true_word, false_word}
-use Rattle.turtle_grammar.specs.Trees.{Verb, predicate, a_word, verb_variable}
+use Rattle.turtle_grammar.specs.Trees.{a_word}
 use Rattle.turtle_grammar.specs.Trees.{Subject, subject_iri, subject_label, subject_anon}
 use Rattle.turtle_grammar.specs.Trees.{subject_collection, subject_variable}
 use Rattle.turtle_grammar.specs.Trees.{Object, iri, label, anon, collection, property_list}
@@ -21,7 +21,7 @@ use Rattle.turtle_grammar.specs.Trees.{Statement, at_prefix, at_base, sparql_pre
 use Rattle.turtle_grammar.specs.Trees.{statement, Operation, insert_data, delete_data}
 use Rattle.turtle_grammar.specs.Trees.{Update, no_operation, update_base, update_prefix}
 use Rattle.turtle_grammar.specs.Trees.{last_operation, operation_and}
-use Rattle.turtle_grammar.specs.TreeSymbols.{iri_symbol, literal_symbols, verb_symbol}
+use Rattle.turtle_grammar.specs.TreeSymbols.{iri_symbol, literal_symbols}
 use Rattle.turtle_grammar.specs.TreeSymbols.{subject_symbols, object_symbols, element_symbols}
 use Rattle.turtle_grammar.specs.TreeSymbols.{other_symbols, list_symbols, property_symbols}
 use Rattle.turtle_grammar.specs.TreeSymbols.{triples_symbols, formula_symbols, tail_symbols}
@@ -29,146 +29,10 @@ use Rattle.turtle_grammar.specs.TreeSymbols.{statement_symbols, document_symbols
 use Rattle.turtle_grammar.specs.TreeSymbols.{operation_symbols, update_symbols}
 use Rattle.turtle_grammar.specs.Derivations.{Tree, tree_symbols}
 use Rattle.turtle_grammar.specs.Stacks.{adds_to_string}
-
-clash : true ≡ false → ⊥
-clash e = cc
-
--- the first symbol, or one that begins and continues nothing, and what follows it
-abbrev head : List Symbol → Symbol
-head [] = Data
-head (x ∷ xs) = x
-
-abbrev tail : List Symbol → List Symbol
-tail [] = []
-tail (x ∷ xs) = xs
-
--- the symbols that continue what precedes them: objects, and predicateObjectLists
-abbrev adds_object : Symbol → Bool
-adds_object (Token kind.LangTag) = true
-adds_object (Token kind.Carets) = true
-adds_object (Token kind.Comma) = true
-adds_object t = false
-
-abbrev adds_list : Symbol → Bool
-adds_list (Token kind.LangTag) = true
-adds_list (Token kind.Carets) = true
-adds_list (Token kind.Comma) = true
-adds_list (Token kind.Semicolon) = true
-adds_list (Token kind.IriRef) = true
-adds_list (Token kind.PnameLn) = true
-adds_list (Token kind.PnameNs) = true
-adds_list (Token kind.A) = true
-adds_list (Token kind.Variable) = true
-adds_list t = false
-
-abbrev is_verb : Symbol → Bool
-is_verb (Token kind.IriRef) = true
-is_verb (Token kind.PnameLn) = true
-is_verb (Token kind.PnameNs) = true
-is_verb (Token kind.A) = true
-is_verb (Token kind.Variable) = true
-is_verb t = false
-
-object_string : (t : Symbol) → adds_object t ≡ false → adds_to_string t ≡ false
-object_string (Token kind.LangTag) e = absurd (clash e)
-object_string (Token kind.Carets) e = absurd (clash e)
-object_string t e = refl
-
-list_object : (t : Symbol) → adds_list t ≡ false → adds_object t ≡ false
-list_object (Token kind.LangTag) e = absurd (clash e)
-list_object (Token kind.Carets) e = absurd (clash e)
-list_object (Token kind.Comma) e = absurd (clash e)
-list_object t e = refl
-
-verb_list : (t : Symbol) → is_verb t ≡ true → adds_list t ≡ false → ⊥
-verb_list (Token kind.IriRef) v e = clash e
-verb_list (Token kind.PnameLn) v e = clash e
-verb_list (Token kind.PnameNs) v e = clash e
-verb_list (Token kind.A) v e = clash e
-verb_list (Token kind.Variable) v e = clash e
-verb_list t v e = clash (sym v)
-
--- An IRI, a verb and a literal are those of their first symbols.
-abbrev iri_of : Symbol → Iri
-iri_of (Token kind.IriRef) = iri_ref
-iri_of (Token kind.PnameLn) = pname_ln
-iri_of t = pname_ns
-
-iri_back : (i : Iri) → iri_of (iri_symbol i) ≡ i
-iri_back iri_ref = refl
-iri_back pname_ln = refl
-iri_back pname_ns = refl
-
-abbrev verb_of : Symbol → Verb
-verb_of (Token kind.A) = a_word
-verb_of (Token kind.Variable) = verb_variable
-verb_of t = predicate (iri_of t)
-
-verb_back : (v : Verb) → verb_of (verb_symbol v) ≡ v
-verb_back (predicate iri_ref) = refl
-verb_back (predicate pname_ln) = refl
-verb_back (predicate pname_ns) = refl
-verb_back a_word = refl
-verb_back verb_variable = refl
-
-verb_is : (v : Verb) → is_verb (verb_symbol v) ≡ true
-verb_is (predicate iri_ref) = refl
-verb_is (predicate pname_ln) = refl
-verb_is (predicate pname_ns) = refl
-verb_is a_word = refl
-verb_is verb_variable = refl
-
-same_verb : (v w : Verb) → verb_symbol v ≡ verb_symbol w → v ≡ w
-same_verb v w e = sym (verb_back v) ∙ ap verb_of e ∙ verb_back w
-
-abbrev string_of : Symbol → Symbol → Literal
-string_of (Token kind.LangTag) i = tagged_string
-string_of (Token kind.Carets) i = typed_string (iri_of i)
-string_of t i = string
-
-abbrev literal_of : Symbol → Symbol → Symbol → Literal
-literal_of (Token kind.Quoted) t i = string_of t i
-literal_of (Token kind.Integer) t i = integer
-literal_of (Token kind.Decimal) t i = decimal
-literal_of (Token kind.Double) t i = double
-literal_of (Token kind.True) t i = true_word
-literal_of x t i = false_word
-
-abbrev literal_from : List Symbol → Literal
-literal_from ts = literal_of (head ts) (head (tail ts)) (head (tail (tail ts)))
-
-plain_string : (t i : Symbol) → adds_to_string t ≡ false → string_of t i ≡ string
-plain_string (Token kind.LangTag) i e = absurd (clash e)
-plain_string (Token kind.Carets) i e = absurd (clash e)
-plain_string t i e = refl
-
-literal_back : (l : Literal) (r : List Symbol) → adds_to_string (head r) ≡ false → literal_from (literal_symbols l r) ≡ l
-literal_back string r e = plain_string (head r) (head (tail r)) e
-literal_back tagged_string r e = refl
-literal_back (typed_string iri_ref) r e = refl
-literal_back (typed_string pname_ln) r e = refl
-literal_back (typed_string pname_ns) r e = refl
-literal_back integer r e = refl
-literal_back decimal r e = refl
-literal_back double r e = refl
-literal_back true_word r e = refl
-literal_back false_word r e = refl
-
-literal_rest : (l : Literal) (r r' : List Symbol) → literal_symbols l r ≡ literal_symbols l r' → r ≡ r'
-literal_rest string r r' e = ap tail e
-literal_rest tagged_string r r' e = ap (λ z. tail (tail z)) e
-literal_rest (typed_string i) r r' e = ap (λ z. tail (tail (tail z))) e
-literal_rest integer r r' e = ap tail e
-literal_rest decimal r r' e = ap tail e
-literal_rest double r r' e = ap tail e
-literal_rest true_word r r' e = ap tail e
-literal_rest false_word r r' e = ap tail e
-
-same_literal : (l k : Literal) (r r' : List Symbol) → adds_to_string (head r) ≡ false → adds_to_string (head r') ≡ false
-    → literal_symbols l r ≡ literal_symbols k r' → (l ≡ k) × (r ≡ r')
-same_literal l k r r' c c' e =
-    let is : l ≡ k = sym (literal_back l r c) ∙ ap literal_from e ∙ literal_back k r' c' in
-    (is, literal_rest l r r' (e ∙ ap (λ z. literal_symbols z r') (sym is)))
+use Rattle.turtle_grammar.proofs.FirstSymbols.{clash, head, tail, adds_object, adds_list}
+use Rattle.turtle_grammar.proofs.FirstSymbols.{is_verb, object_string, list_object, verb_list, iri_of}
+use Rattle.turtle_grammar.proofs.FirstSymbols.{verb_is, same_verb}
+use Rattle.turtle_grammar.proofs.FirstSymbols.{same_literal}
 
 -- the first symbol of a tree
 abbrev literal_head : Literal → Symbol
