@@ -54,9 +54,9 @@ fn append_who(into: &mut Vec<u8>, who: &Who) -> Mem<()>
     Ok(())
 }
 
-/// Appends a basis: the path of the access list, `|`, the node of the rule as the text of a graph has
-/// it, `|`, and `agent`, `everyone`, `authenticated`, or `group:` and the group's IRI. After an `Err`
-/// only a part may have been appended.
+/// Appends a basis: the path of the access list, `|`, the node of the rule as the text of a graph
+/// has it, `|`, and `agent`, `everyone`, `authenticated`, or `group:` and the group's IRI. After an
+/// `Err` only a part may have been appended.
 pub fn append_basis(alloc: Global, into: &mut Vec<u8>, basis: &Basis) -> Mem<()>
     ensures { OnOk result (into.new.items ≡ into.old.items ++ spec.basis_text basis.now) }
 {

@@ -8,7 +8,8 @@
 //! ```
 //!
 //! Proved: [`session_line`] and [`entry_line`] are the definitions of these names, and
-//! [`append_basis`] appends `basis_text`. A line is written once, into memory that is taken at once.
+//! [`append_basis`] appends `basis_text`. A line is written once, into memory that is taken at
+//! once.
 //!
 //! It stands on `pod_command`, on `rdf_graph` and `turtle_write` for the text of a rule, on
 //! `percent_encoding` and on `itoa`.

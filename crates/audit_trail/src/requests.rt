@@ -29,7 +29,8 @@ fn session_len(place: u64, moment: Moment, agent: &Agent, request: &Request, sta
 /// Appends a space, the target, and the status with the end of the line.
 fn append_outcome(line: &mut Vec<u8>, target: &[u8], status: u16) -> Mem<()>
     ensures { OnOk result (line.new.items
-        ≡ line.old.items ++ (32 ∷ (spec.target_word target.now ++ 32 ∷ (decimal status ++ 10 ∷ [])))) }
+        ≡ line.old.items
+        ++ (32 ∷ (spec.target_word target.now ++ 32 ∷ (decimal status ++ 10 ∷ [])))) }
 {
     let mut digits = Buffer::new();
     line.push(b' ')?;
@@ -41,10 +42,10 @@ fn append_outcome(line: &mut Vec<u8>, target: &[u8], status: u16) -> Mem<()>
 
 /// The line of a request that was answered at a place of the history.
 ///
-/// It has the place, the moment, the agent, the method, the target and the status, one space between,
-/// and ends in LF. Anybody is `-`, also who asked with a token that was refused. A method that the
-/// server doesn't know is `OTHER`. Bytes of the target outside `!` to `~` are escaped by `%` and two
-/// upper-case digits.
+/// It has the place, the moment, the agent, the method, the target and the status, one space
+/// between, and ends in LF. Anybody is `-`, also who asked with a token that was refused. A method
+/// that the server doesn't know is `OTHER`. Bytes of the target outside `!` to `~` are escaped by
+/// `%` and two upper-case digits.
 pub fn session_line(
     alloc: Global,
     place: u64,
@@ -53,7 +54,8 @@ pub fn session_line(
     request: &Request,
     status: u16,
 ) -> Mem<Bytes>
-    ensures { IfOk result (λ line. line ≡ spec.session_line place moment agent.now request.now status) }
+    ensures { IfOk result
+        (λ line. line ≡ spec.session_line place moment agent.now request.now status) }
 {
     let len = session_len(place, moment, agent, request, status);
     let mut line = Vec::with_capacity(alloc, len)?;

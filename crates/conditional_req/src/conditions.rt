@@ -1,9 +1,12 @@
 //! [`Conditions`]: the precondition fields of a request.
 
-ghost use Rattle.std.specs.Prelude.{◌≡◌, ◌||◌, IfOk};
+ghost use Rattle.std.specs.Prelude.{◌≡◌, ◌&&◌, ◌||◌, false, IfOk};
 ghost use Rattle.field_list.specs.Joined.{joined_value};
 ghost use Rattle.conditional_req.specs.Conditions as spec;
+ghost use Rattle.conditional_req.specs.Verdicts.{IgnoresState, IgnoresTags};
+ghost use Rattle.conditional_req.specs.Verdicts.{compares_tags, lists_tags};
 
+use crate::tag_list::{are_tags, is_any};
 use field_list::joined_value;
 use httpdate::HttpDate;
 use pod_base::{Bytes, Field, Fields, Mem};
@@ -99,16 +102,55 @@ pub fn read_conditions(alloc: Global, fields: &Fields) -> Mem<Conditions>
     })
 }
 
+/// Whether a value lists tags: it is neither `*` nor malformed.
+fn lists_tags(value: &Option<Bytes>) -> bool
+    ensures { result ≡ lists_tags value.now }
+{
+    match value {
+        Some(value) => !is_any(value.as_slice()) && are_tags(value.as_slice()),
+        None => false,
+    }
+}
+
+/// Whether some field has another value than `*`.
+fn has_other_value(conditions: &Conditions) -> bool
+    ensures { result ≡ spec.needs_read conditions.now }
+{
+    conditions
+        .fields
+        .list
+        .as_slice()
+        .iter()
+        .any(|field| field.value.as_slice() != b"*".as_slice())
+}
+
+/// Whether some field lists tags.
+fn has_list(conditions: &Conditions) -> bool
+    ensures { result ≡ compares_tags conditions.now }
+{
+    lists_tags(&conditions.matching) || lists_tags(&conditions.none_matching)
+}
+
 impl Conditions {
     /// Whether some field has another value than `*`: the verdict may then say something of the
     /// resource that only its readers may know.
     pub fn needs_read(&self) -> bool
-        ensures { result ≡ spec.needs_read self.now }
+        ensures value { result ≡ spec.needs_read self.now }
+
+        // Without such a field the verdict depends on whether the resource exists, and on no more.
+        ensures ignores { result ≡ false → IgnoresState self.now }
     {
-        self.fields
-            .list
-            .as_slice()
-            .iter()
-            .any(|field| field.value.as_slice() != b"*".as_slice())
+        has_other_value(self)
+    }
+
+    /// Whether some field lists tags, so that the tags of the resource are compared with. `*` and a
+    /// malformed list need none.
+    pub fn compares_tags(&self) -> bool
+        ensures value { result ≡ compares_tags self.now }
+
+        // Without such a field the verdict is the same whatever the tags are.
+        ensures ignores { result ≡ false → IgnoresTags self.now }
+    {
+        has_list(self)
     }
 }

@@ -1,8 +1,9 @@
 //! The verdict on a request's preconditions (RFC 9110, section 13.2.2).
 
 ghost use Rattle.std.specs.Prelude.{◌≡◌, ◌&&◌, ◌||◌, Option, None, Some};
-ghost use Rattle.std.specs.Option.{option_copied};
+ghost use Rattle.std.specs.Option.{option_copied, option_map};
 ghost use Rattle.conditional_req.specs.Verdicts as verdicts;
+ghost use Rattle.conditional_req.specs.Verdicts.{validators_of};
 
 use crate::conditions::Conditions;
 use crate::tag::Tag;
@@ -31,7 +32,8 @@ pub enum Verdict {
 
 /// The tags to compare with; none without a resource.
 fn tags_of<'a>(current: Option<&Current<'a>>) -> &'a [Tag]
-    ensures { result.now ≡ verdicts.tags_of (option_copied current.entry) }
+    ensures { result.now ≡ verdicts.tags_of
+        (option_map validators_of (option_copied current.entry)) }
 {
     match current {
         Some(current) => current.tags,
@@ -42,7 +44,8 @@ fn tags_of<'a>(current: Option<&Current<'a>>) -> &'a [Tag]
 /// Whether If-Match fails: `*` without a resource, a list without a strongly equal tag, or a
 /// malformed value.
 fn match_fails(matching: &Option<Bytes>, current: Option<&Current>) -> bool
-    ensures { result ≡ verdicts.match_fails matching.now (option_copied current.entry) }
+    ensures { result ≡ verdicts.match_fails matching.now
+        (option_map validators_of (option_copied current.entry)) }
 {
     match matching {
         Some(value) => {
@@ -59,7 +62,8 @@ fn match_fails(matching: &Option<Bytes>, current: Option<&Current>) -> bool
 
 /// Whether the resource was changed after a date, if there are both.
 fn is_later(date: Option<u64>, current: Option<&Current>) -> bool
-    ensures { result ≡ verdicts.is_later date (option_copied current.entry) }
+    ensures { result ≡ verdicts.is_later date
+        (option_map validators_of (option_copied current.entry)) }
 {
     match current {
         Some(current) => match date {
@@ -72,7 +76,8 @@ fn is_later(date: Option<u64>, current: Option<&Current>) -> bool
 
 /// Whether the resource wasn't changed after a date, if there are both.
 fn is_not_later(date: Option<u64>, current: Option<&Current>) -> bool
-    ensures { result ≡ verdicts.is_not_later date (option_copied current.entry) }
+    ensures { result ≡ verdicts.is_not_later date
+        (option_map validators_of (option_copied current.entry)) }
 {
     match current {
         Some(current) => match date {
@@ -95,7 +100,8 @@ fn has_none_match(none_matching: &Option<Bytes>) -> bool
 
 /// Whether If-None-Match fails: `*` with a resource, or a list with a weakly equal tag.
 fn none_match_fails(none_matching: &Option<Bytes>, current: Option<&Current>) -> bool
-    ensures { result ≡ verdicts.none_match_fails none_matching.now (option_copied current.entry) }
+    ensures { result ≡ verdicts.none_match_fails none_matching.now
+        (option_map validators_of (option_copied current.entry)) }
 {
     match none_matching {
         Some(value) => {
@@ -127,7 +133,8 @@ fn is_reading(method: Method) -> bool
 
 /// Steps 1 and 2: If-Match, and without it If-Unmodified-Since.
 fn is_refused(conditions: &Conditions, current: Option<&Current>) -> bool
-    ensures { result ≡ verdicts.is_refused conditions.now (option_copied current.entry) }
+    ensures { result ≡ verdicts.is_refused conditions.now
+        (option_map validators_of (option_copied current.entry)) }
 {
     if conditions.matching.is_some() {
         match_fails(&conditions.matching, current)
@@ -138,7 +145,8 @@ fn is_refused(conditions: &Conditions, current: Option<&Current>) -> bool
 
 /// Steps 3 and 4: If-None-Match, and without it If-Modified-Since for GET and HEAD.
 fn is_known(conditions: &Conditions, method: Method, current: Option<&Current>) -> bool
-    ensures { result ≡ verdicts.is_known conditions.now method (option_copied current.entry) }
+    ensures { result ≡ verdicts.is_known conditions.now method
+        (option_map validators_of (option_copied current.entry)) }
 {
     if has_none_match(&conditions.none_matching) {
         none_match_fails(&conditions.none_matching, current)
@@ -153,7 +161,8 @@ fn is_known(conditions: &Conditions, method: Method, current: Option<&Current>) 
 /// If-Modified-Since. OPTIONS has no preconditions. A date that can't be read is ignored, and so is
 /// a malformed If-None-Match; a malformed If-Match fails.
 pub fn judge(conditions: &Conditions, method: Method, current: Option<&Current>) -> Verdict
-    ensures { result ≡ verdicts.verdict conditions.now method (option_copied current.entry) }
+    ensures { result ≡ verdicts.verdict conditions.now method
+        (option_map validators_of (option_copied current.entry)) }
 {
     if method == Method::Options {
         return Verdict::Go;

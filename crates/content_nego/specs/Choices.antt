@@ -1,5 +1,6 @@
 -- The choice between two offers by an Accept field (RFC 9110, section 12.5.1).
-use Rattle.std.specs.Prelude.{ℕ, ◌&&◌, ◌==◌, nat_lt, nat_le, if◌then◌else◌, List, [], ◌∷◌, Option, Some, None}
+use Rattle.std.specs.Prelude.{ℕ, ◌&&◌, ◌==◌, nat_lt, nat_le, if◌then◌else◌, List, [], ◌∷◌, Option}
+use Rattle.std.specs.Prelude.{Some, None}
 use Rattle.std.specs.List.{fold}
 use Rattle.content_nego.specs.MediaTypes.{Media, media_type, specificity}
 use Rattle.content_nego.specs.MediaRanges.{Range, ranges}

@@ -1,5 +1,6 @@
 -- The parameters of an element of an Accept field (RFC 9110, sections 5.6.6 and 12.4.2).
-use Rattle.std.specs.Prelude.{ℕ, Bool, false, ◌&&◌, ◌||◌, ◌==◌, if◌then◌else◌, List, length, map, drop, slice_get, Option, Some, None, codes}
+use Rattle.std.specs.Prelude.{ℕ, Bool, false, ◌&&◌, ◌||◌, ◌==◌, if◌then◌else◌, List, length, map}
+use Rattle.std.specs.Prelude.{drop, slice_get, Option, Some, None, codes}
 use Rattle.std.specs.List.{filter_map}
 use Rattle.std.specs.Option.{option_and_then, option_map_or}
 use Rattle.std.specs.Str.{str_eq_ignore_ascii_case}
@@ -18,7 +19,8 @@ parameters element = map trim_ows (drop 1 (parts Strings 59 element))
 abbrev pub name_and_value : List ℕ → Option Pair
 name_and_value text = two_parts Strings 61 text
 
--- a name, which is a token, and a value, which is a token or a quoted string; empty ones are skipped
+-- a name, which is a token, and a value, which is a token or a quoted string; empty ones are
+-- skipped
 abbrev pub is_parameter : List ℕ → Bool
 is_parameter text = length text == 0
     || option_map_or (λ p. is_token p.first && (is_token p.second || is_quoted_string p.second))

@@ -53,7 +53,8 @@ fn with_range(
     second: &Option<MediaType>,
     range: &MediaRange,
 ) -> Tally
-    ensures { result ≡ tallies.with_range (offer_view first.now) (offer_view second.now) tally (range_view range.now) }
+    ensures { result ≡ tallies.with_range (offer_view first.now) (offer_view second.now)
+        tally (range_view range.now) }
 {
     Tally {
         any: true,
@@ -69,7 +70,8 @@ fn with_element(
     second: &Option<MediaType>,
     element: &[u8],
 ) -> Tally
-    ensures { result ≡ tallies.with_found (offer_view first.now) (offer_view second.now) tally (spec.media_range element.now) }
+    ensures { result ≡ tallies.with_found (offer_view first.now) (offer_view second.now)
+        tally (spec.media_range element.now) }
 {
     match media_range(element) {
         Some(range) => with_range(tally, first, second, &range),
@@ -79,7 +81,8 @@ fn with_element(
 
 /// The tally of all elements of an Accept field.
 fn tally_of(accept: &[u8], first: &Option<MediaType>, second: &Option<MediaType>) -> Tally
-    ensures { result ≡ fold (tallies.with_range (offer_view first.now) (offer_view second.now)) tallies.start (spec.ranges accept.now) }
+    ensures { result ≡ fold (tallies.with_range (offer_view first.now) (offer_view second.now))
+        tallies.start (spec.ranges accept.now) }
 {
     let none = Best {
         specificity: 0,

@@ -6,8 +6,8 @@
 //! ```
 //!
 //! Proved: [`choose`] is the definition `choice`: the offer of the greatest quality, the first of
-//! equals, where the quality of an offer is that of its most specific range; none exactly where both
-//! have quality 0. It takes no memory and copies nothing.
+//! equals, where the quality of an offer is that of its most specific range; none exactly where
+//! both have quality 0. It takes no memory and copies nothing.
 //!
 //! It stands on `field_list`, which reads the list, and on `httparse` for its tokens.
 #![tactic(auto)]

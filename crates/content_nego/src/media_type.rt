@@ -39,8 +39,8 @@ fn is_wildcard(bytes: &[u8]) -> bool
     bytes == b"*".as_slice()
 }
 
-/// How specific a range is for a media type: 3 where it is the type, 2 where it has its type and any
-/// subtype, 1 where it is `*/*`, and 0 where it isn't a range of it.
+/// How specific a range is for a media type: 3 where it is the type, 2 where it has its type and
+/// any subtype, 1 where it is `*/*`, and 0 where it isn't a range of it.
 fn specificity_for(offer: &MediaType, range: &MediaType) -> u8
     ensures { result ≡ spec.specificity_for (media_view offer.now) (media_view range.now) }
 {

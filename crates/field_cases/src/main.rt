@@ -1,24 +1,27 @@
 //! Cases of a request's fields. It reads one case from each line of standard input, and prints the
-//! line with what the libraries answer as one more field. `stdin` has the cases, and `stdout` what is
-//! expected of them, worked out by hand from RFC 9110 and RFC 6455.
+//! line with what the libraries answer as one more field. `stdin` has the cases, and `stdout` what
+//! is expected of them, worked out by hand from RFC 9110 and RFC 6455.
 //!
 //! The first field names the kind of the case:
 //!
 //! | Fields | Answer |
 //! |---|---|
-//! | `strings` or `tags`, VALUE | the elements of a list, whose quotes are those of strings or tags |
+//! | `strings` or `tags`, VALUE | the elements of a list, with quotes of strings or of tags |
 //! | `accept` VALUE, or nothing | the choice between Turtle and JSON-LD |
 //! | `tag` TYPE BODY MARK | the tag of a representation |
-//! | `judge` METHOD SECOND MARKS FIELD.. | the verdict, where the resource was changed at that second and has tags with these marks; without a resource where SECOND is `none` |
+//! | `judge` METHOD SECOND MARKS FIELD.. | the verdict on preconditions |
 //! | `needs-read` FIELD.. | whether the preconditions need a reader |
 //! | `ranges` VALUE SIZE | the parts of a body |
 //! | `multipart` TYPE BODY VALUE | the boundary and the text of a response with several parts |
 //! | `stem` SLUG, or nothing | the stem of a slug, or without one |
-//! | `name` CONTAINER SLUG KIND ROW.. | the path of a new member, where KIND is `folder` for a container |
+//! | `name` CONTAINER SLUG KIND ROW.. | the path of a new member; `folder` is the KIND of containers |
 //! | `unnamed` CONTAINER KIND ROW.. | that without a slug |
 //! | `tokens` TABLE | whether a text is a token table |
 //! | `agent` TABLE FIELD.. | who makes a request |
 //! | `upgrade` KEY | the key that accepts an upgrade |
+//!
+//! The resource of `judge` was changed at SECOND and has tags with these MARKS. There is none where
+//! SECOND is `none`.
 #![tactic(auto)]
 
 mod accepts;

@@ -2,8 +2,9 @@
 //! zeros, a dash and that mark.
 
 use case_lines::{bytes, shown};
+use case_values::{known, method_of, number_of};
 use conditional_req::{Conditions, Current, Tag, judge, read_conditions, tag_of};
-use pod_base::{Bytes, Field, Fields, Mem, Method, Moment, NoMemory, Text};
+use pod_base::{Bytes, Field, Fields, Mem, Method, Moment, Text};
 use std::alloc::{AllocError, Global};
 
 /// The tag of a representation.
@@ -24,19 +25,6 @@ fn zeros(mark: u8) -> Tag {
     text[32] = b'-';
     text[33] = mark;
     Tag(text)
-}
-
-fn method_of(word: &str) -> Method {
-    match word {
-        "GET" => Method::Get,
-        "HEAD" => Method::Head,
-        "OPTIONS" => Method::Options,
-        "POST" => Method::Post,
-        "PUT" => Method::Put,
-        "PATCH" => Method::Patch,
-        "DELETE" => Method::Delete,
-        _ => Method::Other,
-    }
 }
 
 /// Appends a piece that follows a `$`: the tag of its mark, and what is after it.
@@ -94,7 +82,7 @@ fn verdict(
     }
     let current = Current {
         tags: tags.as_slice(),
-        modified: Moment(second.parse::<u64>().unwrap_or(0)),
+        modified: Moment(number_of(second)),
     };
     format!(in alloc; "{:?}", judge(conditions, method, Some(&current)))
 }
@@ -107,21 +95,15 @@ pub(crate) fn judged(
     marks: &str,
     lines: &[&str],
 ) -> Result<String, AllocError> {
-    match read(alloc, lines) {
-        Ok(conditions) => {
-            if second == "none" {
-                return format!(in alloc; "{:?}", judge(&conditions, method_of(word), None));
-            }
-            verdict(alloc, &conditions, method_of(word), second, marks)
-        }
-        Err(NoMemory) => Err(AllocError),
+    let conditions = known(read(alloc, lines))?;
+    if second == "none" {
+        return format!(in alloc; "{:?}", judge(&conditions, method_of(word), None));
     }
+    verdict(alloc, &conditions, method_of(word), second, marks)
 }
 
 /// Whether the preconditions of some lines need a reader.
 pub(crate) fn needs_read(alloc: Global, lines: &[&str]) -> Result<String, AllocError> {
-    match read(alloc, lines) {
-        Ok(conditions) => format!(in alloc; "{}", conditions.needs_read()),
-        Err(NoMemory) => Err(AllocError),
-    }
+    let conditions = known(read(alloc, lines))?;
+    format!(in alloc; "{}", conditions.needs_read())
 }

@@ -1,10 +1,12 @@
 -- Why a text spells no patch, and which fault is told.
 --
 -- A fault of syntax has an index: the number of tokens before it. The least index is the least position.
-use Rattle.std.specs.Prelude.{◌≡◌, ◌<◌, ◌≤◌, ◌⊎◌, ℕ, List, length}
+use Rattle.std.specs.Prelude.{◌≡◌, ◌<◌, ◌≤◌, ◌⊎◌, ℕ, List, length, Result, Ok, Err}
+use Rattle.rdf_graph.specs.declared.patch.Patch.{Patch}
 use Rattle.rdf_graph.specs.declared.size.TheConstants.{TRIPLES_LIMIT}
 use Rattle.turtle_lex.specs.declared.token.Token.{Token}
 use Rattle.turtle_grammar.specs.declared.symbol.Start.TheVariants as start_of
+use Rattle.turtle_terms.specs.declared.fault.TurtleKind.TheVariants as Why
 use Rattle.turtle_terms.specs.declared.fault.TurtleFault.{TurtleFault}
 use Rattle.turtle_terms.specs.declared.fault.TurtleFault.TheVariants as turtle
 use Rattle.turtle_reader.specs.Faults.{IsFaultAfter, rank}
@@ -13,9 +15,10 @@ use Rattle.turtle_text.specs.Faults.{Answer, AreFirst}
 use Rattle.n3_patch.specs.declared.fault.N3Fault.{N3Fault}
 use Rattle.n3_patch.specs.declared.fault.N3Fault.TheVariants.{Syntax, Constraint, TooLarge, NoMemory}
 use Rattle.n3_patch.specs.declared.triples.PatchTriple.{PatchTriple}
+use Rattle.n3_patch.specs.Laws.{SamePatch}
 use Rattle.n3_patch.specs.Rules.{IsFirstBroken, KeepsRules}
 use Rattle.n3_patch.specs.Size.{patch_size}
-use Rattle.n3_patch.specs.Spells.{SpellsTriples}
+use Rattle.n3_patch.specs.Spells.{SpellsTriples, PatchSpells}
 
 -- The fault is that of what comes after these tokens.
 abbrev pub IsFaultAt : List ℕ → List ℕ → List Token → Answer → TurtleFault → Type 0
@@ -58,3 +61,18 @@ IsN3Fault base bytes (Constraint rule) =
 IsN3Fault base bytes TooLarge = (triples : List PatchTriple) × HasSyntax base bytes triples
     × KeepsRules triples × (TRIPLES_LIMIT < patch_size triples)
 IsN3Fault base bytes NoMemory = Unit {0}
+
+-- no bracket is too deep
+abbrev pub IsShallow : List ℕ → List ℕ → Type 0
+IsShallow base bytes =
+    (index at : ℕ) → HasFaultAt base bytes index (turtle.Bad at Why.Depth) → ⊥
+
+-- this patch, or out of memory
+abbrev pub IsPatchOrNoMemory : Result Patch N3Fault → Patch → Type 0
+IsPatchOrNoMemory (Ok found) patch = SamePatch found patch
+IsPatchOrNoMemory (Err fault) patch = fault ≡ NoMemory
+
+-- Where the bytes spell a patch and no bracket is too deep, it is this patch, or out of memory.
+abbrev pub HasOnlyPatch : List ℕ → List ℕ → Result Patch N3Fault → Type 0
+HasOnlyPatch base bytes result = (patch : Patch) → PatchSpells base bytes patch
+    → IsShallow base bytes → IsPatchOrNoMemory result patch

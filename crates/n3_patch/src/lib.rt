@@ -12,7 +12,8 @@
 //! `spells`), else the first fault of syntax, else the first broken rule, and `TooLarge` last (clause
 //! `fault`, `IsN3Fault` of `specs/Faults.antt`). [`judge`] does the same over triples (clauses `patch`,
 //! `fault`; `specs/Parts.antt`, `specs/Rules.antt`, `specs/Size.antt`). Each part is a set, in the order
-//! in which its patterns stand. What both return meets what `rdf_graph::instantiate` requires (clause
+//! in which its patterns stand. Where the text spells a patch and no bracket is too deep, it is returned,
+//! or out of memory (clause `only`). What both return meets what `rdf_graph::instantiate` requires (clause
 //! `bound`). [`laws`] has what follows from the definitions.
 //!
 //! It depends on `turtle_reader` for what the tokens of a document mean, on `turtle_labels` for its

@@ -4,7 +4,8 @@ ghost use Rattle.std.specs.Prelude.{◌≡◌, ◌≢◌, Ok, IfOk, IfErr, IfSom
 ghost use Rattle.rdf_graph.specs.Patch.{IsBound};
 ghost use Rattle.turtle_lex.specs.Tokens.{IsTokenOf};
 ghost use Rattle.turtle_terms.specs.declared.fault.TurtleFault.TheVariants.{NoMemory as NoMemoryFault};
-ghost use Rattle.n3_patch.specs.Faults.{HasNoFault, IsFirstFault, IsN3Fault, told_as};
+ghost use Rattle.n3_patch.specs.Faults.{HasNoFault, HasOnlyPatch, IsFirstFault, IsN3Fault};
+ghost use Rattle.n3_patch.specs.Faults.{told_as};
 ghost use Rattle.n3_patch.specs.Spells.{PatchSpells, SpellsTriples};
 ghost use Rattle.turtle_text.specs.Progress.{IsListedAnswer, fault_of};
 ghost use Rattle.n3_patch.specs.Reading.{IsRefusedNext};
@@ -106,11 +107,13 @@ fn syntax(fault: TurtleFault) -> N3Fault
 ///
 /// `Syntax` with the position of the first fault of syntax, by the position and then in the order of
 /// `turtle_terms::TurtleKind`; else `Constraint` with the first rule that is broken; else `TooLarge`.
+/// There is one exactly where the bytes spell no patch, or brackets are too deep.
 pub fn read(alloc: Global, base: &Iri, bytes: &[u8]) -> Result<Patch, N3Fault>
     ensures spells { IfOk result (PatchSpells base.now bytes.now) }
     ensures sound { OnOk result (HasNoFault base.now bytes.now) }
     ensures bound { IfOk result IsBound }
     ensures fault { IfErr result (IsN3Fault base.now bytes.now) }
+    ensures only { HasOnlyPatch base.now bytes.now result }
 {
     match read_triples(alloc, base, bytes) {
         Err(fault) => Err(syntax(fault)),

@@ -5,6 +5,7 @@
 mod judged;
 mod named;
 mod nodes;
+mod outcomes;
 mod shown;
 mod texts;
 
@@ -17,6 +18,10 @@ fn answer(alloc: Global, fields: &[&str]) -> Result<String, AllocError> {
         ["judge", triples] => judged::answer(alloc, triples),
         ["read", base, text] => texts::answer(alloc, base, text),
         ["spelled", namings, graph] => named::answer(alloc, namings, graph),
+        ["outcome", kind, graph, parts] => outcomes::answer(alloc, kind, graph, parts),
+        ["update-outcome", kind, graph, namings] => {
+            outcomes::update(alloc, kind, graph, namings)
+        }
         _ => String::from_str(alloc, "no case"),
     }
 }

@@ -39,17 +39,29 @@ fn insert(alloc: Global, graph: &mut Graph, text: &str) -> Mem<()> {
     Ok(())
 }
 
-fn shown_patch(alloc: Global, namings: &str, triples: &str) -> Mem<String> {
+/// The namings of a field.
+pub(crate) fn namings(alloc: Global, field: &str) -> Mem<List<Named>> {
     let mut named = List::new(alloc);
-    for text in namings.split(';') {
+    for text in field.split(';') {
         if !text.is_empty() {
             push_naming(alloc, &mut named, text)?;
         }
     }
+    Ok(named)
+}
+
+/// The graph of a field.
+pub(crate) fn graph(alloc: Global, field: &str) -> Mem<Graph> {
     let mut graph = Graph::new(alloc);
-    for text in triples.split(';') {
+    for text in field.split(';') {
         insert(alloc, &mut graph, text)?;
     }
+    Ok(graph)
+}
+
+fn shown_patch(alloc: Global, field: &str, triples: &str) -> Mem<String> {
+    let named = namings(alloc, field)?;
+    let graph = graph(alloc, triples)?;
     let patch = spelled(alloc, &named, &graph)?;
     shown::patch(alloc, &patch)
 }

@@ -1,5 +1,5 @@
 //! The terms and nodes of cases. A word begins with `<` for an IRI (`<a` is `http://e.example/a`, `<:`
-//! one of Solid's terms, `<a` alone stands for `rdf:type` where it is `<=`), `_` for a label, `'` for a
+//! one of Solid's terms, `<ldp:` one of LDP's, `<a` alone stands for `rdf:type` where it is `<=`), `_` for a label, `'` for a
 //! plain string, `?` for a variable and `{` for a formula with its number.
 
 use iri_ref::{Iri, IriFault};
@@ -25,6 +25,10 @@ fn iri(alloc: Global, text: &str) -> Mem<Iri> {
 fn named(alloc: Global, name: &str) -> Mem<Iri> {
     if name == "=" {
         return iri(alloc, RDF_TYPE);
+    }
+    if let Some(word) = name.strip_prefix("ldp:") {
+        let text = format!(in alloc; "http://www.w3.org/ns/ldp#{word}")?;
+        return iri(alloc, text.as_str());
     }
     if let Some(word) = name.strip_prefix(":") {
         let text = format!(in alloc; "http://www.w3.org/ns/solid/terms#{word}")?;

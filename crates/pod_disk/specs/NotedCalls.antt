@@ -1,7 +1,7 @@
 -- What a disk in memory keeps, and what its content and its images are by the record of its calls.
 use Rattle.std.specs.Prelude.{◌≡◌, ◌⊎◌, ◌≤◌, if◌then◌else◌, ◌&&◌, ℕ, Bool, true, false, List, []}
 use Rattle.std.specs.Prelude.{◌∷◌, ◌++◌, length, take, Option, Some, Result, IsErr, OnOk, OnErr}
-use Rattle.pod_io.specs.Memory.{Script, next_call, NextFails}
+use Rattle.pod_io.specs.Memory.{Script, NextFails, IsNextCall}
 use Rattle.pod_disk.specs.Disk.{overwritten, Torn, TornCut, Unchanged}
 use Rattle.pod_disk.specs.declared.call.Call.{Call}
 use Rattle.pod_disk.specs.declared.call.NotedCall.{NotedCall}
@@ -95,13 +95,12 @@ moment_of disk = length disk.noted
 abbrev pub LeftSince : DiskState → ℕ → List ℕ → Type 0
 LeftSince disk = WasCrashImage disk.first disk.noted
 
--- A disk in memory makes a call: it is the next by number, and fails where it is to fail. It is
--- noted where it succeeds. One that fails may be noted too, as a call that failed.
+-- A disk in memory makes a call: it is the next one, and fails where it is to fail. It is noted
+-- where it succeeds. One that fails may be noted too, as a call that failed.
 pub record MakesCall {T E : Type 0} (call : Call) (result : Result T E)
     (old new : DiskState) : Type 0 where
   pub first : new.first ≡ old.first
-  pub failing : new.calls.failing ≡ old.calls.failing
-  pub made : new.calls.made ≡ next_call old.calls
+  pub calls : IsNextCall result old.calls new.calls
   pub listed : NextFails old.calls → IsErr result
   pub done : OnOk result (new.noted ≡ old.noted ++ noted_as call true ∷ [])
   pub failed : OnErr result ((new.noted ≡ old.noted ++ noted_as call false ∷ [])

@@ -35,7 +35,7 @@ fn leave(file: &mut Vec<u8>, at: usize, bytes: &[u8]) -> Mem<()>
     put(file, at, bytes)
 }
 
-// MakesCall of a crash image what a crash may leave after the write.
+// Makes of a crash image what a crash may leave after the write.
 fn tear_write(alloc: Global, image: &mut Vec<u8>, at: usize, bytes: &[u8], tear: Tear) -> Mem<()>
     ensures { OnOk result (Torn at (length bytes.now) image.old.items image.new.items) }
 {
@@ -58,7 +58,7 @@ fn fill(image: &mut Vec<u8>, len: usize, byte: u8) -> Mem<()>
     Ok(())
 }
 
-// MakesCall of a crash image what a crash may leave after the cut.
+// Makes of a crash image what a crash may leave after the cut.
 fn tear_cut(image: &mut Vec<u8>, len: usize, tear: Tear) -> Mem<()>
     ensures { OnOk result (TornCut len image.old.items image.new.items) }
 {
@@ -72,7 +72,7 @@ fn tear_cut(image: &mut Vec<u8>, len: usize, tear: Tear) -> Mem<()>
     }
 }
 
-// MakesCall of a crash image what a crash may leave after the call.
+// Makes of a crash image what a crash may leave after the call.
 fn tear_call(alloc: Global, image: &mut Vec<u8>, call: &Call, tear: Tear) -> Mem<()>
     ensures { OnOk result (Step call.now image.old.items image.new.items) }
 {
@@ -92,7 +92,7 @@ fn is_synced(noted: &NotedCall) -> bool
     noted.done && matches!(noted.call, Call::Sync)
 }
 
-// MakesCall of the content what the call does.
+// Makes of the content what the call does.
 fn follow(content: &mut Vec<u8>, noted: &NotedCall) -> Mem<()>
     ensures { OnOk result (content.new.items ≡ content_after content.old.items noted.now) }
 {
@@ -102,7 +102,7 @@ fn follow(content: &mut Vec<u8>, noted: &NotedCall) -> Mem<()>
     Ok(())
 }
 
-// MakesCall of a crash image what the call leaves of it.
+// Makes of a crash image what the call leaves of it.
 fn tear_noted(
     alloc: Global,
     content: &[u8],
@@ -122,7 +122,7 @@ fn tear_noted(
     }
 }
 
-// MakesCall of the content and of a crash image what the call leaves of them.
+// Makes of the content and of a crash image what the call leaves of them.
 fn pass(
     alloc: Global,
     content: &mut Vec<u8>,

@@ -48,7 +48,7 @@ fn found<R: Files<File = File>>(host: &R, path: &str) -> io::Result<Option<File>
     }
 }
 
-/// MakesCall the file. One that is there already is refused.
+/// Makes the file. One that is there already is refused.
 fn made<R: Files<File = File>>(host: &R, path: &str) -> io::Result<File> {
     let mut options = OpenOptions::new();
     options.read(true).write(true).create_new(true).mode(MODE);
@@ -108,7 +108,7 @@ impl<R: Files<File = File> + Drop> LazyFile<R> {
         Ok(())
     }
 
-    /// MakesCall the file where it is missing.
+    /// Makes the file where it is missing.
     fn prepare_write(&mut self) -> io::Result<()> {
         self.prepare()?;
         if self.is_missing {

@@ -4,7 +4,7 @@ ghost use Rattle.std.specs.Prelude.{◌≡◌, ◌+◌, ◌<◌, ◌≤◌, ◌^
 ghost use Rattle.std.specs.Prelude.{length, take, drop, OnOk, OnErr, IfOk, ◌⊎◌, true, false};
 ghost use Rattle.std.specs.Option.{option_map};
 ghost use Rattle.pod_base.specs.Counts.{CountIncreased};
-ghost use Rattle.pod_io.specs.Counts.{CountsFaults};
+ghost use Rattle.pod_io.specs.Counts.{CountsFaults, next_count};
 ghost use Rattle.pod_io.specs.Visible.{IfVisible};
 ghost use Rattle.pod_io.specs.Memory.{next_call};
 ghost use Rattle.pod_disk.specs.declared.disk.TheConstants.{LENGTH_LIMIT};
@@ -113,7 +113,7 @@ impl MemDisk {
         crashed(alloc, &self.first, &self.noted[..count], tears)
     }
 
-    // MakesCall a call, unless it is to fail.
+    // Makes a call, unless it is to fail.
     fn attempt(&mut self, call: Call) -> Result<(), Failed>
         ensures makes { MakesCall call result self.old self.new }
         ensures faults { CountsFaults result self.old.calls.faults self.new.calls.faults }
@@ -149,6 +149,7 @@ impl MemDisk {
         ensures noted { self.new.noted ≡ self.old.noted }
         ensures failing { self.new.calls.failing ≡ self.old.calls.failing }
         ensures made { self.new.calls.made ≡ next_call self.old.calls }
+        ensures faults { self.new.calls.faults ≡ next_count self.old.calls.faults }
         ensures no_fewer { self.old.calls.faults ≤ self.new.calls.faults }
         ensures increased { CountIncreased self.old.calls.faults self.new.calls.faults }
     {

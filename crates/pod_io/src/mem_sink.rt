@@ -1,8 +1,8 @@
 //! [`MemSink`]: a sink in memory.
-ghost use Rattle.std.specs.Prelude.{◌≡◌, ◌<◌, ◌≤◌, [], Some, length, IsErr, IfOk};
+ghost use Rattle.std.specs.Prelude.{◌≡◌, ◌<◌, ◌≤◌, [], Some, length, min, IsErr, IfOk};
 ghost use Rattle.pod_io.specs.Counts.{CountsFaults};
 ghost use Rattle.pod_io.specs.Visible.{Appends};
-ghost use Rattle.pod_io.specs.Memory.{NextFails};
+ghost use Rattle.pod_io.specs.Memory.{NextFails, IsNextCall};
 
 use crate::calls::Calls;
 use crate::sink::Sink;
@@ -35,6 +35,7 @@ impl MemSink {
     pub fn new(alloc: Global, piece: usize, failing: Vec<u64>) -> MemSink
         requires { 0 < piece }
         ensures taken { result.taken ≡ [] }
+        ensures piece { result.piece ≡ piece }
         ensures made { result.calls.made ≡ 0 }
         ensures failing { result.calls.failing ≡ failing.items }
         ensures faults { result.calls.faults ≡ 0 }
@@ -66,6 +67,9 @@ impl Sink for MemSink {
         ensures taken { Appends result piece.now (Some self.old.taken) (Some self.new.taken) }
         ensures faults { CountsFaults result self.old.calls.faults self.new.calls.faults }
         ensures listed { NextFails self.old.calls → IsErr result }
+        ensures count { IfOk result (λ count. count ≡ min (length piece.now) self.old.piece) }
+        ensures piece { self.new.piece ≡ self.old.piece }
+        ensures calls { IsNextCall result self.old.calls self.new.calls }
     {
         if self.calls.next_fails() {
             return Err(Failed);

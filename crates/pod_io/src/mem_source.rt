@@ -1,8 +1,8 @@
 //! [`MemSource`]: a source in memory.
-ghost use Rattle.std.specs.Prelude.{◌≡◌, ◌<◌, ◌≤◌, ◌↔◌, Some, length, IsErr, IfOk};
+ghost use Rattle.std.specs.Prelude.{◌≡◌, ◌<◌, ◌≤◌, ◌↔◌, Some, length, min, IsErr, IfOk};
 ghost use Rattle.pod_io.specs.Counts.{CountsFaults, CountsReads, CountsEnds};
 ghost use Rattle.pod_io.specs.Visible.{IfVisible, IsRead, Consumes};
-ghost use Rattle.pod_io.specs.Memory.{NextFails};
+ghost use Rattle.pod_io.specs.Memory.{NextFails, IsNextCall};
 
 use crate::calls::Calls;
 use crate::source::{Failed, Source};
@@ -42,6 +42,7 @@ impl MemSource {
     pub fn new(bytes: Vec<u8>, piece: usize, failing: Vec<u64>) -> MemSource
         requires { 0 < piece }
         ensures rest { result.rest ≡ bytes.items }
+        ensures piece { result.piece ≡ piece }
         ensures reads { result.reads ≡ 0 }
         ensures ends { result.ends ≡ 0 }
         ensures made { result.calls.made ≡ 0 }
@@ -85,6 +86,10 @@ impl Source for MemSource {
         ensures reads { CountsReads result self.old.reads self.new.reads }
         ensures ends { CountsEnds result self.old.ends self.new.ends }
         ensures fails { IsErr result ↔ NextFails self.old.calls }
+        ensures count { IfOk result
+            (λ count. count ≡ min (min (length self.old.rest) (length into.old)) self.old.piece) }
+        ensures piece { self.new.piece ≡ self.old.piece }
+        ensures calls { IsNextCall result self.old.calls self.new.calls }
     {
         if self.calls.next_fails() {
             return Err(Failed);

@@ -14,7 +14,7 @@ use rdf_graph::{Term, Triple};
 
 /// Whether a node of type `acl:Authorization` gives the owner control of the root, whose URI is the
 /// base.
-pub(crate) fn guards(base: &str, owner: &str, triples: &[Triple]) -> bool
+pub fn guards(base: &str, owner: &str, triples: &[Triple]) -> bool
     ensures { result ≡ guards base.now owner.now triples.now }
 {
     triples

@@ -34,8 +34,9 @@ pub mod vocabulary;
 mod well_formed;
 
 pub use fitting::{fits, snapshot};
+pub use guard::guards;
 pub use limits::{BASE_BYTES_LIMIT, CONTENT_TYPE_BYTES_LIMIT, ROWS_LIMIT};
 pub use plain::{PlainRows, StateFault};
 pub use state::{Effective, PodState};
 pub use view::container_view;
-pub use well_formed::is_well_formed;
+pub use well_formed::{is_well_formed, lacks_containment};

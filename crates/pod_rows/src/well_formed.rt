@@ -287,7 +287,7 @@ fn lacks_contained(content: &Content) -> bool
 
 /// Whether no triple has the predicate `ldp:contains`.
 #[tactic(auto, unfolding(crate::specs::Vocabulary::ldp_contains))]
-fn lacks_containment(triples: &[Triple]) -> bool
+pub fn lacks_containment(triples: &[Triple]) -> bool
     ensures { result ≡ lacks_containment triples.now }
 {
     triples

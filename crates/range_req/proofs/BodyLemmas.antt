@@ -3,7 +3,8 @@ use Rattle.std.proofs.Common.{◌≡◌, ℕ, zero, suc, ◌+◌, ◌-◌, ◌*�
 use Rattle.std.specs.Prelude.{bytes_eq, codes, decimal, nat_lt}
 use Rattle.std.specs.List.{list_any, position, position_or_len}
 use Rattle.std.specs.Char.{is_ascii_digit}
-use Rattle.std.proofs.lemmas.Bool.{ne_eqb, ltb-false}
+use Rattle.std.proofs.lemmas.Bool.{ne_eqb, ltb-false, ltb-true}
+use Rattle.std.proofs.Math.Seq.{take-append_seam}
 use Rattle.std.proofs.lemmas.List.{take-append-drop}
 use Rattle.std.proofs.lemmas.Fmt.{decimal_digit}
 use Rattle.std.proofs.lemmas.List.Folds.{list_any-append}
@@ -13,7 +14,7 @@ use Rattle.std.proofs.lemmas.List.Sums.{fails_before_first}
 use Rattle.std.proofs.lemmas.Map.Steps.{le-length_from_below}
 use Rattle.std.proofs.lemmas.Slice.Eq.{bytes_eq-Decides}
 use Rattle.range_req.specs.Boundaries.{longer_numbers, first_numbers, delimiter_numbers, body_numbers, has_number, AreNoted}
-use Rattle.range_req.specs.Multipart.{Occurs, IsFirstFree, delimiter, boundary}
+use Rattle.range_req.specs.Multipart.{Occurs, IsFirstFree, delimiter, boundary, occurs, least_from, free_number}
 use Rattle.range_req.proofs.NumberDigits.{Begins, first_sound, first_complete, digit_low}
 
 -- ---- places of a delimiter
@@ -212,3 +213,51 @@ first_free body needle is h = record {
   free = λ o. h (subst (Occurs body) (ap (λ (t : List ℕ). codes "--pod-" ++ t) (decimal_digit 0 (omega arith)) ∙ sym is) o);
   first = λ k lt. absurd (omega (arith, lt));
 }
+
+-- ---- the boundary as a function of the body
+
+occurs_sound : (body needle : List ℕ) → occurs body needle ≡ true → Stands body needle
+occurs_sound [] needle h = absurd cc
+occurs_sound (b ∷ body) needle h =
+    in_either (Stands (b ∷ body) needle) (bytes_eq (take (length needle) (b ∷ body)) needle) (occurs body needle) h
+    (λ e. record {
+      at = 0;
+      rest = drop (length needle) (b ∷ body);
+      here = sym (take-append-drop (length needle) (b ∷ body)) ∙ ap (λ (t : List ℕ). t ++ drop (length needle) (b ∷ body)) ((bytes_eq-Decides (take (length needle) (b ∷ body)) needle).0 e);
+    })
+    (λ e. (let there = occurs_sound body needle e in record { at = suc there.at; rest = there.rest; here = there.here }))
+
+occurs_complete : (body needle : List ℕ) (at : ℕ) (rest : List ℕ) → 0 < length needle → drop at body ≡ needle ++ rest → occurs body needle ≡ true
+occurs_complete [] needle zero rest some e = absurd (omega (arith, some, ap length e, length-append needle rest))
+occurs_complete [] needle (suc at) rest some e = absurd (omega (arith, some, ap length e, length-append needle rest))
+occurs_complete (b ∷ body) needle zero rest some e =
+    or_left (bytes_eq (take (length needle) (b ∷ body)) needle) (occurs body needle)
+    ((bytes_eq-Decides (take (length needle) (b ∷ body)) needle).1 (ap (take (length needle)) e ∙ take-append_seam needle rest))
+occurs_complete (b ∷ body) needle (suc at) rest some e =
+    or_right (bytes_eq (take (length needle) (b ∷ body)) needle) (occurs body needle) (occurs_complete body needle at rest some e)
+
+least_is : (test : ℕ → Bool) (n k tries : ℕ) → test n ≡ true → ((j : ℕ) → j < n → test j ≡ false) → k ≤ n → n ≤ k + tries → least_from test k tries ≡ n
+least_is test n k zero here before low high = omega (arith, low, high)
+least_is test n k (suc tries) here before low high = by_order (λ l h. least_is test n (suc k) tries here before l h) (nat_lt k n) refl
+  where
+    by_order : (suc k ≤ n → n ≤ suc k + tries → least_from test (suc k) tries ≡ n) → (b : Bool) → nat_lt k n ≡ b → cond (test k) k (least_from test (suc k) tries) ≡ n
+    by_order more true e =
+        let below : k < n = ltb-true k n e in
+        ap (λ (t : Bool). cond t k (least_from test (suc k) tries)) (before k below) ∙ more (omega (arith, below)) (omega (arith, high))
+    by_order more false e =
+        let same : k ≡ n = omega (arith, ltb-false k n e, low) in
+        ap (λ (t : Bool). cond t k (least_from test (suc k) tries)) (ap test same ∙ here) ∙ same
+
+pub free_is : (body : List ℕ) (n : ℕ) → n ≤ length body → IsFirstFree body n → n ≡ free_number body
+unfolding free_number
+free_is body n most f = sym (least_is (λ k. not (occurs body (delimiter (boundary k)))) n 0 (length body) here before (omega arith) (omega (arith, most)))
+  where
+    by_test : (b : Bool) → occurs body (delimiter (boundary n)) ≡ b → not b ≡ true
+    by_test true e = absurd (f.free (occurs_from body (delimiter (boundary n)) (omega arith) (occurs_sound body (delimiter (boundary n)) e)))
+    by_test false e = refl
+
+    here : not (occurs body (delimiter (boundary n))) ≡ true
+    here = by_test (occurs body (delimiter (boundary n))) refl
+
+    before : (j : ℕ) → j < n → not (occurs body (delimiter (boundary j))) ≡ false
+    before j lt = let s = stands_from body (delimiter (boundary j)) (f.first j lt) in ap not (occurs_complete body (delimiter (boundary j)) s.at s.rest (omega arith) s.here)

@@ -107,7 +107,8 @@ fn first_not_noted(noted: &[bool]) -> Option<usize>
 /// The number of the first boundary whose delimiter isn't in a body. Each one that is ends at a
 /// position of its own, so there are at most as many as bytes.
 fn free_number(alloc: Global, body: &[u8]) -> Mem<u64>
-    ensures { IfOk result (λ number. spec.IsFirstFree body.now number) }
+    ensures first { IfOk result (λ number. spec.IsFirstFree body.now number) }
+    ensures number { IfOk result (λ number. number ≡ spec.free_number body.now) }
 {
     if !occurs(body, b"--pod-0") {
         return Ok(0);
@@ -123,7 +124,8 @@ fn free_number(alloc: Global, body: &[u8]) -> Mem<u64>
 /// The first boundary whose delimiter isn't in a body. It takes memory for a note a byte of the body,
 /// but none where the first one is free.
 pub(crate) fn free_boundary(alloc: Global, body: &[u8]) -> Mem<String>
-    ensures { IfOk result (λ text. spec.IsFreeBoundary body.now (string_bytes text)) }
+    ensures free { IfOk result (λ text. spec.IsFreeBoundary body.now (string_bytes text)) }
+    ensures named { IfOk result (λ text. string_bytes text ≡ spec.free_boundary body.now) }
 {
     let number = free_number(alloc, body)?;
     let boundary = boundary(alloc, number)?;

@@ -11,7 +11,7 @@
 //!
 //! Proved: [`ranges`] is the definition `range_set` of the field's value and the size, and its parts
 //! are inside of the body (`within`). [`multipart`] writes exactly the text `multipart_text`, with the
-//! first boundary that isn't in the body.
+//! first boundary that isn't in the body, which is a function of the body (`free_boundary`).
 //!
 //! It stands on `field_list`, which reads the list, on `memchr`, which searches the body, on `itoa`
 //! and on `pod_base`.

@@ -103,6 +103,7 @@ fn append_parts(
 pub fn multipart(alloc: Global, ctype: &str, body: &[u8], parts: &List<Part>) -> Mem<(Text, Bytes)>
     requires { list_all (is_within (length body.now)) parts.now.items ≡ true }
     ensures boundary { IfOk result (λ r. spec.IsFreeBoundary body.now r.0) }
+    ensures named { IfOk result (λ r. r.0 ≡ spec.free_boundary body.now) }
     ensures text { IfOk result (λ r. r.1 ≡ spec.multipart_text r.0 ctype.now body.now parts.now.items) }
 {
     let boundary = free_boundary(alloc, body)?;

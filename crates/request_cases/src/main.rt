@@ -1,6 +1,7 @@
-//! Cases of what a request's fields say about its form. It reads one case from each line of standard
-//! input, and prints the line with what the library answers as one more field. `stdin` has the cases,
-//! and `stdout` what is expected of them, worked out by hand from RFC 9110, RFC 8288 and RFC 6455.
+//! Cases of what a request's fields say about its form. It reads one case from each line of
+//! standard input, and prints the line with what the library answers as one more field. `stdin` has
+//! the cases, and `stdout` what is expected of them, worked out by hand from RFC 9110, RFC 8288 and
+//! RFC 6455.
 //!
 //! The first field names the kind of the case. A FIELD is a name, `: ` and a value.
 //!
@@ -10,14 +11,15 @@
 //! | `container` FIELD.. | whether a Link asks for a container |
 //! | `upgrade` METHOD MINOR FIELD.. | the key of an upgrade, or `none` |
 //! | `slug` FIELD.. | the first Slug, or `none` |
-//! | `range` TAG FIELD.. | the only Range, or `none`; then whether If-Range lets it count for that tag |
+//! | `range` TAG FIELD.. | the only Range, or `none`, and whether If-Range lets it count for TAG |
 #![tactic(auto)]
 
 mod reading;
 
 use case_lines::{bytes, shown};
+use case_values::method_of;
 use pod_base::{Bytes, Fields, NoMemory, Request};
-use reading::{method_of, read_fields};
+use reading::read_fields;
 use request_fields::{
     allows_ranges, body_type, content_type, links_to_container, range, slug, upgrade_key,
 };

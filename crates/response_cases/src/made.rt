@@ -1,6 +1,7 @@
 //! Cases of changes and of OPTIONS.
 
-use crate::print::{method, place, shown};
+use crate::print::{place, shown};
+use case_values::method_of;
 use pod_base::{Mem, Response};
 use pod_path::Path;
 use pod_responses::{changed, created, is_allowed, options, options_of_server};
@@ -8,7 +9,7 @@ use std::alloc::{AllocError, Global};
 
 fn is_taken(alloc: Global, name: &str, path: &str) -> Mem<Option<bool>> {
     match Path::of_text(alloc, path)? {
-        Some(path) => Ok(Some(is_allowed(&path, method(name)))),
+        Some(path) => Ok(Some(is_allowed(&path, method_of(name)))),
         None => Ok(None),
     }
 }

@@ -17,9 +17,15 @@
 //! | `options` PATH | what a path, or the server (`*`), takes |
 //! | `not-modified` | the response where the client has the representation |
 //! | `upgraded` ACCEPT | the response to an upgrade |
-//! | `refusal` STATUS WORD, `unauthorized` WORD, `not-allowed` PATH, `unsupported` METHOD PATH, `unsatisfiable` SIZE | a refusal |
+//! | `admit` METHOD TARGET AGENT | what a request is about, or its refusal |
+//! | `refusal` STATUS WORD | a refusal with that status |
+//! | `unauthorized` WORD | the refusal of an agent that isn't known |
+//! | `not-allowed` PATH | the refusal of a method that the path doesn't take |
+//! | `unsupported` METHOD PATH | the refusal of a body of another type |
+//! | `unsatisfiable` SIZE | the refusal of ranges that lie outside the body |
 #![tactic(auto)]
 
+mod admitted;
 mod made;
 mod print;
 mod read;
@@ -42,6 +48,7 @@ fn answer(alloc: Global, fields: &[&str]) -> Result<String, AllocError> {
         ["options", path] => made::options_at(alloc, path),
         ["not-modified"] => read::same(alloc),
         ["upgraded", accept] => read::opened(alloc, accept),
+        ["admit", method, target, asked] => admitted::answer(alloc, method, target, asked),
         _ => refused::answer(alloc, fields),
     }
 }

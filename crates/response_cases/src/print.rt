@@ -1,40 +1,21 @@
 //! What a response prints, and what a case names.
 
-use iri_ref::{Iri, IriFault};
-use pod_base::{Body, Mem, Method, NoMemory, Response};
+use case_values::iri_of;
+use iri_ref::Iri;
+use pod_base::{Body, Mem, NoMemory, Response};
 use pod_path::Path;
 use std::alloc::{AllocError, Global};
 
 /// The base of all cases.
-pub(crate) fn base(alloc: Global) -> Mem<Option<Iri>> {
-    match Iri::read(alloc, "https://pod.example/") {
-        Ok(base) => Ok(Some(base)),
-        Err(IriFault::BadReference) => Ok(None),
-        Err(IriFault::NoMemory) => Err(NoMemory),
-    }
-}
+pub(crate) const BASE: &str = "https://pod.example/";
 
 /// The base and a path, where the text is one.
 pub(crate) fn place(alloc: Global, path: &str) -> Mem<Option<(Iri, Path)>> {
-    let base = base(alloc)?;
+    let base = iri_of(alloc, BASE)?;
     let path = Path::of_text(alloc, path)?;
     match (base, path) {
         (Some(base), Some(path)) => Ok(Some((base, path))),
         _ => Ok(None),
-    }
-}
-
-/// The method of a name.
-pub(crate) fn method(name: &str) -> Method {
-    match name {
-        "GET" => Method::Get,
-        "HEAD" => Method::Head,
-        "OPTIONS" => Method::Options,
-        "POST" => Method::Post,
-        "PUT" => Method::Put,
-        "PATCH" => Method::Patch,
-        "DELETE" => Method::Delete,
-        _ => Method::Other,
     }
 }
 

@@ -1,6 +1,7 @@
 //! Cases of refusals.
 
-use crate::print::{method, shown};
+use crate::print::shown;
+use case_values::method_of;
 use pod_base::{Mem, Response};
 use pod_path::Path;
 use pod_responses::{not_allowed, refusal, unauthorized, unsatisfiable, unsupported};
@@ -12,7 +13,7 @@ fn by_path(alloc: Global, name: &str, path: &str) -> Mem<Option<Response>> {
     };
     match name {
         "" => Ok(Some(not_allowed(alloc, &path)?)),
-        _ => Ok(Some(unsupported(alloc, method(name), &path)?)),
+        _ => Ok(Some(unsupported(alloc, method_of(name), &path)?)),
     }
 }
 

@@ -1,5 +1,7 @@
 -- The name of a new member of a container: candidates in order, and the first that is free.
-use Rattle.std.specs.Prelude.{◌≡◌, ℕ, ◌+◌, ◌<◌, ◌≤◌, ◌==◌, Bool, true, false, not, ◌&&◌, if◌then◌else◌, List, [], ◌++◌, length, Option, Some, None, Err, codes, decimal}
+use Rattle.std.specs.Prelude.{◌≡◌, ℕ, ◌+◌, ◌<◌, ◌≤◌, ◌==◌, Bool, true, false, not, ◌&&◌}
+use Rattle.std.specs.Prelude.{if◌then◌else◌, List, [], ◌++◌, length, Option, Some, None, Err, codes}
+use Rattle.std.specs.Prelude.{decimal}
 use Rattle.std.specs.List.{Contains}
 use Rattle.pod_path.specs.Norm.{norm}
 use Rattle.pod_path.specs.Hierarchy.{member_text, twin_of}
@@ -28,7 +30,8 @@ abbrev pub is_free : (List ℕ → Bool) → List ℕ → Bool
 is_free is_row path = not (is_row path) && not (is_some_row is_row (twin_of path))
 
 -- the path is that of the first candidate that is free
-pub record IsFreeName (is_row : List ℕ → Bool) (container stem : List ℕ) (folder : Bool) (path : List ℕ) : Type 0 where
+pub record IsFreeName (is_row : List ℕ → Bool) (container stem : List ℕ)
+    (folder : Bool) (path : List ℕ) : Type 0 where
   pub number : ℕ
   pub is : path ≡ candidate_path container stem folder number
   pub free : is_free is_row path ≡ true

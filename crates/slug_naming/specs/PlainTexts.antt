@@ -11,7 +11,8 @@ pub record IsPlainText (text : List ℕ) : Type 0 where
   pub characters : IsTrue (list_all is_path_character text)
   pub slashes : Lacks is_slash text
   pub queries : Lacks is_question_mark text
-  pub escapes : (rest : List ℕ) → normalize_escapes (text ++ rest) ≡ prepend text (normalize_escapes rest)
+  pub escapes : (rest : List ℕ)
+      → normalize_escapes (text ++ rest) ≡ prepend text (normalize_escapes rest)
 
 -- neither the text nor the text with a slash after it is a row
 abbrev pub are_no_rows : (List ℕ → Bool) → List ℕ → Bool

@@ -1,5 +1,6 @@
 -- The stem of a slug.
-use Rattle.std.specs.Prelude.{ℕ, ◌-◌, not, ◌==◌, nat_le, if◌then◌else◌, List, [], ◌∷◌, ◌++◌, length, filter, Option, Some, None, codes}
+use Rattle.std.specs.Prelude.{ℕ, ◌-◌, not, ◌==◌, nat_le, if◌then◌else◌, List, [], ◌∷◌, ◌++◌, length}
+use Rattle.std.specs.Prelude.{filter, Option, Some, None, codes}
 use Rattle.percent_encoding.specs.Percent.{percent_decode, percent_encode_byte}
 use Rattle.iri_ref.specs.Characters.{is_slash}
 use Rattle.pod_path.specs.Characters.{is_unreserved}

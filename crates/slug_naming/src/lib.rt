@@ -6,9 +6,9 @@
 //! ```
 //!
 //! Proved: [`stem`] is the definition `stem_of` of the slug (`text`), and part of a path as it is
-//! (`plain`). [`choose`] gives the path of the first free candidate (`path`), and fails with a limit
-//! exactly where that path passes it (`normal`, `fault`): among at most [`ROW_LIMIT`] rows one of the
-//! candidates is free.
+//! (`plain`). [`choose`] gives the path of the first free candidate (`path`), and fails with a
+//! limit exactly where that path passes it (`normal`, `fault`): among at most [`ROW_LIMIT`] rows
+//! one of the candidates is free.
 //!
 //! It stands on `percent_encoding`, `itoa`, `iri_ref`, `pod_path` and `pod_base`.
 #![tactic(auto)]

@@ -22,7 +22,8 @@ const END_ROOM: usize = 24;
 /// Appends what follows the stem in the candidate with that number.
 fn push_end(text: &mut String, number: u64) -> Result<(), AllocError>
     requires { number ≤ ROW_LIMIT }
-    ensures { IfOk result (λ _. string_bytes text.new ≡ string_bytes text.old ++ spec.candidate_end number) }
+    ensures { IfOk result
+        (λ _. string_bytes text.new ≡ string_bytes text.old ++ spec.candidate_end number) }
 {
     if number == 0 {
         return Ok(());
@@ -42,9 +43,11 @@ fn write_candidate(text: &mut String, base: &str, number: u64) -> Result<(), All
     push_end(text, number)
 }
 
-/// Whether neither the text nor the text with a slash after it is a row. The text may get that slash.
+/// Whether neither the text nor the text with a slash after it is a row. The text may get that
+/// slash.
 fn are_no_rows<T: Taken>(text: &mut String, taken: &T) -> Result<bool, AllocError>
-    ensures { IfOk result (λ free. free ≡ texts.are_no_rows (T.is_row taken.now) (string_bytes text.old)) }
+    ensures { IfOk result
+        (λ free. free ≡ texts.are_no_rows (T.is_row taken.now) (string_bytes text.old)) }
 {
     if taken.taken_text(text.as_str()) {
         return Ok(false);
@@ -53,7 +56,8 @@ fn are_no_rows<T: Taken>(text: &mut String, taken: &T) -> Result<bool, AllocErro
     Ok(!taken.taken_text(text.as_str()))
 }
 
-/// Whether the candidate with that number is free. It is looked up by the text, which is written anew.
+/// Whether the candidate with that number is free. It is looked up by the text, which is written
+/// anew.
 fn is_free<T: Taken>(
     text: &mut String,
     base: &str,
@@ -61,7 +65,8 @@ fn is_free<T: Taken>(
     taken: &T,
 ) -> Result<bool, AllocError>
     requires { number ≤ ROW_LIMIT }
-    ensures { IfOk result (λ free. free ≡ texts.are_no_rows (T.is_row taken.now) (base.now ++ spec.candidate_end number)) }
+    ensures { IfOk result (λ free. free
+        ≡ texts.are_no_rows (T.is_row taken.now) (base.now ++ spec.candidate_end number)) }
 {
     write_candidate(text, base, number)?;
     are_no_rows(text, taken)
@@ -71,7 +76,8 @@ fn is_free<T: Taken>(
 fn first_free<T: Taken>(alloc: Global, base: &str, taken: &T) -> Result<u64, AllocError>
     requires base { is_container base.now ≡ false }
     requires rows { spec.HasFewRows (T.is_row taken.now) }
-    ensures number { IfOk result (λ number. texts.IsFirstFree (T.is_row taken.now) base.now number) }
+    ensures number { IfOk result
+        (λ number. texts.IsFirstFree (T.is_row taken.now) base.now number) }
     ensures limit { IfOk result (λ number. number ≤ ROW_LIMIT) }
 {
     let mut text = String::with_capacity(alloc, base.len().saturating_add(END_ROOM))?;
@@ -95,13 +101,13 @@ fn concatenate(alloc: Global, first: &str, second: &str) -> Result<String, Alloc
 
 /// The path of the first free candidate for a new member of a container.
 ///
-/// Candidate 0 is the [`crate::stem`] of the slug, and the next ones are the stem with `-2`, `-3`, ..
-/// after it. With `folder` the member is a container. A candidate is free where neither its path nor
-/// the twin of that is a row. It looks up each candidate up to that one twice, and a look-up takes no
-/// memory. There may be at most [`ROW_LIMIT`] rows.
+/// Candidate 0 is the [`crate::stem`] of the slug, and the next ones are the stem with `-2`, `-3`,
+/// .. after it. With `folder` the member is a container. A candidate is free where neither its path
+/// nor the twin of that is a row. It looks up each candidate up to that one twice, and a look-up
+/// takes no memory. There may be at most [`ROW_LIMIT`] rows.
 ///
-/// It fails with `TooLong` or `TooDeep` exactly where the path of the first free candidate does, and
-/// never with `BadEscape`, `NotNormal` or `Reserved`.
+/// It fails with `TooLong` or `TooDeep` exactly where the path of the first free candidate does,
+/// and never with `BadEscape`, `NotNormal` or `Reserved`.
 pub fn choose<T: Taken>(
     alloc: Global,
     container: &Path,
@@ -111,9 +117,11 @@ pub fn choose<T: Taken>(
 ) -> Result<Path, PathFault>
     requires container { is_container container.now ≡ true }
     requires rows { spec.HasFewRows (T.is_row taken.now) }
-    ensures path { IfOk result (λ path. spec.IsFreeName (T.is_row taken.now) container.now (stem_of (option_copied slug.entry)) folder path) }
+    ensures path { IfOk result (λ path. spec.IsFreeName (T.is_row taken.now) container.now
+        (stem_of (option_copied slug.entry)) folder path) }
     ensures normal { IfOk result (λ path. norm path ≡ Ok path) }
-    ensures fault { IfErr result (λ fault. spec.FailsAs (spec.IsFreeName (T.is_row taken.now) container.now (stem_of (option_copied slug.entry)) folder) fault) }
+    ensures fault { IfErr result (λ fault. spec.FailsAs (spec.IsFreeName (T.is_row taken.now)
+        container.now (stem_of (option_copied slug.entry)) folder) fault) }
 {
     let mut name = stem_text(alloc, slug)?;
     let base = concatenate(alloc, container.as_str(), name.as_str())?;

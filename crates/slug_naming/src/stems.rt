@@ -74,7 +74,8 @@ fn without_dots(mut bytes: &[u8]) -> &[u8]
 
 /// Appends a byte as a character of a path, or its escape.
 fn push_escaped(text: &mut String, byte: u8) -> Result<(), AllocError>
-    ensures text { IfOk result (λ _. string_bytes text.new ≡ string_bytes text.old ++ spec.escaped byte) }
+    ensures text { IfOk result
+        (λ _. string_bytes text.new ≡ string_bytes text.old ++ spec.escaped byte) }
     ensures plain { IsPlainText (spec.escaped byte) }
 {
     if is_unreserved(byte) {
@@ -153,7 +154,8 @@ fn slug_stem(alloc: Global, slug: &[u8]) -> Result<String, AllocError>
 
 /// The stem of a slug, or without one, as a string.
 pub(crate) fn stem_text(alloc: Global, slug: Option<&[u8]>) -> Result<String, AllocError>
-    ensures text { IfOk result (λ text. string_bytes text ≡ spec.stem_of (option_copied slug.entry)) }
+    ensures text { IfOk result
+        (λ text. string_bytes text ≡ spec.stem_of (option_copied slug.entry)) }
     ensures plain { IfOk result (λ text. (folder : Bool) → IsPlainName (string_bytes text) folder) }
 {
     match slug {

@@ -1,9 +1,12 @@
 -- What follows from the definitions. Each law is the contract of a function of `laws`.
-use Rattle.std.specs.Prelude.{◌≡◌, ◌↔◌, Bool, false, List, Some, Contains}
+use Rattle.std.specs.Prelude.{◌≡◌, ◌↔◌, ◌<◌, ℕ, Bool, false, List, Some, Contains}
 use Rattle.std.specs.List.{IsDistinct, filter}
 use Rattle.rdf_graph.specs.declared.triple.Triple.{Triple}
+use Rattle.turtle_terms.specs.declared.fault.TurtleFault.{TurtleFault}
 use Rattle.sparql_patch.specs.declared.named.Named.{Named}
 use Rattle.sparql_patch.specs.NamedUpdate.{triple_eq, has_triple, last_named, last_word}
+use Rattle.sparql_patch.specs.UpdateFaults.{HasFaultAt, IsFirstFault, place_of}
+use Rattle.sparql_patch.specs.UpdateSpells.{Names}
 
 -- A triple is listed under a word exactly where its last naming is with that word.
 abbrev pub LastNamingDecides : Type 0
@@ -29,3 +32,18 @@ abbrev pub WithoutRepeats : Type 0
 WithoutRepeats = (named : List Named) (insert : Bool) (t : Triple)
     → IsDistinct (λ (x y : Named). triple_eq x.triple y.triple) named
     → Contains (last_named insert named) t ↔ Contains named (naming t insert)
+
+-- A text names at most one list of triples.
+abbrev pub HasOneNaming : Type 0
+HasOneNaming = (base bytes : List ℕ) (a b : List Named) → Names base bytes a → Names base bytes b
+    → a ≡ b
+
+-- It has at most one first fault of syntax.
+abbrev pub HasOneFirstFault : Type 0
+HasOneFirstFault = (base bytes : List ℕ) (a b : TurtleFault) → IsFirstFault base bytes a
+    → IsFirstFault base bytes b → a ≡ b
+
+-- Faults of a lesser index have a lesser position.
+abbrev pub PlacesAscend : Type 0
+PlacesAscend = (base bytes : List ℕ) (i j : ℕ) (f g : TurtleFault) → HasFaultAt base bytes i f
+    → HasFaultAt base bytes j g → i < j → place_of f < place_of g

@@ -1,4 +1,8 @@
 pub mod NamedUpdate
 pub mod Laws
+pub mod UpdateLexemes
+pub mod UpdateSpells
+pub mod UpdateFaults
 -- internal: cited by private clauses alone
 pub mod Progress
+pub mod Reading

@@ -3,7 +3,8 @@
 //! Each is the contract of a function that does nothing.
 
 ghost use Rattle.sparql_patch.specs.Laws.{LastNamingDecides, DeletionsAreInGraph};
-ghost use Rattle.sparql_patch.specs.Laws.{EachIsListedOnce, WithoutRepeats};
+ghost use Rattle.sparql_patch.specs.Laws.{EachIsListedOnce, WithoutRepeats, HasOneNaming};
+ghost use Rattle.sparql_patch.specs.Laws.{HasOneFirstFault, PlacesAscend};
 
 /// The last naming of a triple decides, and each triple is listed once.
 pub fn last_naming()
@@ -15,4 +16,15 @@ pub fn last_naming()
 /// An update that names no triple twice spells the patch of its two sets.
 pub fn without_repeats()
     ensures { WithoutRepeats }
+{}
+
+/// A text names at most one list of triples.
+pub fn one_naming()
+    ensures { HasOneNaming }
+{}
+
+/// A text has at most one first fault of syntax, which is at the least position of all its faults.
+pub fn first_fault()
+    ensures one { HasOneFirstFault }
+    ensures least { PlacesAscend }
 {}

@@ -1,5 +1,6 @@
 -- Who makes a request, by its Authorization field (RFC 6750, section 2.1).
-use Rattle.std.specs.Prelude.{ℕ, Bool, nat_lt, if◌then◌else◌, List, take, drop, find, count_by, Option, Some, None, codes}
+use Rattle.std.specs.Prelude.{ℕ, Bool, nat_lt, if◌then◌else◌, List, take, drop, find, count_by}
+use Rattle.std.specs.Prelude.{Option, Some, None, codes}
 use Rattle.std.specs.Option.{option_and_then}
 use Rattle.std.specs.Str.{str_eq_ignore_ascii_case}
 use Rattle.pod_base.specs.Fields.{is_named}
@@ -21,7 +22,8 @@ asked_view Refused = refused
 
 -- Bearer in any case, one space, and the token
 abbrev pub bearer_token : List ℕ → Option (List ℕ)
-bearer_token value = if str_eq_ignore_ascii_case (take 7 value) (codes "Bearer ") then Some (drop 7 value) else None
+bearer_token value =
+    if str_eq_ignore_ascii_case (take 7 value) (codes "Bearer ") then Some (drop 7 value) else None
 
 -- the agent whose token the value has
 abbrev pub bearer : List TokenEntry → List ℕ → Option (List ℕ)

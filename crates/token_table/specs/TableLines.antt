@@ -1,5 +1,7 @@
 -- The lines of a token table, what they say, and which of them is faulty.
-use Rattle.std.specs.Prelude.{◌≡◌, ℕ, ◌+◌, Bool, true, false, not, ◌&&◌, ◌||◌, ◌==◌, nat_le, nat_lt, if◌then◌else◌, bytes_eq, codes, List, [], ◌∷◌, ◌++◌, length, find, Option, Some, None, is_some}
+use Rattle.std.specs.Prelude.{◌≡◌, ℕ, ◌+◌, Bool, true, false, not, ◌&&◌, ◌||◌, ◌==◌, nat_le, nat_lt}
+use Rattle.std.specs.Prelude.{if◌then◌else◌, bytes_eq, codes, List, [], ◌∷◌, ◌++◌, length, find}
+use Rattle.std.specs.Prelude.{Option, Some, None, is_some}
 use Rattle.std.specs.List.{list_all, list_any, before_first, after_first, filter_map}
 use Rattle.std.specs.Option.{option_map}
 use Rattle.std.specs.Str.{is_utf8}
@@ -33,14 +35,20 @@ is_space c = c == 32
 
 abbrev pub is_token_character : ℕ → Bool
 is_token_character c =
-    is_between 97 c 122 || (is_between 65 c 90 || (is_between 48 c 57 || list_any (λ d. c == d) (codes "-._~+/=")))
+    is_between 97 c 122 || (is_between 65 c 90
+    || (is_between 48 c 57 || list_any (λ d. c == d) (codes "-._~+/=")))
 
 abbrev pub is_token : List ℕ → Bool
-is_token text = nat_lt 0 (length text) && (nat_le (length text) TOKEN_LIMIT && list_all is_token_character text)
+is_token text =
+    nat_lt 0 (length text)
+    && (nat_le (length text) TOKEN_LIMIT && list_all is_token_character text)
 
 -- an absolute IRI: UTF-8, a scheme before its first colon, and no forbidden character
 abbrev pub is_agent : List ℕ → Bool
-is_agent text = is_utf8 text && (list_any is_colon text && (is_scheme (before_first is_colon text) && list_all is_allowed text))
+is_agent text =
+    is_utf8 text
+    && (list_any is_colon text
+    && (is_scheme (before_first is_colon text) && list_all is_allowed text))
 
 -- what is before the first space of a line, and what follows it
 abbrev pub token_part : List ℕ → List ℕ
@@ -88,11 +96,13 @@ ends_past before line = nat_lt TABLE_LIMIT (size_of before + length line)
 
 -- a line after these ones is malformed, repeats a token, or ends past the limit
 abbrev pub is_faulty : List (List ℕ) → List ℕ → Bool
-is_faulty before line = is_malformed line || (repeats (entries before) line || ends_past before line)
+is_faulty before line =
+    is_malformed line || (repeats (entries before) line || ends_past before line)
 
 -- no line is faulty
 abbrev pub AreSound : List (List ℕ) → Type 0
-AreSound lines = (before : List (List ℕ)) (line : List ℕ) (after : List (List ℕ)) → lines ≡ before ++ line ∷ after → is_faulty before line ≡ false
+AreSound lines = (before : List (List ℕ)) (line : List ℕ) (after : List (List ℕ))
+    → lines ≡ before ++ line ∷ after → is_faulty before line ≡ false
 
 -- the line with this number, from 1, is the first that is faulty
 pub record IsFirstFault (lines : List (List ℕ)) (number : ℕ) : Type 0 where

@@ -46,9 +46,9 @@ impl Tokens {
 
     /// Who makes a request with these fields.
     ///
-    /// The value of the one Authorization field is `Bearer` in any case, one space and the token. It
-    /// is refused exactly where there are two such fields, another scheme, or a token that isn't in
-    /// the table.
+    /// The value of the one Authorization field is `Bearer` in any case, one space and the token.
+    /// It is refused exactly where there are two such fields, another scheme, or a token that isn't
+    /// in the table.
     pub fn agent_of(&self, fields: &Fields) -> Asked<'_>
         ensures { spec.asked_view result ≡ spec.asked_of self.now fields.now }
     {

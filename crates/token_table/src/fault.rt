@@ -10,8 +10,8 @@ use thiserror::Error;
 /// Why a text is no token table.
 #[derive(Clone, Copy, Debug, PartialEq, Eq, Error)]
 pub enum TokenFault {
-    /// The line with that number, from 1, is malformed, repeats the token of an earlier one, or ends
-    /// past [`crate::TABLE_LIMIT`]. No earlier line does.
+    /// The line with that number, from 1, is malformed, repeats the token of an earlier one, or
+    /// ends past [`crate::TABLE_LIMIT`]. No earlier line does.
     #[error("line {line}")]
     Line { line: u64 },
     /// Memory ran out.

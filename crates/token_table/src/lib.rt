@@ -11,9 +11,9 @@
 //! ```
 //!
 //! Proved: [`Tokens::read`] gives the entries of the lines, in their order (`table`), where no line
-//! is faulty (`sound`), and else the number of the first faulty line (`fault`). [`Tokens::agent_of`]
-//! is the definition `asked_of` of the table and the fields; it takes no memory. [`laws`] ties agents
-//! to the absolute IRIs of `iri_ref`.
+//! is faulty (`sound`), and else the number of the first faulty line (`fault`).
+//! [`Tokens::agent_of`] is the definition `asked_of` of the table and the fields; it takes no
+//! memory. [`laws`] ties agents to the absolute IRIs of `iri_ref`.
 //!
 //! It stands on `iri_ref` and `pod_base`.
 #![tactic(auto)]

@@ -1,6 +1,7 @@
 //! [`Tokens`]: the table, and its reading.
 
-ghost use Rattle.std.specs.Prelude.{◌≡◌, ◌+◌, ◌≤◌, ◌++◌, ◌∷◌, [], true, not, ◌||◌, nat_lt, length, IfOk, IfErr};
+ghost use Rattle.std.specs.Prelude.{◌≡◌, ◌+◌, ◌≤◌, ◌++◌, ◌∷◌, [], true, not, ◌||◌, nat_lt, length};
+ghost use Rattle.std.specs.Prelude.{IfOk, IfErr};
 ghost use Rattle.std.specs.Option.{option_copied, option_to_list};
 ghost use Rattle.std.specs.BTreeMap.{get_by_text};
 ghost use Rattle.token_table.specs.TableLines as spec;
@@ -16,8 +17,8 @@ use std::str;
 /// The last byte at which a line may end.
 pub const TABLE_LIMIT: usize = 1_048_576;
 
-/// The table of tokens. Contracts see its entries, in the order of the text. A token is looked up in
-/// a tree.
+/// The table of tokens. Contracts see its entries, in the order of the text. A token is looked up
+/// in a tree.
 #[derive(Drop)]
 pub struct Tokens {
     entries: Vec<TokenEntry>,
@@ -71,8 +72,10 @@ impl Tokens {
 
     /// Reads the next line: whether it is well-formed and repeats no token.
     fn take_line(&mut self, alloc: Global, line: &[u8]) -> Mem<bool>
-        ensures good { IfOk result (λ good. good ≡ not (spec.is_malformed line.now || spec.repeats self.old line.now)) }
-        ensures table { IfOk result (λ good. good ≡ true → self.new ≡ self.old ++ option_to_list (spec.line_entry line.now)) }
+        ensures good { IfOk result (λ good. good
+            ≡ not (spec.is_malformed line.now || spec.repeats self.old line.now)) }
+        ensures table { IfOk result (λ good. good ≡ true
+            → self.new ≡ self.old ++ option_to_list (spec.line_entry line.now)) }
     {
         if is_skipped(line) {
             return Ok(true);
@@ -86,8 +89,11 @@ impl Tokens {
     /// Reads the next line, which begins at this byte: whether it isn't faulty.
     fn take_line_at(&mut self, alloc: Global, start: usize, line: &[u8]) -> Mem<bool>
         requires { start ≤ TABLE_LIMIT + 1 }
-        ensures good { IfOk result (λ good. good ≡ not (spec.is_malformed line.now || (spec.repeats self.old line.now || nat_lt TABLE_LIMIT (start + length line.now)))) }
-        ensures table { IfOk result (λ good. good ≡ true → self.new ≡ self.old ++ option_to_list (spec.line_entry line.now)) }
+        ensures good { IfOk result (λ good. good
+            ≡ not (spec.is_malformed line.now || (spec.repeats self.old line.now
+            || nat_lt TABLE_LIMIT (start + length line.now)))) }
+        ensures table { IfOk result (λ good. good ≡ true
+            → self.new ≡ self.old ++ option_to_list (spec.line_entry line.now)) }
         ensures end { IfOk result (λ good. good ≡ true → start + length line.now ≤ TABLE_LIMIT) }
     {
         if start + line.len() > TABLE_LIMIT {

@@ -1,6 +1,7 @@
 //! [`TokenEntry`]: a token and its agent, and the line of a table that they stand on.
 
-ghost use Rattle.std.specs.Prelude.{◌≡◌, ◌<◌, ◌==◌, ◌∷◌, [], true, Some, None, IfOk, IfSome, IfNone, length, if◌then◌else◌};
+ghost use Rattle.std.specs.Prelude.{◌≡◌, ◌<◌, ◌==◌, ◌∷◌, [], true, Some, None, IfOk, IfSome};
+ghost use Rattle.std.specs.Prelude.{IfNone, length, if◌then◌else◌};
 ghost use Rattle.std.specs.List.{before_first, after_first, position, list_all};
 ghost use Rattle.token_table.specs.TableLines as spec;
 
@@ -88,7 +89,8 @@ fn is_token(bytes: &[u8]) -> bool
 
 /// The text of these bytes, where they are an absolute IRI.
 fn read_agent(alloc: Global, bytes: &[u8]) -> Mem<Option<Text>>
-    ensures { IfOk result (λ agent. agent ≡ (if spec.is_agent bytes.now then Some bytes.now else None)) }
+    ensures { IfOk result
+        (λ agent. agent ≡ (if spec.is_agent bytes.now then Some bytes.now else None)) }
 {
     let Ok(text) = str::from_utf8(bytes) else {
         return Ok(None);

@@ -5,19 +5,20 @@
 //! | Fields | Answer |
 //! |---|---|
 //! | `session` PLACE MOMENT AGENT METHOD TARGET STATUS | the line of an answered request |
-//! | `entry` SEQ MOMENT AGENT METHOD PATH CONN NUMBER EDITS BASIS.. | the line of a change with so many edits |
+//! | `entry` SEQ MOMENT AGENT METHOD PATH CONN NUMBER EDITS BASIS.. | the line of a change |
 //!
-//! An agent is an IRI, or `public`. A BASIS is the path of a list, `iri`, `blank`, `text` or `en` and
-//! the node of the rule in that form, and `agent`, `everyone`, `authenticated` or the IRI of a group,
-//! with a space between.
+//! EDITS is the number of edits. An agent is an IRI, or `public`. A BASIS is the path of a list,
+//! `iri`, `blank`, `text` or `en` and the node of the rule in that form, and `agent`, `everyone`,
+//! `authenticated` or the IRI of a group, with a space between.
 #![tactic(auto)]
 
 mod reading;
 
 use audit_trail::{entry_line, session_line};
 use case_lines::shown_whole;
+use case_values::number_of;
 use pod_base::{Bytes, Mem, Moment, NoMemory};
-use reading::{agent_of, entry_of, number_of, request_of};
+use reading::{agent_of, entry_of, request_of};
 use std::alloc::{AllocError, Global};
 use std::io;
 

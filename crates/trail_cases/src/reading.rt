@@ -1,24 +1,13 @@
 //! Requests and entries as the words of a case write them.
 
 use case_lines::{bytes, text};
-use iri_ref::{Iri, IriFault};
-use pod_base::{Agent, Bytes, Fields, List, Mem, Method, Moment, NoMemory, Request, Text};
+use case_values::{iri_of, known, method_of, number_of};
+use pod_base::{Agent, Bytes, Fields, List, Moment, Request, Text};
 use pod_command::{Basis, Edit, Entry, Who};
 use pod_path::Path;
 use rdf_graph::Term;
+use rdf_graph::vocabulary::XSD_STRING;
 use std::alloc::{AllocError, Global};
-
-/// The value, unless out of memory.
-fn known<T>(found: Mem<T>) -> Result<T, AllocError> {
-    match found {
-        Ok(value) => Ok(value),
-        Err(NoMemory) => Err(AllocError),
-    }
-}
-
-pub(crate) fn number_of(word: &str) -> u64 {
-    word.parse::<u64>().unwrap_or(0)
-}
 
 fn text_of(alloc: Global, word: &str) -> Result<Text, AllocError> {
     let text = text(alloc, word)?;
@@ -31,19 +20,6 @@ pub(crate) fn agent_of(alloc: Global, word: &str) -> Result<Agent, AllocError> {
     }
     let iri = text_of(alloc, word)?;
     Ok(Agent::Known(iri))
-}
-
-fn method_of(word: &str) -> Method {
-    match word {
-        "GET" => Method::Get,
-        "HEAD" => Method::Head,
-        "OPTIONS" => Method::Options,
-        "POST" => Method::Post,
-        "PUT" => Method::Put,
-        "PATCH" => Method::Patch,
-        "DELETE" => Method::Delete,
-        _ => Method::Other,
-    }
 }
 
 /// A request with that method and target, and nothing else.
@@ -60,19 +36,10 @@ pub(crate) fn request_of(alloc: Global, method: &str, target: &str) -> Result<Re
     })
 }
 
-/// The IRI that a word is.
-fn iri_of(alloc: Global, word: &str) -> Result<Option<Iri>, AllocError> {
-    match Iri::read(alloc, word) {
-        Ok(iri) => Ok(Some(iri)),
-        Err(IriFault::BadReference) => Ok(None),
-        Err(IriFault::NoMemory) => Err(AllocError),
-    }
-}
-
 /// The node of a rule.
 fn node_of(alloc: Global, form: &str, word: &str) -> Result<Option<Term>, AllocError> {
     match form {
-        "iri" => match iri_of(alloc, word)? {
+        "iri" => match known(iri_of(alloc, word))? {
             Some(iri) => Ok(Some(Term::Iri(iri))),
             None => Ok(None),
         },
@@ -82,7 +49,7 @@ fn node_of(alloc: Global, form: &str, word: &str) -> Result<Option<Term>, AllocE
         }
         "text" => {
             let lexical = text_of(alloc, word)?;
-            match iri_of(alloc, rdf_graph::vocabulary::XSD_STRING)? {
+            match known(iri_of(alloc, XSD_STRING))? {
                 Some(datatype) => Ok(Some(Term::Literal { lexical, datatype })),
                 None => Ok(None),
             }

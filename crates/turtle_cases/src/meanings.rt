@@ -1,30 +1,22 @@
-//! Cases of `turtle_terms`: what the first token of a text means under a base and prefixes, which are a
-//! field of `name=IRI` pairs with `;` between them.
+//! Cases of `turtle_terms`: what the first token of a text means under a base and prefixes, which
+//! are a field of `name=IRI` pairs with `;` between them.
 
 ghost use Rattle.turtle_lex.specs.Tokens.{IsTokenOf};
 
 use case_lines::{bytes, shown};
-use iri_ref::{Iri, IriFault};
+use case_values::{iri_of, known};
 use pod_base::{Mem, NoMemory};
 use rdf_graph::Term;
 use std::alloc::{AllocError, Global};
 use turtle_lex::{Token, TokenKind, next_token};
 use turtle_terms::{Scope, TurtleFault};
 
-fn iri(alloc: Global, text: &str) -> Mem<Option<Iri>> {
-    match Iri::read(alloc, text) {
-        Ok(iri) => Ok(Some(iri)),
-        Err(IriFault::BadReference) => Ok(None),
-        Err(IriFault::NoMemory) => Err(NoMemory),
-    }
-}
-
 /// The scope with the prefixes of a field, declared in their order.
 fn scope(alloc: Global, field: &str) -> Mem<Scope> {
     let mut scope = Scope::new(alloc);
     for pair in field.split(';') {
         if let Some((prefix, text)) = pair.split_once('=') {
-            if let Some(iri) = iri(alloc, text)? {
+            if let Some(iri) = iri_of(alloc, text)? {
                 scope.declare(alloc, prefix, iri)?;
             }
         }
@@ -50,7 +42,7 @@ fn show(alloc: Global, found: Result<Option<Term>, TurtleFault>) -> Mem<String> 
 
 fn meaning(alloc: Global, base: &str, prefixes: &str, field: &str) -> Mem<String> {
     let text = bytes(alloc, field)?;
-    let Some(base) = iri(alloc, base)? else {
+    let Some(base) = iri_of(alloc, base)? else {
         return Ok(String::from_str(alloc, "no base")?);
     };
     let scope = scope(alloc, prefixes)?;
@@ -70,10 +62,7 @@ pub(crate) fn term(
     prefixes: &str,
     field: &str,
 ) -> Result<String, AllocError> {
-    match meaning(alloc, base, prefixes, field) {
-        Ok(shown) => Ok(shown),
-        Err(NoMemory) => Err(AllocError),
-    }
+    known(meaning(alloc, base, prefixes, field))
 }
 
 fn tag(alloc: Global, bytes: &[u8], token: &Token) -> Mem<String>
@@ -90,10 +79,7 @@ fn tag(alloc: Global, bytes: &[u8], token: &Token) -> Mem<String>
 pub(crate) fn language(alloc: Global, field: &str) -> Result<String, AllocError> {
     let text = bytes(alloc, field)?;
     match next_token(text.as_slice(), 0) {
-        Ok(Some(token)) => match tag(alloc, text.as_slice(), &token) {
-            Ok(shown) => Ok(shown),
-            Err(NoMemory) => Err(AllocError),
-        },
+        Ok(Some(token)) => known(tag(alloc, text.as_slice(), &token)),
         _ => String::from_str(alloc, "no token"),
     }
 }

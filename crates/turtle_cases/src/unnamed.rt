@@ -1,7 +1,8 @@
 //! Cases of `turtle_labels`: the labels of the unnamed nodes with these numbers in a document.
 
 use case_lines::bytes;
-use pod_base::{Mem, NoMemory};
+use case_values::known;
+use pod_base::Mem;
 use std::alloc::{AllocError, Global};
 use turtle_labels::Labels;
 
@@ -19,8 +20,5 @@ fn labels(alloc: Global, numbers: &str, document: &[u8]) -> Mem<String> {
 
 pub(crate) fn answer(alloc: Global, numbers: &str, field: &str) -> Result<String, AllocError> {
     let document = bytes(alloc, field)?;
-    match labels(alloc, numbers, document.as_slice()) {
-        Ok(shown) => Ok(shown),
-        Err(NoMemory) => Err(AllocError),
-    }
+    known(labels(alloc, numbers, document.as_slice()))
 }

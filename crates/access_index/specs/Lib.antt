@@ -1,0 +1,6 @@
+pub mod Listing
+pub mod Governing
+pub mod Reach
+-- internal: cited by private clauses alone
+pub mod Tables
+pub mod Index

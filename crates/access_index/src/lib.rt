@@ -1,0 +1,26 @@
+//! Which access list governs each path of a pod, kept up to date under changes.
+//!
+//! ```text
+//! let index = AccessIndex::of(alloc, &paths)?;           // `/.acl` is among the paths
+//! let found = index.find(&path);                          // whose list, own or inherited
+//! let next = index.after(alloc, &added, &removed)?;       // the index of the changed list
+//! ```
+//!
+//! Proved: `of` is the index of its paths (clause `paths`), and `after` that of the paths without
+//! the removed and with the added ones (`paths`). `find` finds exactly the paths of an index
+//! (`listed`), and what it finds is the list in force among them (`governs`). [`laws`] ties that
+//! definition to the one of `pod_rows`, and says what a change of lists leaves and what it makes of
+//! the rest. The crate stands on `pod_rows`, `acl_rules`, `pod_path` and `pod_base`.
+#![tactic(auto)]
+
+mod changes;
+mod index;
+pub mod laws;
+mod lookup;
+mod reach;
+mod resolved;
+mod table;
+
+pub use index::AccessIndex;
+pub use reach::is_reached;
+pub use resolved::Resolved;

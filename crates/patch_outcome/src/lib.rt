@@ -1,0 +1,25 @@
+//! What a patch makes of the graph of a row, or why it is refused (Solid Protocol 0.11, section
+//! 5.3.1).
+//!
+//! ```ignore
+//! match outcome(alloc, path.is_container(), &graph, &patch)? {
+//!     Ok(change) => ..,        // what is removed and added
+//!     Err(refusal) => ..,      // 409, with `refusal.word()`
+//! }
+//! ```
+//!
+//! Proved: [`outcome`] returns the change of the patch at the graph, or the first of its refusals
+//! (`IsOutcome` of `specs/Outcomes.antt`); [`update_outcome`] does the same for an update of SPARQL
+//! data, by the patch that it spells at the graph (`IsUpdateOutcome` of `specs/Updates.antt`).
+//!
+//! It stands on `rdf_graph` for patches, on `sparql_patch` for updates, and on `pod_rows` for the
+//! vocabulary of containers.
+#![tactic(auto)]
+
+mod outcomes;
+mod refusal;
+mod update;
+
+pub use outcomes::outcome;
+pub use refusal::PatchRefusal;
+pub use update::update_outcome;

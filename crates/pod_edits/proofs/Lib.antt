@@ -1,0 +1,9 @@
+pub mod Trees
+pub mod Places
+pub mod FoundRows
+pub mod Transfer
+pub mod Built
+pub mod Removed
+pub mod KindLaws
+pub mod ListSteps
+pub mod Pointwise

@@ -1,0 +1,33 @@
+//! What a change makes of the rows of a pod: the edits of each kind of change, in order, and what
+//! is in the way of one.
+//!
+//! ```ignore
+//! let place = find_place(alloc, &state, &path)?;       // the missing containers, the nearest one
+//! if meets_twin(alloc, &state, &path, &place)? || exceeds_rows(&state, place.added_rows()) {
+//!     return refused(..);                              // 409, 507
+//! }
+//! let edits = creation(alloc, row, place)?;            // the edits of a PUT of a new path
+//! ```
+//!
+//! Proved, for every state of a pod: [`find_place`] finds the containers that are missing above a
+//! new path and the nearest one that is a row (`IsPlaceOf`); [`creation`], [`replacement`],
+//! [`change`], [`deletion`] and [`removal`] are the edits of `specs/Edits.antt`; and each test of
+//! what is in the way is its definition in `specs/Refusals.antt`. [`laws`] says that where a pod is
+//! well-formed and no test refuses, an entry of the edits with the next number applies, and what is
+//! at the path afterwards. It stands on `pod_rows` for the states of a pod, on `acl_rules`,
+//! `rdf_graph` and `pod_command` for rows, and on `pod_path`, `iri_ref` and `pod_base`.
+#![tactic(auto)]
+
+mod edit_lists;
+pub mod laws;
+mod place;
+mod refusals;
+mod row_kind;
+
+pub use edit_lists::{change, creation, deletion, removal, replacement};
+pub use place::{Place, find_place};
+pub use refusals::{
+    breaks_guard, exceeds_rows, has_children, is_bytes, lacks_number, lacks_subject, meets_twin,
+    states_containment,
+};
+pub use row_kind::kind_of;

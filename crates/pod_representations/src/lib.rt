@@ -1,0 +1,35 @@
+//! What a row of a pod is shown as: the types in which it is offered, its representation in one
+//! of them, the verdict on preconditions, and the response to a GET or HEAD.
+//!
+//! ```text
+//! let Some(media) = chosen(alloc, row, &request.fields)? else { .. };   // 406
+//! let shown = represent(alloc, &state, row, media)?;
+//! match read_verdict(&conditions, request.method, &shown) {
+//!     Verdict::Go => show(alloc, base, &path, &shown, granted, request.method, &request.fields)?,
+//!     Verdict::NotModified => ..,   // 304
+//!     Verdict::Failed => ..,        // 412
+//! }
+//! ```
+//!
+//! Proved, for every state of a pod: [`chosen`] is the choice of `specs/Offers.antt`,
+//! [`represent`] has the type, the body, the tag and the moment of `specs/Representations.antt`,
+//! a container's being those of its view; [`read_verdict`] and [`change_verdict`] are those of
+//! `specs/Preconditions.antt`; and [`show`] is the response of `specs/ReadResponses.antt`: 200,
+//! 206 of one part or several, or 416. [`laws`] says which part of a pod all of this depends on.
+//!
+//! It stands on `pod_rows` for a container's view, on `turtle_write` and `jsonld_write` for the
+//! texts of graphs, on `content_nego`, `conditional_req`, `range_req` and `request_fields` for
+//! what a request asks, and on `pod_responses` for the fields of responses.
+#![tactic(auto)]
+
+mod judging;
+pub mod laws;
+mod media;
+mod parts;
+mod reading;
+mod shown;
+
+pub use judging::{change_verdict, read_verdict};
+pub use media::{Media, chosen, offers};
+pub use reading::show;
+pub use shown::{Shown, represent};
