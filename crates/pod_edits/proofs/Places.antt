@@ -259,3 +259,18 @@ room_test limit count added h =
 pub some_test : (paths : List (List ℕ)) → not (length paths == 0) ≡ has_some paths
 some_test [] = refl
 some_test (path ∷ more) = ap not (eqb-suc-zero (length more))
+
+pub member_twin : (p : Pod) (path above : List ℕ) → WellFormed p → IsPath path → parent_of path ≡ Some above → is_row p.rows above ≡ true → meets_twin p.rows path ≡ has_twin_row p.rows path
+unfolding meets_twin
+member_twin p path above w h e here =
+    ap (λ (b : Bool). has_twin_row p.rows path || b) (sym (twins_missing p path w) ∙ ap (list_any (has_twin_row p.rows)) (missing_none p path above w h e here)) ∙ alone (has_twin_row p.rows path)
+  where
+    alone : (b : Bool) → (b || false) ≡ b
+    alone true = refl
+    alone false = refl
+
+pub member_is : (p : Pod) (path above : List ℕ) (place : Place) → WellFormed p → IsPath path → parent_of path ≡ Some above → is_row p.rows above ≡ true → place.nearest ≡ above → place.missing.items ≡ [] → IsPlaceOf p.rows path place
+member_is p path above place w h e here nearest items = record {
+  nearest = nearest_here p.rows path above h e here ∙ ap (λ (x : List ℕ). Some x) (sym nearest);
+  missing = missing_none p path above w h e here ∙ sym items;
+}

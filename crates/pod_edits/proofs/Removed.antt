@@ -370,7 +370,7 @@ below p path q w none here e = by_kind (is_auxiliary q) refl
     by_kind false plain = absurd (true≢false (sym (child_there p path q here plain e) ∙ none))
     by_kind true aux = by_subject (auxiliary_has q aux)
 
-abbrev three_gone : List ℕ → List ℕ → Bool
+abbrev pub three_gone : List ℕ → List ℕ → Bool
 three_gone path q = (bytes_eq q path || bytes_eq q (path ++ codes ".acl")) || bytes_eq q (path ++ codes ".meta")
 
 three_off : (path q : List ℕ) → bytes_eq q path ≡ false → bytes_eq q (path ++ codes ".acl") ≡ false → bytes_eq q (path ++ codes ".meta") ≡ false → three_gone path q ≡ false
@@ -470,7 +470,13 @@ emptied p path modified w can =
       has = two.has;
     }
 
-pub deletes : (p : Pod) (path : List ℕ) (modified : Moment) → WellFormed p → CanDelete p path → TakesAway p (deletion_edits p.rows path modified) path
+-- rows without a path and its auxiliaries
+pub record Deletes (p : Pod) (path : List ℕ) (modified : Moment) : Type 0 where
+  pub rows : List Row
+  pub leads : LeadsTo p (deletion_edits p.rows path modified) rows
+  pub gone : (q : List ℕ) → three_gone path q ≡ true → is_row rows q ≡ false
+
+pub deletes : (p : Pod) (path : List ℕ) (modified : Moment) → WellFormed p → CanDelete p path → Deletes p path modified
 unfolding deletion_edits
 deletes p path modified w can = by_parent (parent_of path) refl
   where
@@ -480,20 +486,17 @@ deletes p path modified w can = by_parent (parent_of path) refl
     well : WellFormed (with_rows p e.rows)
     well = rest_well p path e.rows w can e.has
 
-    here_gone : three_gone path path ≡ true
-    here_gone = or_left (bytes_eq path path || bytes_eq path (path ++ codes ".acl")) (bytes_eq path (path ++ codes ".meta")) (or_left (bytes_eq path path) (bytes_eq path (path ++ codes ".acl")) (itself path))
-
-    gone : row_at e.rows path ≡ None
-    gone = e.has.found path ∙ ap (λ (b : Bool). cond b None (row_at p.rows path)) here_gone
+    gone : (q : List ℕ) → three_gone path q ≡ true → row_at e.rows q ≡ None
+    gone q g = e.has.found q ∙ ap (λ (b : Bool). cond b None (row_at p.rows q)) g
 
     is_path : IsPath path
     is_path = path_of_norm path (placed_at p path w can.present).normal
 
-    by_parent : (o : Option (List ℕ)) → parent_of path ≡ o → TakesAway p (edits.Remove path ∷ (remove_if p.rows (acl_of path) ++ (remove_if p.rows (meta_of path) ++ touch_if (parent_of path) modified))) path
+    by_parent : (o : Option (List ℕ)) → parent_of path ≡ o → Deletes p path modified
     by_parent None k = record {
       rows = e.rows;
       leads = record { edits = e.edits (touch_if (parent_of path) modified) ∙ ap (λ (o : Option (List ℕ)). after_edits (Some e.rows) (touch_if o modified)) k; well_formed = well };
-      gone = ap is_some gone;
+      gone = λ q g. ap is_some (gone q g);
     }
     by_parent (Some a) k =
         let here = parent_row p path a w can.present k in
@@ -508,5 +511,22 @@ deletes p path modified w can = by_parent (parent_of path) refl
             edits = e.edits (touch_if (parent_of path) modified) ∙ ap (λ (o : Option (List ℕ)). after_edits (Some e.rows) (touch_if o modified)) k ∙ ap (touch_found e.rows modified) found;
             well_formed = touched (with_rows p e.rows) a f.0 modified well found;
           };
-          gone = ap is_some (put_beside e.rows (with_moment f.0 modified) path (ap (λ (x : List ℕ). bytes_eq x path) at ∙ other) ∙ gone);
+          gone = λ q g. ap is_some (put_beside e.rows (with_moment f.0 modified) q
+              (ap (λ (x : List ℕ). bytes_eq x q) at ∙ differ a q (λ same. true≢false (sym g ∙ ap (three_gone path) (sym same) ∙ stays))) ∙ gone q g);
         }
+
+-- the three that go
+pub path_goes : (path : List ℕ) → three_gone path path ≡ true
+path_goes path = or_left (bytes_eq path path || bytes_eq path (path ++ codes ".acl")) (bytes_eq path (path ++ codes ".meta")) (or_left (bytes_eq path path) (bytes_eq path (path ++ codes ".acl")) (itself path))
+
+pub acl_goes : (p : Pod) (path : List ℕ) (modified : Moment) (d : Deletes p path modified) → is_auxiliary path ≡ false → is_row_of d.rows (acl_of path) ≡ false
+acl_goes p path modified d plain =
+    let acl = path ++ codes ".acl" in
+    ap (is_row_of d.rows) (acl_is path plain)
+    ∙ d.gone acl (or_left (bytes_eq acl path || bytes_eq acl acl) (bytes_eq acl (path ++ codes ".meta")) (or_right (bytes_eq acl path) (bytes_eq acl acl) (itself acl)))
+
+pub meta_goes : (p : Pod) (path : List ℕ) (modified : Moment) (d : Deletes p path modified) → is_auxiliary path ≡ false → is_row_of d.rows (meta_of path) ≡ false
+meta_goes p path modified d plain =
+    let meta = path ++ codes ".meta" in
+    ap (is_row_of d.rows) (meta_is path plain)
+    ∙ d.gone meta (or_right (bytes_eq meta path || bytes_eq meta (path ++ codes ".acl")) (bytes_eq meta meta) (itself meta))

@@ -21,7 +21,7 @@ use Rattle.pod_edits.specs.Refusals.{states_containment}
 abbrev pub triples_of : Row → List Triple
 triples_of row = triples_in row.content
 
--- The entry has the next number, which is one.
+-- The entry has the number of the next change, and there is one.
 pub record HasNumber (next : ℕ) (entry : Entry) : Type 0 where
   pub seq : entry.seq ≡ next
   pub number : lacks_number next ≡ false

@@ -7,7 +7,7 @@ ghost use Rattle.pod_command.specs.declared.edit.Edit.TheVariants.{Put, Touch};
 ghost use Rattle.pod_command.specs.declared.entry.Entry.{Entry};
 ghost use Rattle.pod_command.specs.declared.row.Content.{Content};
 ghost use Rattle.pod_command.specs.declared.row.Row.{Row};
-ghost use Rattle.pod_path.specs.Hierarchy.{acl_of, is_auxiliary, meta_of, parent_of};
+ghost use Rattle.pod_path.specs.Hierarchy.{acl_of, is_auxiliary, meta_of, parent_of, twin_of};
 ghost use Rattle.pod_path.specs.Norm.{IsPath};
 ghost use Rattle.rdf_graph.specs.declared.change.Change.{Change};
 ghost use Rattle.pod_rows.specs.Apply.{Applies, applied};
@@ -20,7 +20,7 @@ ghost use Rattle.pod_edits.specs.Edits.{change_edits, creation_edits, deletion_e
 ghost use Rattle.pod_edits.specs.Edits.{removal_edits};
 ghost use Rattle.pod_edits.specs.Kinds.{kind_of, may_hold};
 ghost use Rattle.pod_edits.specs.Places.{missing_of, nearest_of};
-ghost use Rattle.pod_edits.specs.Refusals.{added_rows};
+ghost use Rattle.pod_edits.specs.Refusals.{added_rows, meets_twin};
 
 /// A new row that is no access list and no description.
 pub fn creation_law()
@@ -65,6 +65,14 @@ pub fn deletion_law()
         → WellFormed pod → CanDelete pod path
         → entry.edits.items ≡ deletion_edits pod.rows path modified
         → is_row (applied pod entry).rows path ≡ false }
+    ensures list { (pod : Pod) (entry : Entry) (path : List ℕ) (modified : Moment)
+        → WellFormed pod → CanDelete pod path
+        → entry.edits.items ≡ deletion_edits pod.rows path modified
+        → is_row_of (applied pod entry).rows (acl_of path) ≡ false }
+    ensures description { (pod : Pod) (entry : Entry) (path : List ℕ) (modified : Moment)
+        → WellFormed pod → CanDelete pod path
+        → entry.edits.items ≡ deletion_edits pod.rows path modified
+        → is_row_of (applied pod entry).rows (meta_of path) ≡ false }
     ensures auxiliary { (pod : Pod) (next : ℕ) (entry : Entry) (path : List ℕ) → WellFormed pod
         → CanRemove pod path → HasNumber next entry → entry.edits.items ≡ removal_edits path
         → Applies pod next entry }
@@ -79,8 +87,8 @@ pub fn ancestors_law()
         → ancestors path ≡ parent ∷ ancestors parent }
 {}
 
-/// Above a member of a container that is a row nothing is missing: a POST makes one row and touches
-/// the container.
+/// Above a member of a container that is a row nothing is missing, and no twin is in the way but its
+/// own: a POST makes one row and touches the container.
 pub fn member_law()
     ensures nearest { (pod : Pod) (path container : List ℕ) → WellFormed pod → IsPath path
         → parent_of path ≡ Some container → IsTrue (is_row pod.rows container)
@@ -88,6 +96,9 @@ pub fn member_law()
     ensures missing { (pod : Pod) (path container : List ℕ) → WellFormed pod → IsPath path
         → parent_of path ≡ Some container → IsTrue (is_row pod.rows container)
         → missing_of pod.rows path ≡ [] }
+    ensures twin { (pod : Pod) (path container : List ℕ) → WellFormed pod → IsPath path
+        → parent_of path ≡ Some container → IsTrue (is_row pod.rows container)
+        → meets_twin pod.rows path ≡ is_row_of pod.rows (twin_of path) }
     ensures edits { (pod : Pod) (row : Row) (container : List ℕ) → WellFormed pod
         → IsPath row.path → parent_of row.path ≡ Some container
         → IsTrue (is_row pod.rows container)

@@ -1,12 +1,14 @@
-//! [`find_place`]: where a new row goes in the tree.
+//! [`find_place`], [`member_place`]: where a new row goes in the tree.
 
-ghost use Rattle.std.specs.Prelude.{◌≡◌, ◌<◌, ℕ, List as TheList, IfOk, Some, false, length};
+ghost use Rattle.std.specs.Prelude.{◌≡◌, ◌<◌, ℕ, List as TheList, IfOk, Some, false, true};
+ghost use Rattle.std.specs.Prelude.{length};
 ghost use Rattle.pod_command.specs.declared.row.Row.{Row as TheRow};
 ghost use Rattle.pod_edits.specs.Places.{IsPlaceOf};
 ghost use Rattle.pod_edits.specs.Refusals.{added_rows};
 ghost use Rattle.pod_path.specs.Hierarchy.{is_auxiliary, parent_of};
 ghost use Rattle.pod_path.specs.Norm.{IsPath};
-ghost use Rattle.pod_rows.specs.Pod.{is_row};
+ghost use Rattle.pod_rows.specs.Pod.{Pod, is_row};
+ghost use Rattle.pod_rows.specs.WellFormed.{WellFormed};
 
 use pod_base::{List, Mem};
 use pod_path::Path;
@@ -31,6 +33,20 @@ impl Place {
     {
         self.missing.as_slice().len() + 1
     }
+}
+
+/// The place of a new member of a container that is a row: nothing is missing above it. It looks
+/// nothing up.
+pub fn member_place(alloc: Global, container: &Path) -> Mem<Place>
+    ensures { IfOk result (λ place. (pod : Pod) (path : TheList ℕ) → WellFormed pod
+        → IsPath path → parent_of path ≡ Some container.now
+        → is_row pod.rows container.now ≡ true → IsPlaceOf pod.rows path place) }
+{
+    let nearest = container.copy(alloc)?;
+    Ok(Place {
+        nearest,
+        missing: List::new(alloc),
+    })
 }
 
 /// The container just above a path that is no row.
