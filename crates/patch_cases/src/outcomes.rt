@@ -2,6 +2,9 @@
 //! where `e:` is `http://e.example/`. What is removed is shown with `- ` before each triple, and what
 //! is added with `+ `.
 
+ghost use Rattle.std.specs.Prelude.{IfOk, IfSome};
+ghost use Rattle.rdf_graph.specs.Patch.{IsBound};
+
 use crate::named::{graph, namings};
 use iri_ref::Iri;
 use n3_patch::{N3Fault, read};
@@ -15,7 +18,9 @@ const PREFIXES: &str = "@prefix solid: <http://www.w3.org/ns/solid/terms#>. \
     <> a solid:InsertDeletePatch; ";
 
 /// The patch of parts in N3; none where they are no patch.
-fn patch(alloc: Global, parts: &str) -> Mem<Option<Patch>> {
+fn patch(alloc: Global, parts: &str) -> Mem<Option<Patch>>
+    ensures { IfOk result (λ patch. IfSome patch IsBound) }
+{
     let text = format!(in alloc; "{PREFIXES}{parts}.")?;
     let Ok(base) = Iri::read(alloc, "http://e.example/d") else {
         return Ok(None);
