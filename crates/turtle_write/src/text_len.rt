@@ -97,7 +97,7 @@ fn line_len(triple: &Triple) -> u64
 }
 
 /// The length of the lines of triples.
-fn lines_len(triples: &[Triple]) -> u64
+pub(crate) fn lines_len(triples: &[Triple]) -> u64
     ensures { result ≡ saturated (length (flat_map line triples.now)) }
 {
     let mut len = len_of(0);
