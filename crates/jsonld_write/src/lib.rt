@@ -16,6 +16,7 @@
 //! JSON is written by `json`, a token at a time.
 #![tactic(auto)]
 
+mod ahead;
 mod document;
 mod key_order;
 pub mod laws;

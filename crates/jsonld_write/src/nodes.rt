@@ -11,6 +11,7 @@ ghost use Rattle.jsonld_write.specs.Sorted.{sorted};
 ghost use Rattle.jsonld_write.specs.Written.{Adds, nodes_tokens, object_tokens, properties_tokens};
 ghost use Rattle.jsonld_write.specs.Written.{property_tokens, tokens_of};
 
+use crate::ahead::read_ahead;
 use crate::key_order::{by_key, key_run};
 use crate::tokens::{begin_array, begin_object, end_array, end_object, put_key};
 use crate::values::{key_of, put_name, put_object};
@@ -120,7 +121,9 @@ fn put_nodes(alloc: Global, writer: &mut Writer, triples: &[Triple]) -> Mem<()>
         (Adds writer.old writer.new (nodes_tokens (runs same_subject triples.now))) }
 {
     let mut at = 0;
+    let mut ahead = 0;
     while at < triples.len() {
+        ahead = read_ahead(triples, at, ahead);
         let rest = &triples[at..];
         let run = subject_run(rest);
         put_node(alloc, writer, &rest[..run])?;

@@ -15,6 +15,7 @@ ghost use Rattle.jsonld_write.specs.Widths.{has_letter, keys_width, nodes_width,
 ghost use Rattle.jsonld_write.specs.Widths.{quoted_width, width};
 ghost use Rattle.jsonld_write.specs.Written.{HasAbsolute, HasAbsoluteIris};
 
+use crate::ahead::read_ahead;
 use crate::key_order::{by_key, key_run};
 use crate::nodes::subject_run;
 use crate::values::{is_string, is_type, key_of};
@@ -251,7 +252,9 @@ fn nodes_len(alloc: Global, triples: &[Triple]) -> Mem<u64>
 {
     let mut len = len_of(0);
     let mut at = 0;
+    let mut ahead = 0;
     while at < triples.len() {
+        ahead = read_ahead(triples, at, ahead);
         let rest = &triples[at..];
         let run = subject_run(rest);
         let node = node_len(alloc, &rest[..run])?;
