@@ -1,0 +1,2 @@
+-- the first rows of a pod
+pub mod FirstPods
