@@ -1,0 +1,57 @@
+-- A new member has one path, or none.
+use Rattle.std.proofs.Common.{◌≡◌, ℕ, ◌<◌, Bool, List, Result, Ok, Err, ◌⊎◌, inl, inr, sym, ◌∙◌, ap, subst, arith}
+use Rattle.std.proofs.lemmas.Bool.{false≢true, cases_lt}
+use Rattle.pod_base.specs.declared.response.Response.{Response}
+use Rattle.pod_path.specs.Norm.{norm}
+use Rattle.pod_path.specs.declared.fault.PathFault.{PathFault}
+use Rattle.pod_path.specs.declared.fault.PathFault.TheVariants.{TooLong, TooDeep}
+use Rattle.pod_rows.specs.Pod.{Pod}
+use Rattle.slug_naming.specs.Names.{IsFreeName, candidate_path, is_free}
+use Rattle.pod_reply.specs.MemberNames.{HasNoName, IsMemberPath, IsNamed}
+
+module _ (t : List ℕ → Bool) (container stem : List ℕ) (folder : Bool) where
+  -- no candidate before the first free one is free
+  none_before : (p q : List ℕ) (h : IsFreeName t container stem folder p)
+      (k : IsFreeName t container stem folder q) → h.number < k.number → ⊥
+  none_before p q h k before =
+      false≢true (sym (k.first h.number before) ∙ ap (is_free t) (sym h.is) ∙ h.free)
+
+  one_number : (p q : List ℕ) (h : IsFreeName t container stem folder p)
+      (k : IsFreeName t container stem folder q) → h.number ≡ k.number
+  one_number p q h k =
+      elim (cases_lt h.number k.number) as (λ _. h.number ≡ k.number) [
+        | inl lt ↦ absurd (none_before p q h k lt)
+        | inr le ↦ elim (cases_lt k.number h.number) as (λ _. h.number ≡ k.number) [
+          | inl lt ↦ absurd (none_before q p k h lt)
+          | inr more ↦ omega arith
+        ]
+      ]
+
+  pub one_free_name : (p q : List ℕ) → IsFreeName t container stem folder p
+      → IsFreeName t container stem folder q → p ≡ q
+  one_free_name p q h k =
+      h.is ∙ ap (candidate_path container stem folder) (one_number p q h k) ∙ sym k.is
+
+not_fault : (path : List ℕ) (fault : PathFault) → norm path ≡ Ok path → norm path ≡ Err fault → ⊥
+not_fault path fault e k = cc
+
+within_limits : (path : List ℕ) → norm path ≡ Ok path → (norm path ≡ Err TooLong) ⊎ (norm path ≡ Err TooDeep)
+    → ⊥
+within_limits path e (inl k) = not_fault path TooLong e k
+within_limits path e (inr k) = not_fault path TooDeep e k
+
+-- the first free name isn't within the limits and past them
+no_other : (pod : Pod) (container stem : List ℕ) (folder : Bool) (path : List ℕ)
+    → IsMemberPath pod container stem folder path → HasNoName pod container stem folder → ⊥
+no_other pod container stem folder path h k =
+    let same : k.path ≡ path = one_free_name _ container stem folder k.path path k.first h.first in
+    within_limits k.path (subst (λ (p : List ℕ). norm p ≡ Ok p) (sym same) h.normal) k.fault
+
+pub one_named : (pod : Pod) (container stem : List ℕ) (folder : Bool)
+    (a b : Result (List ℕ) Response) → IsNamed pod container stem folder a
+    → IsNamed pod container stem folder b → a ≡ b
+one_named pod container stem folder (Ok p) (Ok q) h k =
+    ap Ok (one_free_name _ container stem folder p q h.first k.first)
+one_named pod container stem folder (Ok p) (Err r) h k = absurd (no_other pod container stem folder p h k.0)
+one_named pod container stem folder (Err r) (Ok q) h k = absurd (no_other pod container stem folder q k h.0)
+one_named pod container stem folder (Err r) (Err s) h k = ap Err (h.1 ∙ sym k.1)

@@ -1,0 +1,58 @@
+-- The reply to a GET or HEAD that is granted: what is there is shown, in a representation that the
+-- client accepts and doesn't have, or the connection becomes a WebSocket.
+use Rattle.std.specs.Prelude.{ℕ, List, Option, Some, None, codes}
+use Rattle.pod_access.specs.AllowField.{allow_field}
+use Rattle.pod_base.specs.declared.agent.Agent.{Agent}
+use Rattle.pod_base.specs.declared.request.Request.{Request}
+use Rattle.pod_base.specs.declared.response.Response.{Response}
+use Rattle.conditional_req.specs.Conditions.{conditions}
+use Rattle.conditional_req.specs.declared.preconditions.Verdict.{Verdict}
+use Rattle.conditional_req.specs.declared.preconditions.Verdict.TheVariants.{Go, NotModified}
+use Rattle.conditional_req.specs.declared.preconditions.Verdict.TheVariants.{Failed}
+use Rattle.pod_command.specs.declared.row.Row.{Row}
+use Rattle.pod_representations.specs.Offers.{chosen}
+use Rattle.pod_representations.specs.Preconditions.{read_verdict}
+use Rattle.pod_representations.specs.ReadResponses.{read_response}
+use Rattle.pod_representations.specs.Representations.{represented}
+use Rattle.pod_representations.specs.declared.media.Media.{Media}
+use Rattle.pod_representations.specs.declared.shown.Shown.{Shown}
+use Rattle.pod_responses.specs.Responses.{refusal, not_modified, upgraded}
+use Rattle.pod_rows.specs.Pod.{Pod, row_at}
+use Rattle.request_fields.specs.Upgrades.{upgrade_key}
+use Rattle.websocket.specs.Handshake.{accept_key_of}
+
+-- by the verdict on the preconditions
+abbrev pub judged_read : Pod → Request → List ℕ → Agent → Shown → Verdict → Response
+judged_read pod request path agent shown NotModified = not_modified shown.tag.0 shown.modified.0
+judged_read pod request path agent shown Failed = refusal 412 (codes "condition")
+judged_read pod request path agent shown Go = read_response pod.base path shown
+    (allow_field pod agent path) request.method request.fields
+
+abbrev pub shown_read : Pod → Request → List ℕ → Agent → Shown → Response
+shown_read pod request path agent shown = judged_read pod request path agent shown
+    (read_verdict (conditions request.fields) request.method shown)
+
+-- by the offer that is chosen
+abbrev pub chosen_read : Pod → Request → List ℕ → Agent → Row → Option Media → Response
+chosen_read pod request path agent row None = refusal 406 (codes "accept")
+chosen_read pod request path agent row (Some media) =
+    shown_read pod request path agent (represented pod row media)
+
+-- 101: the connection becomes a WebSocket
+abbrev pub upgraded_by : List ℕ → Response
+upgraded_by key = upgraded (accept_key_of key)
+
+-- An upgrade is answered before a representation is chosen.
+abbrev pub row_read : Pod → Request → List ℕ → Agent → Row → Option (List ℕ) → Response
+row_read pod request path agent row (Some key) = upgraded_by key
+row_read pod request path agent row None =
+    chosen_read pod request path agent row (chosen row request.fields)
+
+abbrev pub found_read : Pod → Request → List ℕ → Agent → Option Row → Response
+found_read pod request path agent None = refusal 404 (codes "missing")
+found_read pod request path agent (Some row) =
+    row_read pod request path agent row (upgrade_key request)
+
+-- The response to a granted GET or HEAD of a path.
+unfoldable pub read_reply : Pod → Request → List ℕ → Agent → Response
+read_reply pod request path agent = found_read pod request path agent (row_at pod.rows path)

@@ -1,0 +1,37 @@
+//! What a pod replies to a request: a response, and an entry where the request changes the pod.
+//!
+//! ```ignore
+//! let Replied { response, entry } = reply(alloc, &state, &request, &asked, seq, stamp)?;
+//! if let Some(entry) = entry { .. }    // it applies to the state
+//! ```
+//!
+//! Proved, for every state of a pod: [`reply`] returns the reply of `specs/Reply.antt` (`IsReply`),
+//! of which there is at most one ([`laws`]): the first refusal that holds, in the order target,
+//! token, method, body, access, place in the tree, representation, preconditions, content, size;
+//! else the success of the method.
+//!
+//! It stands on the crates that hold one rank each, on `pod_rows` for the states of a pod, and on
+//! `pod_responses` for responses.
+#![tactic(auto)]
+
+mod access_rank;
+mod delete_reply;
+mod dispatch;
+mod entry_size;
+pub mod laws;
+mod member_names;
+mod obstacles;
+mod origin;
+mod patch_reply;
+mod post_reply;
+mod put_reply;
+mod read_reply;
+mod replied;
+mod shape;
+
+pub use access_rank::decide_access;
+pub use dispatch::reply;
+pub use entry_size::{ENTRY_BYTES_LIMIT, bound_entry};
+pub use member_names::name_member;
+pub use origin::Origin;
+pub use replied::Replied;

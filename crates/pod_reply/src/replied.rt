@@ -1,0 +1,104 @@
+//! [`Replied`]: what a pod replies to a request.
+
+ghost use Rattle.std.specs.Prelude.{◌≡◌, IfOk};
+ghost use Rattle.pod_command.specs.Bare.{bare_entry};
+ghost use Rattle.pod_reply.specs.Replies as spec;
+
+use crate::entry_size::bound_entry;
+use crate::origin::Origin;
+use pod_base::{Body, List, Mem, Method, Response};
+use pod_command::{Basis, Edit, Entry};
+use pod_path::Path;
+use std::alloc::Global;
+
+/// The reply to a request: a response, and an entry where the request changes the pod.
+#[derive(Debug, Drop)]
+pub struct Replied {
+    pub response: Response,
+    pub entry: Option<Entry>,
+}
+
+/// A reply that changes nothing.
+pub(crate) fn unchanged(response: Response) -> Replied
+    ensures { spec.reply_of result ≡ spec.unchanged response }
+{
+    Replied {
+        response,
+        entry: None,
+    }
+}
+
+/// A body as it is sent to a HEAD: its length in place of the bytes.
+fn length_only(body: Body) -> Body
+    ensures { result ≡ spec.length_only body }
+{
+    match body {
+        Body::Whole(bytes) => Body::LengthOnly(bytes.len() as u64),
+        Body::Absent => Body::Absent,
+        Body::LengthOnly(count) => Body::LengthOnly(count),
+    }
+}
+
+/// A response as it is sent to a request of that method.
+pub(crate) fn sent_to(method: Method, response: Response) -> Response
+    ensures { result ≡ spec.sent_to method response }
+{
+    match method {
+        Method::Head => Response {
+            status: response.status,
+            fields: response.fields,
+            body: length_only(response.body),
+        },
+        _ => response,
+    }
+}
+
+/// The entry of a change.
+fn entry_of(
+    alloc: Global,
+    origin: &Origin,
+    method: Method,
+    path: &Path,
+    edits: List<Edit>,
+    bases: List<Basis>,
+) -> Mem<Entry>
+    ensures { IfOk result (λ entry. bare_entry entry
+        ≡ spec.entry_of origin.now method path.now edits.items bases.items) }
+{
+    let agent = origin.agent.copy(alloc)?;
+    let path = path.copy(alloc)?;
+    Ok(Entry {
+        seq: origin.seq,
+        conn: origin.stamp.conn,
+        number: origin.stamp.number,
+        agent,
+        moment: origin.stamp.moment,
+        method,
+        path,
+        edits,
+        bases,
+    })
+}
+
+/// The reply to a change: this response, unless the entry is too large.
+pub(crate) fn change_reply(
+    alloc: Global,
+    response: Response,
+    origin: &Origin,
+    method: Method,
+    path: &Path,
+    edits: List<Edit>,
+    bases: List<Basis>,
+) -> Mem<Replied>
+    ensures { IfOk result (λ replied. spec.reply_of replied ≡ spec.change_reply response
+        (spec.entry_of origin.now method path.now edits.items bases.items)) }
+{
+    let entry = entry_of(alloc, origin, method, path, edits, bases)?;
+    match bound_entry(alloc, entry)? {
+        Ok(entry) => Ok(Replied {
+            response,
+            entry: Some(entry),
+        }),
+        Err(refusal) => Ok(unchanged(refusal)),
+    }
+}

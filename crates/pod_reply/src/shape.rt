@@ -1,0 +1,110 @@
+//! [`shape_of`]: what of a request decides its needs.
+
+ghost use Rattle.std.specs.Prelude.{◌≡◌, IfOk};
+ghost use Rattle.std.specs.List.{list_any};
+ghost use Rattle.conditional_req.specs.Conditions.{conditions as conditions_of};
+ghost use Rattle.pod_rows.specs.Pod.{Pod};
+ghost use Rattle.pod_reply.specs.Shapes as spec;
+
+use conditional_req::Conditions;
+use pod_base::{Mem, Request};
+use pod_edits::{Place, find_place};
+use pod_path::Path;
+use pod_rows::PodState;
+use request_body::RequestBody;
+use sparql_patch::Named;
+use std::alloc::Global;
+use wac_decide::Shape;
+
+/// Whether one of the triples that an update names is inserted.
+fn names_insertion(named: &[Named]) -> bool
+    ensures { result ≡ list_any spec.is_insertion named.now }
+{
+    named.iter().any(|naming| naming.insert)
+}
+
+/// Whether one of the triples that an update names is deleted.
+fn names_deletion(named: &[Named]) -> bool
+    ensures { result ≡ list_any spec.is_deletion named.now }
+{
+    named.iter().any(|naming| !naming.insert)
+}
+
+/// Whether a body has conditions.
+fn has_conditions(body: &RequestBody) -> bool
+    ensures { result ≡ spec.has_conditions body.now }
+{
+    match body {
+        RequestBody::Patch(patch) => !patch.conditions.is_empty(),
+        _ => false,
+    }
+}
+
+/// Whether a body deletes triples, or names some as deleted.
+fn has_deletions(body: &RequestBody) -> bool
+    ensures { result ≡ spec.has_deletions body.now }
+{
+    match body {
+        RequestBody::Patch(patch) => !patch.deletions.is_empty(),
+        RequestBody::Update(named) => names_deletion(named.as_slice()),
+        _ => false,
+    }
+}
+
+/// Whether a body inserts triples, or names some as inserted.
+fn has_insertions(body: &RequestBody) -> bool
+    ensures { result ≡ spec.has_insertions body.now }
+{
+    match body {
+        RequestBody::Patch(patch) => !patch.insertions.is_empty(),
+        RequestBody::Update(named) => names_insertion(named.as_slice()),
+        _ => false,
+    }
+}
+
+/// Where a path would go in the tree, if it is no row.
+pub(crate) fn place_of<S: PodState>(alloc: Global, state: &S, path: &Path) -> Mem<Option<Place>>
+    ensures { IfOk result (spec.IsPlaced (S.pod state.now).rows path.now) }
+{
+    if state.taken(path) {
+        return Ok(None);
+    }
+    Ok(Some(find_place(alloc, state, path)?))
+}
+
+/// The nearest ancestor of a path that is no row; the path itself where it is one.
+fn above_of(alloc: Global, path: &Path, place: &Option<Place>) -> Mem<Path>
+    ensures { IfOk result (λ above. (pod : Pod) → spec.IsPlaced pod.rows path.now place.now
+        → above ≡ spec.above_of pod path.now) }
+{
+    match place {
+        Some(place) => place.nearest.copy(alloc),
+        None => path.copy(alloc),
+    }
+}
+
+/// The shape of a request to a path with this body and these preconditions.
+pub(crate) fn shape_of(
+    alloc: Global,
+    request: &Request,
+    path: &Path,
+    place: &Option<Place>,
+    body: &RequestBody,
+    conditions: &Conditions,
+) -> Mem<Shape>
+    requires { conditions.now ≡ conditions_of request.now.fields }
+    ensures { IfOk result (λ shape. (pod : Pod) → spec.IsPlaced pod.rows path.now place.now
+        → shape ≡ spec.shape_of pod request.now path.now body.now) }
+{
+    let above = above_of(alloc, path, place)?;
+    Ok(Shape {
+        method: request.method,
+        path: path.copy(alloc)?,
+        exists: place.is_none(),
+        above,
+        conditions: has_conditions(body),
+        deletions: has_deletions(body),
+        insertions: has_insertions(body),
+        tags: conditions.needs_read(),
+    })
+}
