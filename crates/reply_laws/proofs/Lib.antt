@@ -1,0 +1,12 @@
+mod Lines
+mod Fields
+mod Members
+mod ReplyKinds
+mod Contents
+mod Applying
+mod ReadKinds
+mod PlainRefusals
+mod Encoding
+mod Making
+mod Walk
+mod LawsOfKinds
