@@ -1,4 +1,4 @@
-pub mod PathsLemmas
-pub mod Plain
-pub mod RowsLemmas
-pub mod TypesLemmas
+pub mod AlikeAnswers
+pub mod Answered
+pub mod Histories
+pub mod LongerSessions

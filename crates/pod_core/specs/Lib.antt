@@ -1,5 +1,7 @@
--- What public clauses cite, here and in the crates above.
-pub mod Paths
-pub mod Reply
-pub mod State
-pub mod Types
+-- a history of a pod, what one connection asks and is answered at places of it, and the bytes of
+-- that
+pub mod History
+pub mod Session
+pub mod Output
+pub mod Answers
+pub mod Laws

@@ -1,32 +1,28 @@
-//! The pod, and its one reply to a request.
+//! What a pod replies to a request, and what one connection sees of a pod over its history.
 //!
-//! ```text
-//! let mut pod = Pod::new(alloc, base, owner);
-//! let Replied { response, entry } = answer(alloc, &pod, &request, 0, stamp)?;
-//! if let Some(entry) = entry { pod.apply(alloc, entry)?; }
+//! ```ignore
+//! let replied = answer(alloc, &state, &request, &Asked::Public, state.next(), stamp)?;
+//! if let Some(entry) = &replied.entry { state = state.after(alloc, entry)?; }
 //! ```
 //!
-//! Proved: the reply is that of the definition `reply_of`, whatever the request (`answer`, clause
-//! `reply`), and applying an entry puts its document at its path and changes nothing else
-//! (`Pod::apply`, clauses `applied`, `unchanged`).
+//! Proved of [`answer`], for every state of a pod: the reply is that of the definition (`reply`),
+//! its entry applies to the pod (`applies`), its bytes can be written (`sent`), it is no server
+//! error (`status`), a change has an entry exactly where it succeeded (`complete`), and pods that
+//! are alike for the agent have the same reply (`alike`). `specs/History.antt`,
+//! `specs/Session.antt` and `specs/Output.antt` say what a history is, what a session of one
+//! connection is, and which bytes it writes; [`laws`] says what follows from them.
+//!
+//! It stands on `pod_reply` for the reply, on `pod_rows` for states, on `http_conn` and `http_out`
+//! for messages, on `moment_date` for dates, and on `request_target` for targets.
 #![tactic(auto)]
 
-mod blanks;
-mod content_type;
-mod document;
-mod entry;
-mod path;
-mod pod;
-mod reply;
-mod response;
+mod answering;
+mod change;
+pub mod laws;
+mod refused;
 
-pub use content_type::ContentType;
-pub use document::Document;
-pub use entry::Entry;
-pub use path::is_member_path;
-pub use pod::Pod;
-pub use reply::{Replied, answer, is_change};
-pub use response::refusal;
-
-#[cfg(test)]
-mod tests;
+pub use answering::answer;
+pub use change::is_change;
+pub use pod_reply::Replied;
+pub use refused::{closes_after, refusal_of};
+pub use request_target::target_path;
