@@ -16,7 +16,6 @@
 //! | `one` TEXT | the one request that the text is, or `none` |
 //! | `response` SECONDS STATUS CLOSE BODY FIELD.. | the bytes of a response |
 //! | `fixed` NAME | the bytes of a response with a fixed text |
-//! | `reply` STORED METHOD TARGET COUNT TYPE BODY | the reply of a pod, with its fields |
 //! | `pipe` or `pipe-large`, INPUT | how a connection ends: its status, its last line, its output |
 //! | `pipe-ends` INPUT | the places at which the input may end between messages |
 #![tactic(auto)]
@@ -26,7 +25,6 @@ mod connections;
 mod head_ends;
 mod heads;
 mod pipe;
-mod replies;
 mod responses;
 
 use std::alloc::{AllocError, Global};
@@ -46,7 +44,6 @@ fn answer(alloc: Global, fields: &[&str]) -> Result<String, AllocError> {
             responses::response(alloc, seconds, status, close, body, lines)
         }
         ["fixed", name] => responses::fixed(alloc, name),
-        ["reply", fields @ ..] => replies::reply(alloc, fields),
         ["pipe", input] => pipe::in_pieces(alloc, input),
         ["pipe-large", input] => pipe::in_large_pieces(alloc, input),
         ["pipe-ends", input] => pipe::ended_anywhere(alloc, input),

@@ -6,7 +6,7 @@ use pod_tool::{Status, run_podctl};
 use std::alloc::{AllocError, Global};
 
 /// The most bytes of output that are printed one by one.
-const OUTPUT_LIMIT: usize = 1_200;
+const OUTPUT_LIMIT: usize = 4_000;
 
 /// What a run left.
 #[derive(Drop)]

@@ -1,126 +1,183 @@
 -- A session, where the connection ends.
-use Rattle.std.proofs.Common.{◌≡◌, ◌≢◌, inr, ℕ, false, List, [], ◌∷◌, ◌++◌, length, take, drop, Option, Some, None, is_some, IfSome, refl, sym, ap, append_assoc, ◌∙◌}
+use Rattle.std.proofs.Common.{◌≡◌, inl, inr, ℕ, Bool, true, false, List, [], ◌∷◌, ◌++◌, length, map, take, drop, Option, Some, None, is_some, IfSome, refl, sym, ap, subst, append_assoc, length-append, ◌∙◌, ◌≤◌, arith}
 use Rattle.std.specs.List.{AllByRecursion}
 use Rattle.std.proofs.lemmas.List.{append-nil, take-append-drop, length-map}
-use Rattle.http_out.specs.Dates.{Dated}
+use mathlib.Core.List.{IsPrefix}
 use Rattle.http_conn.specs.Messages.{StaysOpen}
+use Rattle.pod_base.proofs.Prefixes.{prefix_of_append, prefix_trans}
 use Rattle.pod_base.specs.declared.request.Request.{Request}
 use Rattle.pod_base.specs.declared.heard.Heard.{Heard}
 use Rattle.pod_base.specs.declared.heard.Heard.TheVariants as heard
-use Rattle.pod_core.specs.declared.entry.Entry.{Entry}
-use Rattle.pod_tool.specs.Fresh.{fresh_pod, fresh_service}
-use Rattle.pod_tool.specs.Output.{output_of}
-use Rattle.pod_tool.specs.Served.{OnFresh, IsServed, IsStopped}
-use Rattle.pod_tool.specs.Session.{Outcome, answered, no_memory, disk_fault, Item, UpgradesLast, ends_upgraded, requests_of, bad_status, IsRefused as IsRefusedSession}
-use Rattle.pod_tool.specs.Talks.{IsPlainOutcome, IsPlain, Progress}
-use Rattle.pod_tool.specs.Turns.{Refuses, refusal_bytes}
-use Rattle.pod_tool.proofs.HeardLemmas.{not_upgraded, requests_append, bad_behind, output_grows}
+use Rattle.pod_core.specs.History.{History}
+use Rattle.pod_core.specs.Output.{output, output_of}
+use Rattle.pod_core.specs.Session.{Item, Session, UpgradesLast, IsClockMoment, IsRefused, bad_status, ends_upgraded, requests_of, upgrades}
+use Rattle.pod_tool.specs.Fresh.{IsFreshPod, OnFresh, asking_owner}
+use Rattle.pod_tool.specs.Served.{IsServed, IsStopped}
+use Rattle.pod_tool.specs.Talks.{IsPlain, Progress}
+use Rattle.pod_tool.specs.Turns.{refusal_bytes}
+use Rattle.pod_tool.proofs.HeardLemmas.{requests_append, bad_behind, output_grows, output_stops}
 
-no_fault : (o : Outcome) → IsPlainOutcome o → o ≢ disk_fault
-no_fault (answered place response) h e = cc
-no_fault no_memory h e = cc
-no_fault disk_fault h e = h
+-- the last of items that switched no protocols before
+pub plain_last : (items : List Item) (item : Item) → AllByRecursion IsPlain items → UpgradesLast (items ++ item ∷ [])
+plain_last [] item h = tt
+plain_last (one ∷ []) item h = (h.0, tt)
+plain_last (one ∷ other ∷ items) item h = (h.0, plain_last (other ∷ items) item h.1)
 
-plain_faults : (items : List Item) → AllByRecursion IsPlain items → AllByRecursion (λ (item : Item). item.outcome ≢ disk_fault) items
-plain_faults [] h = tt
-plain_faults (item ∷ items) h = (no_fault item.outcome h.0, plain_faults items h.1)
+pub last_end : (items : List Item) (item : Item) → ends_upgraded (items ++ item ∷ []) ≡ upgrades item.outcome
+last_end [] item = refl
+last_end (one ∷ []) item = refl
+last_end (one ∷ other ∷ items) item = last_end (other ∷ items) item
 
-plain_last : (items : List Item) → AllByRecursion IsPlain items → UpgradesLast items
-plain_last [] h = tt
-plain_last (item ∷ []) h = tt
-plain_last (item ∷ other ∷ items) h = (not_upgraded item.outcome h.0, plain_last (other ∷ items) h.1)
+pub plain_all : (items : List Item) → AllByRecursion IsPlain items → UpgradesLast items
+plain_all [] h = tt
+plain_all (item ∷ []) h = tt
+plain_all (item ∷ other ∷ items) h = (h.0, plain_all (other ∷ items) h.1)
 
-plain_end : (items : List Item) → AllByRecursion IsPlain items → ends_upgraded items ≡ false
+pub plain_end : (items : List Item) → AllByRecursion IsPlain items → ends_upgraded items ≡ false
 plain_end [] h = refl
-plain_end (item ∷ []) h = not_upgraded item.outcome h.0
+plain_end (item ∷ []) h = h.0
 plain_end (item ∷ other ∷ items) h = plain_end (other ∷ items) h.1
 
-pub all_have_items : (may_give : ℕ → Type 0) (owner : List ℕ) (requests : List Request) (items : List Item) (history : List Entry) → Progress may_give owner requests items history → length items ≡ length requests
-all_have_items may_give owner requests items history p = sym (length-map items (λ (i : Item). i.request)) ∙ ap length p.asked
+-- what a connection on a new pod has come to
+pub record OnPod (may_give : ℕ → Type 0) (owner : List ℕ) (requests : List Request) (items : List Item) (history : History) : Type 0 where
+  pub first : IsFreshPod may_give owner history.first
+  pub start : history.start ≡ 0
+  pub progress : Progress may_give (asking_owner owner) requests items history
+  pub last : UpgradesLast items
 
--- a session of all that was heard
-pub on_fresh : (may_give : ℕ → Type 0) (owner : List ℕ) (requests : List Request) (items : List Item) (history : List Entry) → Progress may_give owner requests items history
-    → (hears : List Heard) (refusal : Option Dated) → requests_of hears ≡ requests → IfSome refusal (IsRefusedSession fresh_service (fresh_pod owner) history 1 may_give hears items) → OnFresh may_give owner hears items refusal
-on_fresh may_give owner requests items history p hears refusal same r = record {
-  history = history;
-  entries = p.entries;
-  session = record {
-    requests = ([], append-nil _ ∙ p.asked ∙ sym same);
-    numbers = p.numbers;
-    upgraded = plain_last items p.plain;
-    places = p.places;
-    answers = p.answers;
-    refused = r;
-  };
-  no_disk = plain_faults items p.plain;
-}
+abbrev pub session_of : List Item → History → Option ℕ → Session
+session_of items history refusal = record { conn = 1; items = items; refusal = refusal; history = history }
+
+module _ (may_give : ℕ → Type 0) (owner : List ℕ) (requests : List Request) (items : List Item) (history : History) (p : OnPod may_give owner requests items history) where
+  pub all_have_items : length items ≡ length requests
+  all_have_items = sym (length-map items (λ (i : Item). i.request)) ∙ ap length p.progress.requested
+
+  -- a session of all that was heard
+  pub on_fresh : (hears : List Heard) (refusal : Option ℕ) → requests_of hears ≡ requests → IfSome refusal (IsRefused may_give hears items) → OnFresh may_give owner hears (session_of items history refusal)
+  on_fresh hears refusal same r = record {
+    conn = refl;
+    first = p.first;
+    start = p.start;
+    entries = p.progress.entries;
+    history = p.progress.is_history;
+    is_session = record {
+      requests = ([], append-nil _ ∙ p.progress.requested ∙ sym same);
+      numbers = p.progress.numbers;
+      asked = p.progress.asked;
+      answers = p.progress.answers;
+      places = p.progress.places;
+      last = p.last;
+      refused = r;
+    };
+    no_disk = p.progress.no_disk;
+  }
 
 -- a front of what a session writes
-pub begins : (may_give : ℕ → Type 0) (owner : List ℕ) (hears : List Heard) (written : List ℕ) (items : List Item) (refusal : Option Dated) → OnFresh may_give owner hears items refusal
-    → (front text behind : List ℕ) → written ≡ front ++ text → front ++ (text ++ behind) ≡ output_of fresh_service hears items refusal → IsStopped may_give owner hears written
-begins may_give owner hears written items refusal session front text behind is whole = record {
-  items = items;
-  refusal = refusal;
+pub begins : (may_give : ℕ → Type 0) (owner : List ℕ) (hears : List Heard) (written : List ℕ) (session : Session) → OnFresh may_give owner hears session
+    → (front text behind : List ℕ) → written ≡ front ++ text → front ++ (text ++ behind) ≡ output hears session → IsStopped may_give owner hears written
+begins may_give owner hears written session fresh front text behind is whole = record {
   session = session;
-  output = (behind, ap (λ w. w ++ behind) is ∙ append_assoc front text behind ∙ whole);
+  fresh = fresh;
+  bytes = (behind, ap (λ w. w ++ behind) is ∙ append_assoc front text behind ∙ whole);
 }
 
 -- a whole session is one that stopped
-pub served_stops : (may_give : ℕ → Type 0) (owner : List ℕ) (hears : List Heard) (written : List ℕ) → IsServed may_give owner hears written → IsStopped may_give owner hears written
-served_stops may_give owner hears written s = record {
-  items = s.items;
-  refusal = s.refusal;
+pub served_stops : (may_give : ℕ → Type 0) (owner : List ℕ) (upgraded : Bool) (hears : List Heard) (written : List ℕ) → IsServed may_give owner upgraded hears written → IsStopped may_give owner hears written
+served_stops may_give owner upgraded hears written s = record {
   session = s.session;
-  output = ([], append-nil _ ∙ s.output);
+  fresh = s.fresh;
+  bytes = ([], append-nil _ ∙ s.bytes);
 }
 
 -- all requests have an item, and nothing was refused
-pub serves : (may_give : ℕ → Type 0) (owner : List ℕ) (hears : List Heard) (items : List Item) (history : List Entry) (written : List ℕ) → Progress may_give owner (requests_of hears) items history
-    → bad_status hears ≡ None → written ≡ output_of fresh_service hears items None → IsServed may_give owner hears written
-serves may_give owner hears items history written p no_bad is = record {
-  items = items;
-  refusal = None;
-  session = on_fresh may_give owner (requests_of hears) items history p hears None refl tt;
+pub serves : (may_give : ℕ → Type 0) (owner : List ℕ) (hears : List Heard) (items : List Item) (history : History) (upgraded : Bool) (written : List ℕ) → OnPod may_give owner (requests_of hears) items history
+    → bad_status hears ≡ None → ends_upgraded items ≡ upgraded → written ≡ output_of hears items None → IsServed may_give owner upgraded hears written
+serves may_give owner hears items history upgraded written p no_bad last is = record {
+  session = session_of items history None;
+  fresh = on_fresh may_give owner (requests_of hears) items history p hears None refl tt;
   whole = inr (all_have_items may_give owner (requests_of hears) items history p, ap is_some (sym no_bad));
-  output = is;
+  last = last;
+  bytes = is;
 }
 
-module _ (may_give : ℕ → Type 0) (owner : List ℕ) (hears : List Heard) (items : List Item) (history : List Entry) (p : Progress may_give owner (requests_of hears) items history) (stays : StaysOpen 0 hears) (status : ℕ) (moment : Dated) (r : Refuses may_give moment) where
+module _ (may_give : ℕ → Type 0) (owner : List ℕ) (hears : List Heard) (items : List Item) (history : History) (p : OnPod may_give owner (requests_of hears) items history) (plain : AllByRecursion IsPlain items) (stays : StaysOpen 0 hears) (status : ℕ) (moment : ℕ) (r : IsClockMoment may_give moment) where
   abbrev pub refused : List Heard
   refused = hears ++ heard.Bad status ∷ []
 
   same_requests : requests_of refused ≡ requests_of hears
   same_requests = requests_append hears (heard.Bad status ∷ []) ∙ append-nil _
 
-  is_refused : IsRefusedSession fresh_service (fresh_pod owner) history 1 may_give refused items moment
-  is_refused = record {
-    bad = ap is_some (bad_behind 0 hears (heard.Bad status ∷ []) stays);
-    all = all_have_items may_give owner (requests_of hears) items history p ∙ ap length (sym same_requests);
-    open_still = plain_end items p.plain;
-    date = r.date;
-    clock = r.clock;
-  }
+  all_items : length items ≡ length (requests_of refused)
+  all_items = all_have_items may_give owner (requests_of hears) items history p ∙ ap length (sym same_requests)
 
-  refused_session : OnFresh may_give owner refused items (Some moment)
+  is_bad : bad_status refused ≡ Some status
+  is_bad = bad_behind 0 hears (heard.Bad status ∷ []) stays
+
+  is_refused : IsRefused may_give refused items moment
+  is_refused = record { bad = ap is_some is_bad; all = all_items; open_still = plain_end items plain; clock = r }
+
+  refused_session : OnFresh may_give owner refused (session_of items history (Some moment))
   refused_session = on_fresh may_give owner (requests_of hears) items history p refused (Some moment) same_requests is_refused
 
-  refused_output : output_of fresh_service hears items None ++ refusal_bytes status moment ≡ output_of fresh_service refused items (Some moment)
+  refused_output : output_of hears items None ++ refusal_bytes status moment ≡ output_of refused items (Some moment)
   refused_output =
-      sym (output_grows 0 hears (heard.Bad status ∷ []) items [] (Some moment) stays p.plain (all_have_items may_give owner (requests_of hears) items history p))
-      ∙ ap (λ all. output_of fresh_service refused all (Some moment)) (append-nil items)
+      sym (output_grows 0 hears (heard.Bad status ∷ []) items [] (Some moment) stays plain (all_have_items may_give owner (requests_of hears) items history p))
+      ∙ ap (λ all. output_of refused all (Some moment)) (append-nil items)
 
   -- bytes that are no message were refused
-  pub serves_refused : (written : List ℕ) → written ≡ output_of fresh_service hears items None ++ refusal_bytes status moment → IsServed may_give owner refused written
+  pub serves_refused : (written : List ℕ) → written ≡ output_of hears items None ++ refusal_bytes status moment → IsServed may_give owner false refused written
   serves_refused written is = record {
-    items = items;
-    refusal = Some moment;
-    session = refused_session;
-    whole = inr (all_have_items may_give owner (requests_of hears) items history p ∙ ap length (sym same_requests), ap is_some (sym (bad_behind 0 hears (heard.Bad status ∷ []) stays)));
-    output = is ∙ refused_output;
+    session = session_of items history (Some moment);
+    fresh = refused_session;
+    whole = inr (all_items, ap is_some (sym is_bad));
+    last = plain_end items plain;
+    bytes = is ∙ refused_output;
   }
 
   -- a front of the refusal was written
-  pub stops_refused : (written : List ℕ) (count : ℕ) → written ≡ output_of fresh_service hears items None ++ take count (refusal_bytes status moment) → IsStopped may_give owner refused written
+  pub stops_refused : (written : List ℕ) (count : ℕ) → written ≡ output_of hears items None ++ take count (refusal_bytes status moment) → IsStopped may_give owner refused written
   stops_refused written count is =
-      begins may_give owner refused written items (Some moment) refused_session (output_of fresh_service hears items None) (take count (refusal_bytes status moment)) (drop count (refusal_bytes status moment)) is
-      (ap (λ more. output_of fresh_service hears items None ++ more) (take-append-drop count (refusal_bytes status moment)) ∙ refused_output)
+      begins may_give owner refused written (session_of items history (Some moment)) refused_session (output_of hears items None) (take count (refusal_bytes status moment)) (drop count (refusal_bytes status moment)) is
+      (ap (λ more. output_of hears items None ++ more) (take-append-drop count (refusal_bytes status moment)) ∙ refused_output)
+
+-- the session of a switch of protocols is one of whatever was heard behind it
+module _ (may_give : ℕ → Type 0) (owner : List ℕ) (hears more : List Heard) (written : List ℕ) (s : IsServed may_give owner true hears written) where
+  refusal_is : (refusal : Option ℕ) → IfSome refusal (IsRefused may_give hears s.session.items) → refusal ≡ None
+  refusal_is None h = refl
+  refusal_is (Some moment) h = let never : true ≡ false = sym s.last ∙ h.open_still in absurd cc
+
+  no_refusal : s.session.refusal ≡ None
+  no_refusal = refusal_is s.session.refusal s.fresh.is_session.refused
+
+  first_requests : IsPrefix (requests_of hears) (requests_of (hears ++ more))
+  first_requests = subst (IsPrefix (requests_of hears)) (sym (requests_append hears more)) (prefix_of_append (requests_of hears) (requests_of more))
+
+  few_items : length s.session.items ≤ length (requests_of hears)
+  few_items =
+      let begins_so = s.fresh.is_session.requests in
+      omega (arith, length-map s.session.items (λ (i : Item). i.request), length-append (map (λ (i : Item). i.request) s.session.items) begins_so.0, ap length begins_so.1)
+
+  pub served_longer : IsServed may_give owner true (hears ++ more) written
+  served_longer = record {
+    session = s.session;
+    fresh = record {
+      conn = s.fresh.conn;
+      first = s.fresh.first;
+      start = s.fresh.start;
+      entries = s.fresh.entries;
+      history = s.fresh.history;
+      is_session = record {
+        requests = prefix_trans _ (requests_of hears) (requests_of (hears ++ more)) s.fresh.is_session.requests first_requests;
+        numbers = s.fresh.is_session.numbers;
+        asked = s.fresh.is_session.asked;
+        answers = s.fresh.is_session.answers;
+        places = s.fresh.is_session.places;
+        last = s.fresh.is_session.last;
+        refused = subst (λ (o : Option ℕ). IfSome o (IsRefused may_give (hears ++ more) s.session.items)) (sym no_refusal) tt;
+      };
+      no_disk = s.fresh.no_disk;
+    };
+    whole = inl s.last;
+    last = s.last;
+    bytes = s.bytes ∙ sym (output_stops hears more s.session.items s.session.refusal s.last few_items);
+  }

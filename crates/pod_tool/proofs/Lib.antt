@@ -1,11 +1,13 @@
 pub mod EndingsLemmas
 pub mod HeardLemmas
 pub mod LongerSessions
+pub mod OwnerLemmas
 pub mod ProgressLemmas
 pub mod ReadsLemmas
 pub mod RefusedLemmas
-pub mod RepliesLemmas
 pub mod ServingLemmas
 pub mod SessionLemmas
+pub mod TakenLemmas
 pub mod TalksLemmas
+pub mod WordLemmas
 pub mod WritesLemmas

@@ -1,21 +1,20 @@
 -- A session over the first events of a text is one over all of them.
-use Rattle.std.proofs.Common.{◌≡◌, inl, inr, ℕ, ◌+◌, Bool, true, false, if◌then◌else◌, List, [], ◌∷◌, ◌++◌, Option, Some, None, refl, sym, ap, subst, ◌∙◌}
+use Rattle.std.proofs.Common.{◌≡◌, ℕ, ◌+◌, true, false, if◌then◌else◌, List, [], ◌∷◌, ◌++◌, Option, Some, None, IfSome, refl, sym, ap, subst, ◌∙◌}
 use Rattle.std.proofs.lemmas.List.{append-nil}
 use mathlib.Core.List.{IsPrefix}
-use Rattle.http_out.specs.Dates.{Dated}
 use Rattle.http_out.specs.Text.{interim_text}
-use Rattle.http_conn.specs.Messages.{Messages, NothingAfterEnd}
+use Rattle.http_conn.specs.Messages.{NothingAfterEnd}
 use Rattle.http_conn.proofs.EndLemmas.{ends_there}
 use Rattle.pod_base.proofs.Prefixes.{prefix_of_append, prefix_trans, prefix_after}
 use Rattle.pod_base.specs.declared.heard.Heard.{Heard}
 use Rattle.pod_base.specs.declared.heard.Heard.TheVariants as heard
-use Rattle.pod_tool.specs.Fresh.{fresh_service}
-use Rattle.pod_tool.specs.Output.{item_text, output_of}
-use Rattle.pod_tool.specs.Served.{OnFresh, IsServed, IsStopped, WritesSession}
-use Rattle.pod_tool.specs.Session.{Item, upgrades, requests_of, has_bad}
+use Rattle.pod_core.specs.Output.{item_text, output, output_of}
+use Rattle.pod_core.specs.Session.{IsRefused, Item, Session, has_bad, requests_of, upgrades}
+use Rattle.pod_tool.specs.Fresh.{OnFresh}
+use Rattle.pod_tool.specs.Served.{IsStopped, WritesSession}
 use Rattle.pod_tool.specs.Statuses.{HearsFirst, IsHeard, IsWritten, Pipes}
 use Rattle.pod_tool.specs.declared.status.PipeEnd.{PipeEnd}
-use Rattle.pod_tool.specs.declared.status.PipeEnd.TheVariants.{Peer, Cut, Closed, Limit, Bad, ReadFault, WriteFault, NoMemory, ReadLimit}
+use Rattle.pod_tool.specs.declared.status.PipeEnd.TheVariants.{Peer, Cut, Closed, Limit, Upgraded, Bad, ReadFault, WriteFault, NoMemory, ReadLimit}
 use Rattle.pod_tool.proofs.EndingsLemmas.{served_stops}
 use Rattle.pod_tool.proofs.HeardLemmas.{requests_append}
 use Rattle.pod_tool.proofs.ServingLemmas.{hears_first, all_first}
@@ -29,15 +28,15 @@ nothing_more count (heard.Bad status ∷ []) more bad ends = ends
 nothing_more count (heard.Bad status ∷ (one ∷ events)) more bad ends = absurd cc
 
 -- the output over more events begins with that over the first ones
-output_longer : (events more : List Heard) (items : List Item) → IsPrefix (output_of fresh_service events items None) (output_of fresh_service (events ++ more) items None)
-output_longer [] more items = (output_of fresh_service more items None, refl)
+output_longer : (events more : List Heard) (items : List Item) → IsPrefix (output_of events items None) (output_of (events ++ more) items None)
+output_longer [] more items = (output_of more items None, refl)
 output_longer (heard.Interim ∷ events) more items =
-    prefix_after interim_text (output_of fresh_service events items None) (output_of fresh_service (events ++ more) items None) (output_longer events more items)
+    prefix_after interim_text (output_of events items None) (output_of (events ++ more) items None) (output_longer events more items)
 output_longer (heard.Request r ∷ events) more [] = ([], refl)
 output_longer (heard.Request r ∷ events) more (item ∷ items) =
-    let short = output_of fresh_service events items None in
-    let long = output_of fresh_service (events ++ more) items None in
-    prefix_after (item_text fresh_service item) (if upgrades item.outcome then [] else short) (if upgrades item.outcome then [] else long)
+    let short = output_of events items None in
+    let long = output_of (events ++ more) items None in
+    prefix_after (item_text item) (if upgrades item.outcome then [] else short) (if upgrades item.outcome then [] else long)
     (elim (upgrades item.outcome) as (λ b. IsPrefix (if b then [] else short) (if b then [] else long)) [
       | true ↦ ([], refl)
       | false ↦ output_longer events more items
@@ -45,36 +44,41 @@ output_longer (heard.Request r ∷ events) more (item ∷ items) =
 output_longer (heard.Bad status ∷ events) more items = ([], refl)
 
 module _ (may_give : ℕ → Type 0) (owner : List ℕ) (events more : List Heard) (written : List ℕ) (ends : NothingAfterEnd 0 (events ++ more)) where
-  open_session : (items : List Item) → OnFresh may_give owner events items None → IsPrefix written (output_of fresh_service events items None) → IsStopped may_give owner (events ++ more) written
-  open_session items s output = record {
-    items = items;
-    refusal = None;
-    session = record {
-      history = s.history;
+  open_session : (session : Session) → session.refusal ≡ None → OnFresh may_give owner events session → IsPrefix written (output events session) → IsStopped may_give owner (events ++ more) written
+  open_session session none s begins_so = record {
+    session = session;
+    fresh = record {
+      conn = s.conn;
+      first = s.first;
+      start = s.start;
       entries = s.entries;
-      session = record {
-        requests = prefix_trans _ (requests_of events) (requests_of (events ++ more)) s.session.requests
+      history = s.history;
+      is_session = record {
+        requests = prefix_trans _ (requests_of events) (requests_of (events ++ more)) s.is_session.requests
             (subst (IsPrefix (requests_of events)) (sym (requests_append events more)) (prefix_of_append (requests_of events) (requests_of more)));
-        numbers = s.session.numbers;
-        upgraded = s.session.upgraded;
-        places = s.session.places;
-        answers = s.session.answers;
-        refused = tt;
+        numbers = s.is_session.numbers;
+        asked = s.is_session.asked;
+        answers = s.is_session.answers;
+        places = s.is_session.places;
+        last = s.is_session.last;
+        refused = subst (λ (o : Option ℕ). IfSome o (IsRefused may_give (events ++ more) session.items)) (sym none) tt;
       };
       no_disk = s.no_disk;
     };
-    output = prefix_trans written (output_of fresh_service events items None) (output_of fresh_service (events ++ more) items None) output (output_longer events more items);
+    bytes = prefix_trans written (output events session) (output (events ++ more) session) begins_so
+        (subst (λ (o : Option ℕ). IsPrefix (output_of events session.items o) (output_of (events ++ more) session.items o)) (sym none) (output_longer events more session.items));
   }
 
-  by_refusal : (items : List Item) (refusal : Option Dated) → OnFresh may_give owner events items refusal → IsPrefix written (output_of fresh_service events items refusal) → IsStopped may_give owner (events ++ more) written
-  by_refusal items None s output = open_session items s output
-  by_refusal items (Some moment) s output =
-      let none : more ≡ [] = nothing_more 0 events more s.session.refused.bad ends in
+  by_refusal : (session : Session) (refusal : Option ℕ) → session.refusal ≡ refusal → OnFresh may_give owner events session → IsPrefix written (output events session) → IsStopped may_give owner (events ++ more) written
+  by_refusal session None e s begins_so = open_session session e s begins_so
+  by_refusal session (Some moment) e s begins_so =
+      let refused : IfSome (Some moment) (IsRefused may_give events session.items) = subst (λ (o : Option ℕ). IfSome o (IsRefused may_give events session.items)) e s.is_session.refused in
+      let none : more ≡ [] = nothing_more 0 events more refused.bad ends in
       subst (λ all. IsStopped may_give owner all written) (sym (ap (λ rest. events ++ rest) none ∙ append-nil events))
-      (record { items = items; refusal = Some moment; session = s; output = output })
+      (record { session = session; fresh = s; bytes = begins_so })
 
   stops_longer : IsStopped may_give owner events written → IsStopped may_give owner (events ++ more) written
-  stops_longer s = by_refusal s.items s.refusal s.session s.output
+  stops_longer s = by_refusal s.session s.session.refusal refl s.fresh s.bytes
 
 -- what was heard are the first events of what was read
 first_of_end : (end : PipeEnd) (read : List ℕ) (events : List Heard) (left : Option (List ℕ)) → IsHeard end read events left → HearsFirst read events
@@ -82,6 +86,7 @@ first_of_end Peer read events left h = all_first read events 0 h.0
 first_of_end (Cut rest) read events left h = all_first read events rest h.0
 first_of_end Closed read events left h = all_first read events 0 h.0
 first_of_end Limit read events left h = all_first read events 0 h.0
+first_of_end Upgraded read events left h = all_first read events h.0 h.1
 first_of_end (Bad status) read events left h = all_first read events 0 h.0
 first_of_end ReadFault read events left h = all_first read events h.0 h.1
 first_of_end ReadLimit read events left h = all_first read events h.0 h.1
@@ -90,13 +95,14 @@ first_of_end WriteFault read events left h =
 first_of_end NoMemory read events left h = h
 
 stops_of_end : (may_give : ℕ → Type 0) (owner : List ℕ) (end : PipeEnd) (events : List Heard) (written : List ℕ) → IsWritten may_give owner end events written → IsStopped may_give owner events written
-stops_of_end may_give owner Peer events written w = served_stops may_give owner events written w
-stops_of_end may_give owner (Cut rest) events written w = served_stops may_give owner events written w
-stops_of_end may_give owner Closed events written w = served_stops may_give owner events written w
-stops_of_end may_give owner Limit events written w = served_stops may_give owner events written w
-stops_of_end may_give owner (Bad status) events written w = served_stops may_give owner events written w
-stops_of_end may_give owner ReadFault events written w = served_stops may_give owner events written w
-stops_of_end may_give owner ReadLimit events written w = served_stops may_give owner events written w
+stops_of_end may_give owner Peer events written w = served_stops may_give owner false events written w
+stops_of_end may_give owner (Cut rest) events written w = served_stops may_give owner false events written w
+stops_of_end may_give owner Closed events written w = served_stops may_give owner false events written w
+stops_of_end may_give owner Limit events written w = served_stops may_give owner false events written w
+stops_of_end may_give owner Upgraded events written w = served_stops may_give owner true events written w
+stops_of_end may_give owner (Bad status) events written w = served_stops may_give owner false events written w
+stops_of_end may_give owner ReadFault events written w = served_stops may_give owner false events written w
+stops_of_end may_give owner ReadLimit events written w = served_stops may_give owner false events written w
 stops_of_end may_give owner WriteFault events written w = w
 stops_of_end may_give owner NoMemory events written w = w
 

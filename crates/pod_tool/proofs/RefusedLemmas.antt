@@ -10,10 +10,10 @@ use Rattle.http_payload.specs.declared.payload_fault.PayloadFault.TheVariants.{M
 use Rattle.pod_base.specs.declared.heard.Heard.{Heard}
 use Rattle.pod_base.specs.declared.heard.Heard.TheVariants as heard
 use Rattle.pod_base.specs.declared.request.Request.{Request}
-use Rattle.pod_tool.specs.Talks.{IsRefused}
+use Rattle.pod_tool.specs.Talks.{MayBeSent}
 
 abbrev AreRefused : List Heard → Type 0
-AreRefused hears = AllByRecursion IsRefused hears
+AreRefused hears = AllByRecursion MayBeSent hears
 
 both : (xs ys : List Heard) → AreRefused xs → AreRefused ys → AreRefused (xs ++ ys)
 both [] ys h k = k

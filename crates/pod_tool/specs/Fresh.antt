@@ -1,46 +1,37 @@
--- A new pod in memory.
-use Rattle.std.specs.Prelude.{ℕ, Bool, ◌==◌, ◌||◌, if◌then◌else◌, List, codes}
-use Rattle.http_conn.specs.Messages.{closes_connection}
-use Rattle.http_conn.specs.declared.events.TheConstants.{REQUEST_LIMIT}
+-- A session on a new pod in memory: of connection 1, from place 0 on.
+use Rattle.std.specs.Prelude.{◌≡◌, ◌≢◌, ℕ, List, codes}
+use Rattle.std.specs.List.{AllByRecursion, flat_map}
+use Rattle.first_rows.specs.FirstPods.{first_pod}
+use Rattle.pod_base.specs.declared.heard.Heard.{Heard}
 use Rattle.pod_base.specs.declared.request.Request.{Request}
-use Rattle.pod_base.specs.declared.response.Response.{Response}
-use Rattle.pod_core.specs.State.{State, new_pod, apply}
-use Rattle.pod_core.specs.Reply.{reply_of, refusal, is_change}
-use Rattle.pod_core.specs.declared.entry.Entry.{Entry}
-use Rattle.pod_tool.specs.Session.{Service}
-
--- The server over a new pod in memory.
+use Rattle.pod_core.specs.History.{IsHistory, end_of}
+use Rattle.pod_core.specs.Session.{IsClockMoment, IsSession, Item, Session, disk_fault, entries_of}
+use Rattle.pod_rows.specs.Pod.{Pod}
+use Rattle.token_table.specs.Credentials.{AskedAgent, known}
 
 -- the base of a pod in memory
 abbrev pub fresh_base : List ℕ
 fresh_base = codes "http://127.0.0.1:8080/"
 
--- a new pod with that owner
-abbrev pub fresh_pod : List ℕ → State
-fresh_pod owner = new_pod fresh_base owner
+-- every request is the owner's, whatever it says
+abbrev pub asking_owner : List ℕ → Request → AskedAgent
+asking_owner owner request = known owner
 
--- the word of the refusal of bytes that are no message
-abbrev pub refusal_word : ℕ → List ℕ
-refusal_word status =
-    if status == 400 then codes "message"
-    else if status == 413 then codes "body-size"
-    else if status == 431 then codes "head-size"
-    else codes "coding"
+-- a new pod of that owner, whose rows have a moment of the clock
+pub record IsFreshPod (may_give : ℕ → Type 0) (owner : List ℕ) (pod : Pod) : Type 0 where
+  pub made : ℕ
+  pub clock : IsClockMoment may_give made
+  pub is : pod ≡ first_pod fresh_base owner (record { 0 = made })
 
-abbrev pub refusal_of : ℕ → Response
-refusal_of status = refusal status (refusal_word status)
-
--- whether the connection closes behind a request of that number: it asks for that, or it is the
--- last that is heard
-abbrev pub closes_after : Request → ℕ → Bool
-closes_after request number = closes_connection request || number == REQUEST_LIMIT
-
-abbrev pub fresh_service : Service State Entry
-fresh_service = record {
-  reply = λ pod request seq stamp. ((reply_of pod request seq stamp).response, (reply_of pod request seq stamp).entry);
-  apply = apply;
-  seconds = λ entry. entry.stamp.moment.0;
-  is_change = λ request. is_change request.method;
-  refusal = refusal_of;
-  closes = closes_after;
-}
+-- The session is that of connection 1. Its history begins at place 0 with a new pod, and has
+-- exactly the items' entries, each of which applies. No item met a disk fault.
+pub record OnFresh (may_give : ℕ → Type 0) (owner : List ℕ) (events : List Heard)
+    (session : Session) : Type 0 where
+  pub conn : session.conn ≡ 1
+  pub first : IsFreshPod may_give owner session.history.first
+  pub start : session.history.start ≡ 0
+  pub entries : flat_map entries_of session.items ≡ session.history.entries
+  pub history : IsHistory session.history
+  pub is_session : IsSession may_give (asking_owner owner) events session.history.start session
+      (end_of session.history)
+  pub no_disk : AllByRecursion (λ (item : Item). item.outcome ≢ disk_fault) session.items

@@ -1,11 +1,9 @@
--- What public clauses cite: of those, Words, Statuses, Served, Streams, Session and Output are the
--- headline's.
+-- What public clauses cite: of those, Words, Statuses, Served, Streams and Fresh are the
+-- headline's, over the sessions of pod_core.
 pub mod Words
 pub mod Statuses
 pub mod Served
 pub mod Streams
-pub mod Session
-pub mod Output
 pub mod Fresh
 -- internal: cited by private clauses alone
 pub mod Talks

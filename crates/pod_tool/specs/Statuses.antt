@@ -1,17 +1,17 @@
 -- How a run ends, and what it has read, written and reported then.
 use Rattle.std.specs.Prelude.{◌≡◌, ◌⊎◌, ℕ, ◌^◌, ◌<◌, ◌≤◌, List, [], ◌++◌, length, take, Option}
-use Rattle.std.specs.Prelude.{Some, None, codes, decimal}
+use Rattle.std.specs.Prelude.{Some, None, true, false, codes, decimal}
 use Rattle.http_conn.specs.Messages.{Messages, AreFirstEvents, StaysOpen}
 use Rattle.http_conn.specs.declared.events.TheConstants.{REQUEST_LIMIT}
 use Rattle.pod_base.specs.declared.heard.Heard.{Heard}
 use Rattle.pod_base.specs.Counts.{CountIncreased}
+use Rattle.pod_core.specs.Session.{requests_of, bad_status}
 use Rattle.pod_tool.specs.Streams.{Reads, AtEnd}
 use Rattle.pod_tool.specs.Served.{IsServed, IsStopped}
-use Rattle.pod_tool.specs.Session.{requests_of, bad_status}
 use Rattle.pod_tool.specs.Streams.{ExtendsBy}
 use Rattle.pod_tool.specs.declared.status.PipeEnd.{PipeEnd}
-use Rattle.pod_tool.specs.declared.status.PipeEnd.TheVariants.{Peer, Cut, Closed, Limit, Bad}
-use Rattle.pod_tool.specs.declared.status.PipeEnd.TheVariants.{ReadFault, WriteFault, NoMemory}
+use Rattle.pod_tool.specs.declared.status.PipeEnd.TheVariants.{Peer, Cut, Closed, Limit, Upgraded}
+use Rattle.pod_tool.specs.declared.status.PipeEnd.TheVariants.{Bad, ReadFault, WriteFault, NoMemory}
 use Rattle.pod_tool.specs.declared.status.PipeEnd.TheVariants.{ReadLimit}
 
 -- the status of each end
@@ -19,6 +19,7 @@ abbrev pub status_of : PipeEnd → ℕ
 status_of Peer = 0
 status_of Closed = 0
 status_of Limit = 0
+status_of Upgraded = 0
 status_of ReadFault = 3
 status_of WriteFault = 4
 status_of NoMemory = 7
@@ -32,36 +33,46 @@ IsLastHeard heard = (StaysOpen 0 heard → ⊥) × (bad_status heard ≡ None)
 
 -- what is heard in the bytes begins so
 abbrev pub Hears : List ℕ → List Heard → Type 0
-Hears read heard = (all : List Heard) × (rest : ℕ) × Messages read all rest × ((more : List Heard) × (all ≡ heard ++ more))
+Hears read heard = (all : List Heard) × (rest : ℕ) × Messages read all rest
+    × ((more : List Heard) × (all ≡ heard ++ more))
 
 -- what is heard in a front of the bytes begins so, and each reading of all of them does
 pub record HearsFirst (read : List ℕ) (heard : List Heard) : Type 0 where
   pub front : AreFirstEvents read heard
-  pub whole : (all : List Heard) (rest : ℕ) → Messages read all rest → (more : List Heard) × (all ≡ heard ++ more)
+  pub whole : (all : List Heard) (rest : ℕ) → Messages read all rest → (more : List Heard)
+      × (all ≡ heard ++ more)
 
 -- What was heard in the bytes that were read, and what is left of them, by how the connection
--- ended. For want of memory the last of these bytes may not have been heard.
+-- ended. For want of memory the last of these bytes may not have been heard. More may be heard
+-- behind a request that switched protocols.
 abbrev pub IsHeard : PipeEnd → List ℕ → List Heard → Option (List ℕ) → Type 0
 IsHeard Peer read heard left = Messages read heard 0 × StaysOpen 0 heard × AtEnd left
-IsHeard (Cut rest) read heard left = Messages read heard rest × (0 < rest) × StaysOpen 0 heard × AtEnd left
-IsHeard Closed read heard left = Messages read heard 0 × IsLastHeard heard × (length (requests_of heard) < REQUEST_LIMIT)
-IsHeard Limit read heard left = Messages read heard 0 × IsLastHeard heard × (length (requests_of heard) ≡ REQUEST_LIMIT)
+IsHeard (Cut rest) read heard left = Messages read heard rest × (0 < rest) × StaysOpen 0 heard
+    × AtEnd left
+IsHeard Closed read heard left = Messages read heard 0 × IsLastHeard heard
+    × (length (requests_of heard) < REQUEST_LIMIT)
+IsHeard Limit read heard left = Messages read heard 0 × IsLastHeard heard
+    × (length (requests_of heard) ≡ REQUEST_LIMIT)
+IsHeard Upgraded read heard left = (rest : ℕ) × Messages read heard rest
 IsHeard (Bad status) read heard left = Messages read heard 0 × (bad_status heard ≡ Some status)
 IsHeard ReadFault read heard left = (rest : ℕ) × Messages read heard rest × StaysOpen 0 heard
-IsHeard ReadLimit read heard left = (rest : ℕ) × Messages read heard rest × StaysOpen 0 heard × (2 ^ 40 ≤ length read)
+IsHeard ReadLimit read heard left = (rest : ℕ) × Messages read heard rest × StaysOpen 0 heard
+    × (2 ^ 40 ≤ length read)
 IsHeard WriteFault read heard left = Hears read heard
 IsHeard NoMemory read heard left = HearsFirst read heard
 
--- What was written of it. All was served; where a write failed or no memory was left, the bytes
--- begin those of a session.
+-- What was written of it. All was served, up to a request that switched protocols where one did;
+-- where a write failed or no memory was left, the bytes begin those of a session.
 abbrev pub IsWritten : (ℕ → Type 0) → List ℕ → PipeEnd → List Heard → List ℕ → Type 0
 IsWritten may_give owner WriteFault heard written = IsStopped may_give owner heard written
 IsWritten may_give owner NoMemory heard written = IsStopped may_give owner heard written
-IsWritten may_give owner _ heard written = IsServed may_give owner heard written
+IsWritten may_give owner Upgraded heard written = IsServed may_give owner true heard written
+IsWritten may_give owner _ heard written = IsServed may_give owner false heard written
 
 -- The input gave the bytes that were read, and the output took those that were written: those of a
 -- session over what was heard.
-pub record Pipes (may_give : ℕ → Type 0) (owner : List ℕ) (end : PipeEnd) (old_input new_input old_output new_output : Option (List ℕ)) : Type 0 where
+pub record Pipes (may_give : ℕ → Type 0) (owner : List ℕ) (end : PipeEnd)
+    (old_input new_input old_output new_output : Option (List ℕ)) : Type 0 where
   pub read : List ℕ
   pub heard : List Heard
   pub written : List ℕ
@@ -75,13 +86,15 @@ abbrev pub end_line : PipeEnd → List ℕ
 end_line Peer = codes "end: peer\n"
 end_line Closed = codes "end: closed\n"
 end_line Limit = codes "end: limit\n"
+end_line Upgraded = codes "end: upgraded\n"
 end_line (Cut rest) = codes "end: cut " ++ decimal rest ++ codes "\n"
 end_line (Bad status) = codes "end: bad " ++ decimal status ++ codes "\n"
 end_line _ = []
 
 -- the sink has the line too, or a front of it where its count rose
 abbrev pub AddsOrPart : List ℕ → Option (List ℕ) → Option (List ℕ) → ℕ → ℕ → Type 0
-AddsOrPart line old new before after = ExtendsBy line old new ⊎ (CountIncreased before after × ((count : ℕ) × ExtendsBy (take count line) old new))
+AddsOrPart line old new before after = ExtendsBy line old new ⊎ (CountIncreased before after
+    × ((count : ℕ) × ExtendsBy (take count line) old new))
 
 -- What the error sink has then: the line of the end, or a front of it where its count rose. A line
 -- of status 0 that fails makes the end a write fault; another that fails changes nothing.
@@ -89,9 +102,11 @@ abbrev pub Tells : PipeEnd → Option (List ℕ) → Option (List ℕ) → ℕ �
 Tells Peer old new before after = ExtendsBy (end_line Peer) old new
 Tells Closed old new before after = ExtendsBy (end_line Closed) old new
 Tells Limit old new before after = ExtendsBy (end_line Limit) old new
+Tells Upgraded old new before after = ExtendsBy (end_line Upgraded) old new
 Tells (Cut rest) old new before after = AddsOrPart (end_line (Cut rest)) old new before after
 Tells (Bad status) old new before after = AddsOrPart (end_line (Bad status)) old new before after
-Tells WriteFault old new before after = (end : PipeEnd) × (status_of end ≡ 0) × (count : ℕ) × ExtendsBy (take count (end_line end)) old new
+Tells WriteFault old new before after = (end : PipeEnd) × (status_of end ≡ 0) × (count : ℕ)
+    × ExtendsBy (take count (end_line end)) old new
 Tells NoMemory old new before after = new ≡ old
 Tells ReadFault old new before after = new ≡ old
 Tells ReadLimit old new before after = new ≡ old
@@ -110,7 +125,9 @@ abbrev pub ComesOf : PipeEnd → PipeEnd → Type 0
 ComesOf end told = (told ≡ end) ⊎ (IsTold end × ((told ≡ WriteFault) ⊎ (told ≡ NoMemory)))
 
 -- nothing was read or written
-pub record Untouched (old_input new_input old_output new_output old_errors new_errors : Option (List ℕ)) : Type 0 where
+pub record Untouched
+    (old_input new_input old_output new_output old_errors new_errors : Option (List ℕ))
+    : Type 0 where
   pub input : new_input ≡ old_input
   pub output : new_output ≡ old_output
   pub errors : new_errors ≡ old_errors

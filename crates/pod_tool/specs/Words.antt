@@ -1,28 +1,22 @@
 -- The arguments of the command.
-use Rattle.std.specs.Prelude.{ℕ, Bool, ◌&&◌, ◌==◌, if◌then◌else◌, not, nat_le, List, [], ◌∷◌}
-use Rattle.std.specs.Prelude.{length, take, drop, Option, Some, None, codes}
-use Rattle.std.specs.List.{list_all, list_any}
+use Rattle.std.specs.Prelude.{ℕ, ◌&&◌, if◌then◌else◌, List, [], ◌∷◌, Option, Some, None, codes}
 use Rattle.std.specs.Str.{bytes_eq}
+use Rattle.std.specs.Option.{option_and_then}
+use Rattle.token_table.specs.TableLines.{is_agent}
 
--- The words of a command.
+-- the word after `pipe --fresh`, where there is no other
+abbrev pub owner_word : List (List ℕ) → Option (List ℕ)
+owner_word [] = None
+owner_word (command ∷ []) = None
+owner_word (command ∷ flag ∷ []) = None
+owner_word (command ∷ flag ∷ owner ∷ []) =
+    if bytes_eq command (codes "pipe") && bytes_eq flag (codes "--fresh") then Some owner else None
+owner_word (command ∷ flag ∷ owner ∷ other ∷ others) = None
 
--- a character of an owner's IRI: visible, and none that an IRI may not have
-abbrev pub is_iri_byte : ℕ → Bool
-is_iri_byte b = (nat_le 33 b && nat_le b 126) && not (list_any (λ c. c == b) (codes "<>\"{}|^\\`"))
+-- the agent whom a word names, where it is an absolute IRI
+abbrev pub agent_of : List ℕ → Option (List ℕ)
+agent_of word = if is_agent word then Some word else None
 
-abbrev pub is_iri_length : ℕ → Bool
-is_iri_length n = nat_le 1 n && nat_le n 248
-
--- an owner: `https://`, and 1 to 248 such characters
-abbrev pub is_owner : List ℕ → Bool
-is_owner word =
-    bytes_eq (take 8 word) (codes "https://") && (list_all is_iri_byte (drop 8 word) && is_iri_length (length (drop 8 word)))
-
--- the owner whom the words `pipe --fresh OWNER` name; no other words have a reading
+-- The owner whom the words `pipe --fresh OWNER` name. No other words have a reading.
 abbrev pub owner_of : List (List ℕ) → Option (List ℕ)
-owner_of [] = None
-owner_of (command ∷ []) = None
-owner_of (command ∷ flag ∷ []) = None
-owner_of (command ∷ flag ∷ owner ∷ []) =
-    if bytes_eq command (codes "pipe") && (bytes_eq flag (codes "--fresh") && is_owner owner) then Some owner else None
-owner_of (command ∷ flag ∷ owner ∷ other ∷ others) = None
+owner_of words = option_and_then agent_of (owner_word words)

@@ -1,6 +1,7 @@
 //! `podctl`: one pod served over one connection.
 #![tactic(auto)]
 
+mod fresh;
 mod keeper;
 mod podctl;
 mod report_end;

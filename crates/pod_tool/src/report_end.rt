@@ -24,7 +24,8 @@ fn number_line(alloc: Global, word: &[u8], number: u64) -> Mem<Bytes>
 /// Tells that the input ended inside a message.
 fn write_cut<E: Sink>(alloc: Global, rest: usize, errors: &mut E) -> PipeEnd
     ensures end { (result ≡ PipeEnd.Cut rest) ⊎ (result ≡ PipeEnd.NoMemory) }
-    ensures told { Tells result (E.taken errors.old) (E.taken errors.new) (E.faults errors.old) (E.faults errors.new) }
+    ensures told { Tells result (E.taken errors.old) (E.taken errors.new) (E.faults errors.old)
+        (E.faults errors.new) }
     ensures no_fewer { E.faults errors.old ≤ E.faults errors.new }
 {
     let Ok(line) = number_line(alloc, b"end: cut ", rest as u64) else {
@@ -39,7 +40,8 @@ fn write_cut<E: Sink>(alloc: Global, rest: usize, errors: &mut E) -> PipeEnd
 /// Tells that bytes that are no message were refused.
 fn write_bad<E: Sink>(alloc: Global, status: u16, errors: &mut E) -> PipeEnd
     ensures end { (result ≡ PipeEnd.Bad status) ⊎ (result ≡ PipeEnd.NoMemory) }
-    ensures told { Tells result (E.taken errors.old) (E.taken errors.new) (E.faults errors.old) (E.faults errors.new) }
+    ensures told { Tells result (E.taken errors.old) (E.taken errors.new) (E.faults errors.old)
+        (E.faults errors.new) }
     ensures no_fewer { E.faults errors.old ≤ E.faults errors.new }
 {
     let Ok(line) = number_line(alloc, b"end: bad ", u64::from(status)) else {
@@ -56,9 +58,11 @@ fn write_done<E: Sink>(end: PipeEnd, line: &[u8], errors: &mut E) -> PipeEnd
     requires line { line.now ≡ end_line end }
     requires done { status_of end ≡ 0 }
     ensures end { (result ≡ end) ⊎ (result ≡ PipeEnd.WriteFault) }
-    ensures told { Tells result (E.taken errors.old) (E.taken errors.new) (E.faults errors.old) (E.faults errors.new) }
+    ensures told { Tells result (E.taken errors.old) (E.taken errors.new) (E.faults errors.old)
+        (E.faults errors.new) }
     ensures no_fewer { E.faults errors.old ≤ E.faults errors.new }
-    ensures failed { result ≡ PipeEnd.WriteFault → CountIncreased (E.faults errors.old) (E.faults errors.new) }
+    ensures failed { result ≡ PipeEnd.WriteFault
+        → CountIncreased (E.faults errors.old) (E.faults errors.new) }
 {
     match write_all(errors, line) {
         Ok(()) => end,
@@ -70,14 +74,17 @@ fn write_done<E: Sink>(end: PipeEnd, line: &[u8], errors: &mut E) -> PipeEnd
 /// reads ended it.
 pub fn write_end_line<E: Sink>(alloc: Global, end: PipeEnd, errors: &mut E) -> PipeEnd
     ensures end { ComesOf end result }
-    ensures told { Tells result (E.taken errors.old) (E.taken errors.new) (E.faults errors.old) (E.faults errors.new) }
+    ensures told { Tells result (E.taken errors.old) (E.taken errors.new) (E.faults errors.old)
+        (E.faults errors.new) }
     ensures no_fewer { E.faults errors.old ≤ E.faults errors.new }
-    ensures failed { result ≡ PipeEnd.WriteFault → (end ≡ PipeEnd.WriteFault) ⊎ CountIncreased (E.faults errors.old) (E.faults errors.new) }
+    ensures failed { result ≡ PipeEnd.WriteFault → (end ≡ PipeEnd.WriteFault)
+        ⊎ CountIncreased (E.faults errors.old) (E.faults errors.new) }
 {
     match end {
         PipeEnd::Peer => write_done(end, b"end: peer\n", errors),
         PipeEnd::Closed => write_done(end, b"end: closed\n", errors),
         PipeEnd::Limit => write_done(end, b"end: limit\n", errors),
+        PipeEnd::Upgraded => write_done(end, b"end: upgraded\n", errors),
         PipeEnd::Cut { rest } => write_cut(alloc, rest, errors),
         PipeEnd::Bad { status } => write_bad(alloc, status, errors),
         PipeEnd::WriteFault => PipeEnd::WriteFault,

@@ -1,9 +1,9 @@
 //! Serves an input as one connection.
 ghost use Rattle.std.specs.Prelude.{◌≡◌, ◌==◌, ◌≤◌, if◌then◌else◌};
 ghost use Rattle.pod_base.specs.Counts.{CountIncreased};
-ghost use Rattle.pod_tool.specs.Served.{IsNew};
 ghost use Rattle.pod_tool.specs.Statuses.{Pipes};
 ghost use Rattle.pod_tool.specs.Streams.{CountsInput};
+ghost use Rattle.pod_tool.specs.Talks.{IsStarted};
 
 use crate::keeper::Keeper;
 use crate::status::PipeEnd;
@@ -38,13 +38,17 @@ pub fn serve<S: Source, K: Sink, C: Clock>(
     output: &mut K,
     clock: &C,
 ) -> PipeEnd
-    requires { IsNew keeper }
-    ensures pipes { Pipes (C.may_give clock.now) keeper.pod.owner result (S.rest input.old) (S.rest input.new) (K.taken output.old) (K.taken output.new) }
-    ensures counts { CountsInput result (S.reads input.old) (S.reads input.new) (S.ends input.old) (S.ends input.new) }
+    requires { IsStarted (C.may_give clock.now) keeper }
+    ensures pipes { Pipes (C.may_give clock.now) keeper.state.pod.owner result (S.rest input.old)
+        (S.rest input.new) (K.taken output.old) (K.taken output.new) }
+    ensures counts { CountsInput result (S.reads input.old) (S.reads input.new)
+        (S.ends input.old) (S.ends input.new) }
     ensures faults { S.faults input.old ≤ S.faults input.new }
     ensures writes { K.faults output.old ≤ K.faults output.new }
-    ensures read_fault { result ≡ PipeEnd.ReadFault → CountIncreased (S.faults input.old) (S.faults input.new) }
-    ensures write_fault { result ≡ PipeEnd.WriteFault → CountIncreased (K.faults output.old) (K.faults output.new) }
+    ensures read_fault { result ≡ PipeEnd.ReadFault
+        → CountIncreased (S.faults input.old) (S.faults input.new) }
+    ensures write_fault { result ≡ PipeEnd.WriteFault
+        → CountIncreased (K.faults output.old) (K.faults output.new) }
 {
     let mut conn = Conn::new(alloc);
     let mut talk = Talk { keeper, number: 0 };

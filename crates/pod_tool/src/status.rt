@@ -17,6 +17,8 @@ pub enum PipeEnd {
     Closed,
     /// The last request was answered that a connection may have.
     Limit,
+    /// A request was answered by a switch of protocols.
+    Upgraded,
     /// Bytes that are no message were refused with that status.
     Bad { status: u16 },
     /// A read failed.
@@ -35,7 +37,7 @@ impl PipeEnd {
         ensures { result.0 ≡ status_of self }
     {
         match self {
-            PipeEnd::Peer | PipeEnd::Closed | PipeEnd::Limit => Status(0),
+            PipeEnd::Peer | PipeEnd::Closed | PipeEnd::Limit | PipeEnd::Upgraded => Status(0),
             PipeEnd::ReadFault => Status(3),
             PipeEnd::WriteFault => Status(4),
             PipeEnd::NoMemory => Status(7),

@@ -1,28 +1,25 @@
 //! Answers the events of a connection.
-ghost use Rattle.std.specs.Prelude.{◌≡◌, ◌≤◌, ◌<◌, ◌+◌, ◌^◌, ◌==◌, ◌∷◌, [], ℕ, List, length};
-ghost use Rattle.std.specs.Prelude.{IsTrue, IfOk, IfErr, OnOk, if◌then◌else◌};
-ghost use Rattle.std.specs.List.{AllByRecursion, list_all};
+ghost use Rattle.std.specs.Prelude.{◌≡◌, ◌≤◌, ◌<◌, ◌+◌, ◌==◌, ◌∷◌, [], ℕ, Bool, List, length};
+ghost use Rattle.std.specs.Prelude.{IfOk, IfErr, OnOk, false, if◌then◌else◌};
+ghost use Rattle.std.specs.List.{AllByRecursion};
 ghost use Rattle.http_conn.specs.Messages.{NothingAfterEnd};
-ghost use Rattle.http_out.specs.Dates.{Dated};
-ghost use Rattle.http_out.specs.Text.{interim_text, stays_in_line};
+ghost use Rattle.http_out.specs.Text.{interim_text, memory_text};
 ghost use Rattle.pod_base.specs.declared.heard.Heard.TheVariants as hears;
 ghost use Rattle.pod_base.specs.Counts.{CountIncreased};
+ghost use Rattle.pod_core.specs.Session.{IsClockMoment, requests_of};
 ghost use Rattle.pod_io.specs.Counts.{CountsFaults};
-ghost use Rattle.pod_tool.specs.Fresh.{closes_after, refusal_word};
-ghost use Rattle.pod_tool.specs.Session.{requests_of};
-ghost use Rattle.pod_tool.specs.Talks.{CountsWrites, IsOver, IsRefused, IsSound, RefusedAs, Turns};
+ghost use Rattle.pod_tool.specs.Talks.{CountsWrites, IsOver, MayBeSent, IsSound, RefusedAs, Turns};
 ghost use Rattle.pod_tool.specs.Talks.{TurnsIn};
 ghost use Rattle.pod_tool.specs.Streams.{ExtendsBy};
-ghost use Rattle.pod_tool.specs.Turns.{Refuses, Turned, Writes, refusal_bytes};
+ghost use Rattle.pod_tool.specs.Turns.{Turned, Writes, refusal_bytes};
 
-use crate::keeper::{Keeper, clock_moment};
+use crate::keeper::{Keeper, Taken, clock_moment};
 use crate::status::PipeEnd;
 use crate::write::{write_all, write_out};
 use http_conn::REQUEST_LIMIT;
-use http_head::closes;
 use http_out::{Out, interim, memory_text};
 use pod_base::{Heard, Mem, Request};
-use pod_core::refusal;
+use pod_core::{closes_after, refusal_of};
 use pod_io::{Clock, Failed, Sink};
 use std::alloc::Global;
 
@@ -31,13 +28,6 @@ use std::alloc::Global;
 pub struct Talk {
     pub keeper: Keeper,
     pub number: u64,
-}
-
-/// Whether the connection closes behind a request of that number.
-fn closes_after(request: &Request, number: u64) -> bool
-    ensures { result ≡ closes_after request.now number }
-{
-    closes(request.minor, &request.fields) || number == REQUEST_LIMIT
 }
 
 /// The end behind the last request of a connection, by its number.
@@ -51,57 +41,72 @@ fn end_behind(number: u64) -> PipeEnd
     }
 }
 
-/// The word of the refusal of bytes that are no message.
-fn refusal_word(status: u16) -> &'static [u8]
-    ensures { result.now ≡ refusal_word status }
-{
-    match status {
-        400 => b"message",
-        413 => b"body-size",
-        431 => b"head-size",
-        _ => b"coding",
-    }
-}
-
 /// The refusal of bytes that are no message, at the clock's moment.
 fn refusal_out<C: Clock>(alloc: Global, status: u16, clock: &C) -> Mem<Out>
     requires { (200 ≤ status) × (status < 600) }
-    ensures { IfOk result (λ out. (moment : Dated) × Refuses (C.may_give clock.now) moment × (out ≡ refusal_bytes status moment)) }
+    ensures { IfOk result (λ out. (moment : ℕ) × IsClockMoment (C.may_give clock.now) moment
+        × (out ≡ refusal_bytes status moment)) }
 {
     let moment = clock_moment(clock);
-    let response = refusal(alloc, status, refusal_word(status))?;
+    let response = refusal_of(alloc, status)?;
     Ok(Out::new(response, moment, true))
 }
 
-/// Answers one request and writes the answer: the pod's, or that no memory was left.
+/// Writes an answer. Says whether it switches protocols.
+fn write_taken<K: Sink>(output: &mut K, taken: Taken) -> Result<bool, Failed>
+    ensures writes { Writes result taken.out (K.taken output.old) (K.taken output.new) }
+    ensures upgraded { IfOk result (λ upgraded. upgraded ≡ taken.upgraded) }
+    ensures faults { CountsFaults result (K.faults output.old) (K.faults output.new) }
+{
+    let upgraded = taken.upgraded;
+    match write_out(output, taken.out) {
+        Ok(()) => Ok(upgraded),
+        Err(failed) => Err(failed),
+    }
+}
+
+/// Writes that no memory was left for a request.
+fn write_out_of_memory<K: Sink>(output: &mut K) -> Result<bool, Failed>
+    ensures writes { Writes result memory_text (K.taken output.old) (K.taken output.new) }
+    ensures upgraded { IfOk result (λ upgraded. upgraded ≡ false) }
+    ensures faults { CountsFaults result (K.faults output.old) (K.faults output.new) }
+{
+    match write_all(output, memory_text()) {
+        Ok(()) => Ok(false),
+        Err(failed) => Err(failed),
+    }
+}
+
+/// Answers one request and writes the answer: the pod's, or that no memory was left. Says whether
+/// it switches protocols.
 fn answer_one<K: Sink, C: Clock>(
     alloc: Global,
     keeper: &mut Keeper,
     request: &Request,
     number: u64,
-    closes: bool,
     output: &mut K,
     clock: &C,
-) -> Result<(), Failed>
-    requires closes { closes ≡ closes_after request.now number }
-    requires room { keeper.old.next + 1 < 2 ^ 64 }
-    requires base { IsTrue (list_all stays_in_line keeper.old.pod.base) }
-    ensures turned { (text : List ℕ) × Turned (C.may_give clock.now) keeper.old keeper.new request.now number text
-        × Writes result text (K.taken output.old) (K.taken output.new) }
+) -> Result<bool, Failed>
+    ensures turned { (text : List ℕ) × (upgraded : Bool)
+        × Turned (C.may_give clock.now) keeper.old keeper.new request.now number text upgraded
+        × Writes result text (K.taken output.old) (K.taken output.new)
+        × IfOk result (λ told. told ≡ upgraded) }
     ensures faults { CountsFaults result (K.faults output.old) (K.faults output.new) }
 {
-    match keeper.take(alloc, request, number, closes, clock) {
-        Ok(out) => write_out(output, out),
-        Err(_none) => write_all(output, memory_text()),
+    match keeper.take(alloc, request, number, clock) {
+        Ok(taken) => write_taken(output, taken),
+        Err(_none) => write_out_of_memory(output),
     }
 }
 
 /// Refuses bytes that are no message, as the last that is written.
 fn refuse<K: Sink, C: Clock>(alloc: Global, status: u16, output: &mut K, clock: &C) -> PipeEnd
     requires { (200 ≤ status) × (status < 600) }
-    ensures refused { RefusedAs (C.may_give clock.now) status result (K.taken output.old) (K.taken output.new) }
+    ensures refused { RefusedAs (C.may_give clock.now) status result (K.taken output.old)
+        (K.taken output.new) }
     ensures no_fewer { K.faults output.old ≤ K.faults output.new }
-    ensures failed { result ≡ PipeEnd.WriteFault → CountIncreased (K.faults output.old) (K.faults output.new) }
+    ensures failed { result ≡ PipeEnd.WriteFault
+        → CountIncreased (K.faults output.old) (K.faults output.new) }
 {
     let Ok(out) = refusal_out(alloc, status, clock) else {
         return PipeEnd::NoMemory;
@@ -125,7 +130,8 @@ fn write_continue<K: Sink>(output: &mut K) -> Result<(), PipeEnd>
 }
 
 impl Talk {
-    /// Answers the next request. Behind the last one the connection has ended.
+    /// Answers the next request. Behind the last one, and behind a switch of protocols, the
+    /// connection has ended.
     fn answer<K: Sink, C: Clock>(
         &mut self,
         alloc: Global,
@@ -137,24 +143,19 @@ impl Talk {
         ensures sound { OnOk result (IsSound self.new) }
         ensures number { OnOk result (self.new.number ≡ self.old.number + 1) }
         ensures turns { (text : List ℕ) × ExtendsBy text (K.taken output.old) (K.taken output.new)
-            × Turns (C.may_give clock.now) self.old self.new (hears.Request request.now ∷ []) text result }
+            × Turns (C.may_give clock.now) self.old self.new
+            (hears.Request request.now ∷ []) text result }
         ensures over { IfErr result (IsOver self.old.number (hears.Request request.now)) }
         ensures faults { CountsWrites result (K.faults output.old) (K.faults output.new) }
     {
         let number = self.number + 1;
         let last = closes_after(request, number);
-        match answer_one(
-            alloc,
-            &mut self.keeper,
-            request,
-            number,
-            last,
-            output,
-            clock,
-        ) {
-            Ok(()) => {
+        match answer_one(alloc, &mut self.keeper, request, number, output, clock) {
+            Ok(upgraded) => {
                 self.number = number;
-                if last {
+                if upgraded {
+                    Err(PipeEnd::Upgraded)
+                } else if last {
                     Err(end_behind(number))
                 } else {
                     Ok(())
@@ -173,9 +174,10 @@ impl Talk {
         clock: &C,
     ) -> Result<(), PipeEnd>
         requires sound { IsSound self.old }
-        requires status { IsRefused one.now }
+        requires status { MayBeSent one.now }
         ensures sound { OnOk result (IsSound self.new) }
-        ensures number { OnOk result (self.new.number ≡ self.old.number + length (requests_of (one.now ∷ []))) }
+        ensures number { OnOk result (self.new.number
+            ≡ self.old.number + length (requests_of (one.now ∷ []))) }
         ensures turns { (text : List ℕ) × ExtendsBy text (K.taken output.old) (K.taken output.new)
             × Turns (C.may_give clock.now) self.old self.new (one.now ∷ []) text result }
         ensures over { IfErr result (IsOver self.old.number one.now) }
@@ -198,7 +200,7 @@ impl Talk {
     ) -> Result<(), PipeEnd>
         requires sound { IsSound self.old }
         requires ends { NothingAfterEnd self.old.number heard.now }
-        requires statuses { AllByRecursion IsRefused heard.now }
+        requires statuses { AllByRecursion MayBeSent heard.now }
         ensures sound { OnOk result (IsSound self.new) }
         ensures turns { (text : List ℕ) × ExtendsBy text (K.taken output.old) (K.taken output.new)
             × TurnsIn (C.may_give clock.now) self.old self.new heard.now text result }

@@ -11,7 +11,7 @@ const PUT: &str =
 const GET: &str = "GET /hello HTTP/1.1\r\nHost: 127.0.0.1:8080\r\n\r\n";
 
 const CREATED: &str =
-    "HTTP/1.1 201 Created\r\nDate: Sun, 06 Nov 1994 08:49:37 GMT\r\nLocation: http://127.0.0.1:8080/hello\r\nLink: <http://127.0.0.1:8080/hello.acl>; rel=\"acl\"\r\nContent-Length: 0\r\n\r\n";
+    "HTTP/1.1 201 Created\r\nDate: Sun, 06 Nov 1994 08:49:37 GMT\r\nLocation: http://127.0.0.1:8080/hello\r\nLink: <http://127.0.0.1:8080/hello.acl>; rel=\"acl\"\r\nLink: <http://127.0.0.1:8080/hello.meta>; rel=\"describedby\"\r\nContent-Length: 0\r\n\r\n";
 
 /// What a run left: its status, its output and its error sink.
 #[derive(Drop)]
@@ -63,6 +63,6 @@ fn faults_and_other_words_have_their_statuses(rt: HostRuntime) -> Result<(), Fai
     assert_eq!(rt; write.output.taken(), CREATED.as_bytes());
     let mut words = Vec::new(alloc);
     words.push(String::from_str(alloc, "frob")?)?;
-    assert!(rt; words::owner_of(&words).is_none());
+    assert!(rt; matches!(words::owner_of(alloc, &words), Ok(None)));
     Ok(())
 }

@@ -1,11 +1,28 @@
-use Rattle.std.proofs.Common.{rules, take, ◌++◌, inl, Ok, Err, sym, ap, subst, ◌∙◌, arith}
+use Rattle.std.proofs.Common.{refl, rules, take, ◌++◌, inl, Ok, Err, sym, ap, subst, ◌∙◌, arith}
 use Rattle.pod_io.specs.Counts.{next_count}
 use Rattle.std.specs.List.{AllByRecursion}
 use Rattle.http_conn.specs.Messages.{NothingAfterEnd}
-use Rattle.pod_tool.specs.Talks.{IsRefused, TurnsIn}
-use Rattle.pod_tool.proofs.ServingLemmas.{read_fault, bounded, at_end, no_memory, ends, statuses, goes_on, ended, never_reads, counts_end, counts_heard}
+use Rattle.pod_tool.specs.Talks.{MayBeSent, TurnsIn}
+use Rattle.pod_tool.proofs.ServingLemmas.{begins, end_reads, end_writes, read_fault, bounded, at_end, no_memory, ends, statuses, goes_on, ended, never_reads, counts_end, counts_heard}
 use Rattle.pod_tool.proofs.ReadsLemmas.{reads_more, reads_none, ended_at, some_read, met_end, met_no_end, one_more}
 use Rattle.pod_tool.proofs.serve.serve.Goals as goal
+
+pub reads-init : goal.reads-init
+reads-init g c = (
+  begins (g.C.Clock.may_give c.args.clock.now) c.new-conn.result c.args.keeper (g.S.Source.rest c.args.input.now) (g.K.Sink.taken c.args.output.now) c.requires c.new-conn.ensures,
+  omega arith,
+  omega arith,
+  omega arith,
+  λ below. omega arith,
+  refl,
+)
+
+-- the end of the input is no fault
+pub returns-then-count-eq0-clause-read_fault : goal.returns-then-count-eq0-clause-read_fault
+returns-then-count-eq0-clause-read_fault g c = λ is. absurd (end_reads c.rest.result c.at_end.result c.at_end.ensures is)
+
+pub returns-then-count-eq0-clause-write_fault : goal.returns-then-count-eq0-clause-write_fault
+returns-then-count-eq0-clause-write_fault g c = λ is. absurd (end_writes c.rest.result c.at_end.result c.at_end.ensures is)
 
 -- a read failed
 pub returns-in_default-clause-pipes : goal.returns-in_default-clause-pipes
@@ -41,7 +58,7 @@ hear-requires-clause-statuses g c =
     let s = c.reads.invariant.0 in
     let read = c.in-Ok.ensures in
     let reads = reads_more s.text c.reads.piece c.read.new.into c.in-Ok.count (g.S.Source.rest c.args.input.now) (g.S.Source.rest c.reads.input) (g.S.Source.rest c.read.new.self) s.reads read.bytes read.rest.taken in
-    subst (AllByRecursion IsRefused) (sym c.as_slice.ensures)
+    subst (AllByRecursion MayBeSent) (sym c.as_slice.ensures)
     (statuses _ _ _ _ _ _ _ _ _ s (take c.in-Ok.count c.read.new.into) (g.S.Source.rest c.read.new.self) reads c.feed.new.self c.in-Ok-feed.heard.items _ (c.in-Ok-feed.ensures.messages s.text s.heard s.stands))
 
 -- the connection ended in this piece
@@ -113,9 +130,9 @@ returns-in-Err-clause-counts g c =
     let read = c.in-Ok.ensures in
     let told = c.in-Err.ensures.turns in
     let t = told.2 in
-    counts_heard (g.C.Clock.may_give c.args.clock.now) c.args.keeper.pod.owner c.in-Err.end (s.heard ++ t.front) (s.written ++ told.0)
+    counts_heard (g.C.Clock.may_give c.args.clock.now) c.args.keeper.state.pod.owner c.in-Err.end (s.heard ++ t.front) (s.written ++ told.0)
     (g.S.Source.reads c.args.input.now) (g.S.Source.reads c.read.new.self) (g.S.Source.ends c.args.input.now) (g.S.Source.ends c.read.new.self)
-    (t.turns c.args.keeper.pod.owner s.heard s.written s.talks) (omega (arith, c.reads.invariant.3, read.reads.no_fewer))
+    (t.turns c.args.keeper.state.pod.owner s.heard s.written s.talks) (omega (arith, c.reads.invariant.3, read.reads.no_fewer))
     (met_no_end (g.S.Source.ends c.reads.input) (g.S.Source.ends c.read.new.self) c.in-Ok.count c.if-count-eq0.false read.ends.read ∙ c.reads.invariant.5)
 
 pub returns-clause-counts : goal.returns-clause-counts

@@ -1,7 +1,7 @@
 use Rattle.std.proofs.Common.{refl, [], ◌∷◌, ◌++◌, Ok, Err, append_assoc, ap, sym, subst, ◌∙◌, arith}
 use Rattle.std.specs.List.{AllByRecursion}
 use Rattle.http_conn.specs.Messages.{NothingAfterEnd}
-use Rattle.pod_tool.specs.Talks.{IsRefused}
+use Rattle.pod_tool.specs.Talks.{MayBeSent}
 use Rattle.pod_tool.proofs.TalksLemmas.{nothing_added, nothing_turned, adds_more, turns_behind, none_behind}
 use Rattle.pod_tool.proofs.HeardLemmas.{ends_next, none_left}
 use Rattle.pod_tool.proofs.talk.Talk.hear.Goals as goal
@@ -51,7 +51,7 @@ loop-one-preserved g c =
       ),
       c.in-Ok.ensures.sound,
       subst (λ n. NothingAfterEnd n more) (sym c.in-Ok.ensures.number) (ends_next c.loop-one.self.number one more (subst (NothingAfterEnd c.loop-one.self.number) cut i.2)),
-      (subst (AllByRecursion IsRefused) cut i.3).1,
+      (subst (AllByRecursion MayBeSent) cut i.3).1,
       omega (arith, i.4, c.in-Ok.ensures.faults.no_fewer),
     )
 
