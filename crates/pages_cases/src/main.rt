@@ -1,0 +1,36 @@
+//! Runs cases of versions: reads one from each line of standard input, and prints it with the
+//! result as one more field. The first field of a case is its call.
+//!
+//! `run` has an entry in each further field: words with a sign before a path. `+` puts a row, `*`
+//! changes a graph, `~` touches a row and `-` removes it. An entry that doesn't apply is left out.
+//! `run` prints whether the version was as one list of rows after each entry, what governs each
+//! path, and the effects that are kept. `random` has a seed, and how many entries of its own making
+//! are to apply; it prints after how many of them the version was as the list, a copy of it too,
+//! and the version before as it was. `window` has a number of entries that touch the root, and
+//! prints which effects are kept after them.
+#![tactic(auto)]
+
+mod entries;
+mod runs;
+mod shown;
+
+use std::alloc::{AllocError, Global};
+use std::io;
+
+/// What the library returns for the fields of a case.
+fn answer(alloc: Global, fields: &[&str]) -> Result<String, AllocError> {
+    let found = match fields {
+        ["run", entries @ ..] => runs::run(alloc, entries),
+        ["random", seed, count] => runs::random(alloc, seed, count),
+        ["window", count] => runs::window(alloc, count),
+        _ => return String::from_str(alloc, "no case"),
+    };
+    match found {
+        Ok(text) => Ok(text),
+        Err(_) => Err(AllocError),
+    }
+}
+
+fn main(rt: HostRuntime) -> io::Result<()> {
+    case_lines::run(&rt, answer)
+}

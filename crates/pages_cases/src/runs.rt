@@ -1,0 +1,245 @@
+//! Cases of a version beside a plain list of rows.
+
+use crate::entries::{entry, first, path};
+use crate::shown::{access_text, effects_text, state_text};
+use pod_base::{Mem, NoMemory};
+use pod_command::Entry;
+use pod_pages::Version;
+use pod_path::Path;
+use pod_rows::{PlainRows, PodState, StateFault, fits};
+use std::alloc::Global;
+
+/// The paths of the runs that are made here.
+const PATHS: [&str; 26] = [
+    "/",
+    "/.acl",
+    "/.meta",
+    "/a",
+    "/a.acl",
+    "/a.meta",
+    "/ab",
+    "/ab.acl",
+    "/a-b",
+    "/b/",
+    "/b/.acl",
+    "/b/.meta",
+    "/b/c",
+    "/b/c.acl",
+    "/b/c.meta",
+    "/b/d/",
+    "/b/d/.acl",
+    "/b/d/e",
+    "/b/d/e.acl",
+    "/b/d/f/",
+    "/b/d/f/.acl",
+    "/b/d/f/g",
+    "/b/d/f/g.acl",
+    "/bc",
+    "/bc.acl",
+    "/c",
+];
+
+/// A state as one list of rows and a version, and how many entries applied, and after how many of
+/// them both were the same.
+#[derive(Drop)]
+struct Both {
+    plain: PlainRows,
+    version: Version,
+    applied: usize,
+    same: usize,
+}
+
+fn memory(fault: StateFault) -> NoMemory {
+    match fault {
+        StateFault::NotWellFormed => NoMemory,
+        StateFault::NoMemory => NoMemory,
+    }
+}
+
+/// Both of a new pod.
+fn start(alloc: Global) -> Mem<Both> {
+    let snapshot = first(alloc)?;
+    match PlainRows::of(alloc, &snapshot) {
+        Ok(plain) => match Version::of(alloc, &snapshot) {
+            Ok(version) => Ok(Both {
+                plain,
+                version,
+                applied: 0,
+                same: 0,
+            }),
+            Err(fault) => Err(memory(fault)),
+        },
+        Err(fault) => Err(memory(fault)),
+    }
+}
+
+/// The paths of the runs.
+fn all_paths(alloc: Global) -> Mem<Vec<Path>> {
+    let mut paths = Vec::new(alloc);
+    for text in PATHS {
+        paths.push(path(alloc, text)?)?;
+    }
+    Ok(paths)
+}
+
+/// The state and the version after an entry, if it applies to both.
+fn after<S: PodState>(alloc: Global, state: &S, entry: &Entry) -> Mem<Option<S>> {
+    if fits(alloc, state, entry)? {
+        let next = state.after(alloc, entry)?;
+        Ok(Some(next))
+    } else {
+        Ok(None)
+    }
+}
+
+/// Whether the new versions are the same, and the old version is as it was.
+fn holds(
+    alloc: Global,
+    plain: &PlainRows,
+    version: &Version,
+    old: &Version,
+    before: &str,
+    paths: &[Path],
+) -> Mem<bool> {
+    let wanted = state_text(alloc, plain, paths)?;
+    let found = state_text(alloc, version, paths)?;
+    let shared = version.share(alloc)?;
+    let again = state_text(alloc, &shared, paths)?;
+    let still = state_text(alloc, old, paths)?;
+    let same = found.as_str() == wanted.as_str() && again.as_str() == wanted.as_str();
+    Ok(same && still.as_str() == before)
+}
+
+/// Both after an entry that gave these.
+fn both_after(
+    alloc: Global,
+    both: &Both,
+    plain: PlainRows,
+    version: Version,
+    before: &str,
+    paths: &[Path],
+) -> Mem<Both> {
+    let same = holds(alloc, &plain, &version, &both.version, before, paths)?;
+    let more = if same { 1 } else { 0 };
+    Ok(Both {
+        plain,
+        version,
+        applied: both.applied.saturating_add(1),
+        same: both.same.saturating_add(more),
+    })
+}
+
+/// Both after an entry, if it applies to both.
+fn step(alloc: Global, both: &Both, words: &str, paths: &[Path]) -> Mem<Option<Both>> {
+    let entry = entry(alloc, both.plain.next(), words)?;
+    let before = state_text(alloc, &both.version, paths)?;
+    match after(alloc, &both.plain, &entry)? {
+        Some(plain) => match after(alloc, &both.version, &entry)? {
+            Some(version) => {
+                let next = both_after(alloc, both, plain, version, before.as_str(), paths)?;
+                Ok(Some(next))
+            }
+            None => Ok(None),
+        },
+        None => Ok(None),
+    }
+}
+
+/// A version after entries.
+pub fn run(alloc: Global, entries: &[&str]) -> Mem<String> {
+    let paths = all_paths(alloc)?;
+    let mut both = start(alloc)?;
+    for words in entries {
+        if let Some(next) = step(alloc, &both, words, paths.as_slice())? {
+            both = next;
+        }
+    }
+    let access = access_text(alloc, &both.version)?;
+    let effects = effects_text(alloc, &both.version)?;
+    Ok(format!(in alloc;
+        "{} of {} the same; {}{}",
+        both.same,
+        both.applied,
+        access.as_str(),
+        effects.as_str()
+    )?)
+}
+
+/// The next number of a generator.
+fn next_number(number: u64) -> u64 {
+    number
+        .wrapping_mul(6_364_136_223_846_793_005)
+        .wrapping_add(1_442_695_040_888_963_407)
+}
+
+/// A word of an edit.
+fn push_word(text: &mut String, version: &Version, path: &Path, choice: u64) -> Mem<()> {
+    if !text.is_empty() {
+        text.push(' ')?;
+    }
+    let sign = if version.find(path).is_none() {
+        "+"
+    } else {
+        match choice % 6 {
+            0 => "~",
+            1 => "+",
+            2 => "*",
+            _ => "-",
+        }
+    };
+    text.push_str(sign)?;
+    text.push_str(path.as_str())?;
+    Ok(())
+}
+
+/// The words of an entry, and the next number.
+fn words(alloc: Global, version: &Version, paths: &[Path], number: u64) -> Mem<(String, u64)> {
+    let mut text = String::new(alloc);
+    let mut now = next_number(number);
+    let count = (now >> 40) % 4;
+    for _ in 0..count + 1 {
+        now = next_number(now);
+        let place = (now >> 33) % 26;
+        if let Some(path) = paths.get(place as usize) {
+            push_word(&mut text, version, path, now >> 50)?;
+        }
+    }
+    Ok((text, now))
+}
+
+/// A run from a seed, until so many entries applied, or 64 times as many were tried.
+pub fn random(alloc: Global, seed: &str, count: &str) -> Mem<String> {
+    let mut number: u64 = seed.parse().unwrap_or(0);
+    let count: usize = count.parse().unwrap_or(0);
+    let paths = all_paths(alloc)?;
+    let mut both = start(alloc)?;
+    for _ in 0..count.saturating_mul(64) {
+        if both.applied >= count {
+            break;
+        }
+        let (text, next) = words(alloc, &both.version, paths.as_slice(), number)?;
+        number = next;
+        if let Some(next) = step(alloc, &both, text.as_str(), paths.as_slice())? {
+            both = next;
+        }
+    }
+    Ok(format!(in alloc; "{} of {} the same", both.same, both.applied)?)
+}
+
+/// How many effects a version keeps after so many touches of the root, and of which entries.
+pub fn window(alloc: Global, count: &str) -> Mem<String> {
+    let count: u32 = count.parse().unwrap_or(0);
+    let mut both = start(alloc)?;
+    for _ in 0..count {
+        if let Some(next) = step(alloc, &both, "~/", &[])? {
+            both = next;
+        }
+    }
+    let effects = both.version.effects();
+    let first = match effects.first() {
+        Some(effect) => effect.seq,
+        None => both.version.seq(),
+    };
+    let (oldest, kept) = (both.version.oldest(), effects.len());
+    Ok(format!(in alloc; "from {oldest}: {kept} effects, the first of {first}")?)
+}

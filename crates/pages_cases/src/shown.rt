@@ -1,0 +1,125 @@
+//! How states and versions are shown.
+
+use acl_rules::How;
+use pod_base::Mem;
+use pod_command::{Content, Kind, Row};
+use pod_pages::{EffectKind, Version};
+use pod_path::Path;
+use pod_rows::{Effective, PodState};
+use rdf_graph::Term;
+use std::alloc::Global;
+
+/// The last part of a rule's node.
+fn push_node(text: &mut String, node: &Term) -> Mem<()> {
+    if let Term::Iri(iri) = node {
+        if let Some((_, number)) = iri.as_str().split_once('#') {
+            text.push_str(number)?;
+        }
+    }
+    Ok(())
+}
+
+/// The path whose list it is, how it governs, and the numbers of its rules.
+pub fn effective_text(alloc: Global, found: &Effective<'_>) -> Mem<String> {
+    let how = match found.how {
+        How::Own => "own",
+        How::Inherited => "inherited",
+    };
+    let mut text = format!(in alloc; "{} {how} ", found.at.as_str())?;
+    for rule in found.rules.list.as_slice() {
+        push_node(&mut text, &rule.node)?;
+    }
+    Ok(text)
+}
+
+fn kind_name(kind: Kind) -> &'static str {
+    match kind {
+        Kind::Container => "container",
+        Kind::Graph => "graph",
+        Kind::Acl => "acl",
+        Kind::Bytes => "bytes",
+        Kind::Meta => "meta",
+    }
+}
+
+/// A row as its path, its kind, its moment, and how much it holds.
+fn row_text(alloc: Global, row: &Row) -> Mem<String> {
+    let kind = kind_name(row.kind);
+    let size = match &row.content {
+        Content::Graph(graph) => graph.as_slice().len(),
+        Content::Bytes { ctype: _, bytes } => bytes.as_slice().len(),
+    };
+    let moment = row.modified.0;
+    Ok(format!(in alloc; "{} {kind} {moment} {size}", row.path.as_str())?)
+}
+
+/// What a state has at a path.
+fn push_place<S: PodState>(alloc: Global, text: &mut String, state: &S, path: &Path) -> Mem<()> {
+    if let Some(row) = state.find(path) {
+        let shown = row_text(alloc, row)?;
+        text.push_str(shown.as_str())?;
+    }
+    let governs = effective_text(alloc, &state.effective(path))?;
+    let taken = state.taken(path) && state.taken_text(path.as_str());
+    let member = state.member(path, "http://e.example/group", state.owner().as_str());
+    let shown = format!(in alloc; " {} {taken} {member}:", governs.as_str())?;
+    text.push_str(shown.as_str())?;
+    let children = state.children(alloc, path)?;
+    for child in children.as_slice() {
+        text.push_str(child.as_str())?;
+        text.push(' ')?;
+    }
+    text.push_str("; ")?;
+    Ok(())
+}
+
+/// All that a state has at these paths, and its rows.
+pub fn state_text<S: PodState>(alloc: Global, state: &S, paths: &[Path]) -> Mem<String> {
+    let (count, next) = (state.count(), state.next());
+    let mut text = format!(in alloc;
+        "{count} {next} {} {}: ",
+        state.base().as_str(),
+        state.owner().as_str()
+    )?;
+    for path in paths {
+        push_place(alloc, &mut text, state, path)?;
+    }
+    let rows = state.rows(alloc)?;
+    for row in rows.as_slice() {
+        let shown = row_text(alloc, row)?;
+        text.push_str(shown.as_str())?;
+        text.push('|')?;
+    }
+    Ok(text)
+}
+
+/// What governs each row of a version.
+pub fn access_text(alloc: Global, version: &Version) -> Mem<String> {
+    let mut text = String::new(alloc);
+    let rows = version.rows(alloc)?;
+    for row in rows.as_slice() {
+        let found = effective_text(alloc, &version.effective(&row.path))?;
+        let shown = format!(in alloc; "{}: {}; ", row.path.as_str(), found.as_str())?;
+        text.push_str(shown.as_str())?;
+    }
+    Ok(text)
+}
+
+fn effect_name(kind: EffectKind) -> &'static str {
+    match kind {
+        EffectKind::Create => "create",
+        EffectKind::Update => "update",
+        EffectKind::Delete => "delete",
+    }
+}
+
+/// The effects that a version keeps.
+pub fn effects_text(alloc: Global, version: &Version) -> Mem<String> {
+    let mut text = format!(in alloc; "from {}:", version.oldest())?;
+    for effect in version.effects() {
+        let name = effect_name(effect.kind);
+        let shown = format!(in alloc; " {} {name} {}", effect.seq, effect.path.as_str())?;
+        text.push_str(shown.as_str())?;
+    }
+    Ok(text)
+}

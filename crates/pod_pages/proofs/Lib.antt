@@ -1,0 +1,12 @@
+pub mod Found
+pub mod Placing
+pub mod Resolution
+pub mod Listing
+pub mod Marking
+pub mod Freeing
+pub mod Trees
+pub mod Assembled
+pub mod Readiness
+pub mod EditSteps
+pub mod VersionLaws
+pub mod History

@@ -1,0 +1,10 @@
+use Rattle.std.proofs.Common.{◌||◌, false}
+use Rattle.access_index.specs.Listing.{is_listed}
+use Rattle.pod_pages.proofs.Marking.{none_done}
+use Rattle.pod_pages.proofs.resolved.marked.Goals as goal
+
+pub returns : goal.returns
+returns c = λ have.
+    c.in_ok-third.ensures (λ p. is_listed c.args.subjects.now p || (is_listed c.args.touched.now p || false)) have
+    (c.in_ok-second.ensures (λ p. is_listed c.args.touched.now p || false) have
+    (c.in_ok-first.ensures (λ p. false) have (none_done c.args.numbers.now)))

@@ -1,0 +1,8 @@
+pub mod Effects
+pub mod State
+-- internal: cited by private clauses alone
+pub mod Marks
+pub mod Lists
+pub mod Edited
+pub mod Numbering
+pub mod Versions

@@ -1,0 +1,127 @@
+//! Which list governs a path, by the marks of rows: a row with a list of its own has its number.
+ghost use Rattle.std.specs.Prelude.{◌≡◌, ◌++◌, ℕ, List, IfSome, IfNone, option_copied};
+ghost use Rattle.pod_path.specs.Hierarchy.{is_container, subject_of};
+ghost use Rattle.pod_rows.specs.Access.{about};
+ghost use Rattle.pod_rows.specs.Tree.{ancestors};
+ghost use Rattle.pod_pages.specs.Marks.{container_number, first_number, mark_by, own_of};
+ghost use Rattle.pod_pages.specs.Marks.{own_number};
+ghost use Rattle.pod_pages.specs.Marks.{path_mark, text_mark};
+
+use pod_path::Path;
+use row_pages::{Item, Rows};
+
+/// The number of the list that governs a path, and whether it is the path's own.
+#[derive(Clone, Copy)]
+pub(crate) struct Mark {
+    pub list: u32,
+    pub own: bool,
+}
+
+/// The number of an item's list, where it is the item's own.
+fn own_of(item: Option<&Item>) -> Option<u32>
+    ensures { result ≡ own_of (option_copied item.entry) }
+{
+    match item {
+        Some(item) => {
+            if item.is_own() {
+                Some(item.list())
+            } else {
+                None
+            }
+        }
+        None => None,
+    }
+}
+
+/// The number of the list of a path that has one of its own.
+pub(crate) fn own_number(rows: &Rows, path: &[u8]) -> Option<u32>
+    ensures { result ≡ own_number rows.now path.now }
+{
+    own_of(rows.find(path))
+}
+
+/// The number of the list of a text, where the text is a container.
+fn container_number(rows: &Rows, path: &[u8]) -> Option<u32>
+    ensures { result ≡ container_number rows.now path.now }
+{
+    if path.ends_with(b"/") {
+        own_number(rows, path)
+    } else {
+        None
+    }
+}
+
+/// The number of the list of the nearest ancestor that has one.
+fn number_above(rows: &Rows, path: &[u8]) -> Option<u32>
+    ensures { result ≡ first_number rows.now (ancestors path.now) }
+{
+    let mut n = path.len();
+    while n > 0 {
+        n -= 1;
+        let found = container_number(rows, &path[..n]);
+        if found.is_some() {
+            return found;
+        }
+    }
+    None
+}
+
+/// What the own number makes of a path, or else the one above.
+fn mark_by(own: Option<u32>, above: Option<u32>) -> Option<Mark>
+    ensures { result ≡ mark_by own above }
+{
+    match own {
+        Some(list) => Some(Mark { list, own: true }),
+        None => match above {
+            Some(list) => Some(Mark { list, own: false }),
+            None => None,
+        },
+    }
+}
+
+/// Which list governs a text that is no access list and no description.
+fn text_mark(rows: &Rows, text: &[u8]) -> Option<Mark>
+    ensures { result ≡ text_mark rows.now text.now }
+{
+    let own = own_number(rows, text);
+    if own.is_some() {
+        return mark_by(own, None);
+    }
+    mark_by(None, number_above(rows, text))
+}
+
+/// Which list governs a path, by the marks of the rows that have lists of their own.
+pub(crate) fn path_mark(rows: &Rows, path: &Path) -> Option<Mark>
+    ensures { result ≡ path_mark rows.now path.now }
+{
+    text_mark(rows, about(path.as_str()).as_bytes())
+}
+
+/// The text before `end`, where the text ends in it.
+fn strip_end<'a>(text: &'a str, end: &str) -> Option<&'a str>
+    ensures some { IfSome (option_copied result) (λ prefix. text.entry.now ≡ prefix ++ end.now) }
+    ensures none { IfNone (option_copied result) ((prefix : List ℕ)
+        → text.entry.now ≡ prefix ++ end.now → ⊥) }
+{
+    text.strip_suffix(end)
+}
+
+/// The text of what an access list or a description is about.
+fn subject_text(path: &str) -> Option<&str>
+    ensures { option_copied result ≡ subject_of path.entry.now }
+{
+    match strip_end(path, ".acl") {
+        Some(subject) => Some(subject),
+        None => strip_end(path, ".meta"),
+    }
+}
+
+/// What an access list or a description is about, and any other path itself.
+fn about(path: &str) -> &str
+    ensures { result.now ≡ about path.entry.now (subject_of path.entry.now) }
+{
+    match subject_text(path) {
+        Some(subject) => subject,
+        None => path,
+    }
+}

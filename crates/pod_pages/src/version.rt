@@ -1,0 +1,449 @@
+//! [`Version`]: a state of a pod in pages that versions share.
+ghost use Rattle.std.specs.Prelude.{◌≡◌, ◌+◌, ◌<◌, ◌≤◌, ◌^◌, ℕ, [], IfOk, IfNone, IfSome, IsErrOf};
+ghost use Rattle.std.specs.Prelude.{IsTrue, None, Some, filter, is_some, length, map, refl, true};
+ghost use Rattle.pod_command.specs.Encodable.{AreInOrder};
+ghost use Rattle.pod_command.specs.declared.row.Row.{Row};
+ghost use Rattle.pod_rows.specs.Access.{effective_of, governed, rules_at};
+ghost use Rattle.pod_rows.specs.Apply.{Applies};
+ghost use Rattle.pod_rows.specs.Members.{is_member_at, states_member};
+ghost use Rattle.pod_rows.specs.Pod.{is_row, row_at};
+ghost use Rattle.pod_rows.specs.Tree.{is_child_of};
+ghost use Rattle.pod_rows.specs.WellFormed.{IsWellFormedSnapshot, pod_of};
+ghost use Rattle.row_pages.specs.Items.{Placed, rows_of};
+ghost use Rattle.pod_pages.specs.Lists.{list_at};
+ghost use Rattle.pod_pages.specs.Marks.{how_of};
+ghost use Rattle.pod_pages.specs.State.{first_state, state_after};
+ghost use Rattle.pod_pages.specs.Versions.{path_of_edit, unmarked};
+
+use crate::edits::{after_edits, row_at};
+use crate::effects::{Effect, is_row, kept_effects, oldest_after};
+use crate::lists::ListTable;
+use crate::numbers::path_mark;
+use crate::resolved::marked_again;
+use acl_rules::vocabulary::VCARD_HAS_MEMBER;
+use acl_rules::{Groups, How};
+use iri_ref::Iri;
+use pod_base::{List, Mem, NoMemory, Text};
+use pod_command::{Content, Edit, Entry, Kind, Row, Snapshot};
+use pod_path::{Path, Taken};
+use pod_rows::{Effective, PodState, StateFault, is_well_formed};
+use row_pages::{Item, Rows, Steps};
+use std::alloc::Global;
+use std::marker::Model;
+use std::sync::ledger::Ledger;
+
+/// A state of a pod. It isn't changed: [`PodState::after`] makes a new one, which shares with it
+/// all pages, rows and access lists that stay.
+#[derive(Drop)]
+pub struct Version {
+    next: u64,
+    base: Iri,
+    owner: Text,
+    rows: Rows,
+    table: ListTable,
+    effects: Vec<Effect>,
+    oldest: u64,
+}
+
+impl Model for Version {
+    ghost use Rattle.pod_pages.specs.State.{VersionState};
+    ghost use Rattle.pod_pages.specs.Versions.{IsVersion, state_of};
+
+    ghost Value = { VersionState };
+
+    ghost view = { λ v. state_of v.next v.base v.owner v.rows v.effects.items v.oldest };
+
+    ghost invariant = { λ v. IsVersion
+        (state_of v.next v.base v.owner v.rows v.effects.items v.oldest) v.rows v.table };
+}
+
+impl Version {
+    /// The version of a snapshot. It keeps no effects.
+    ///
+    /// # Errors
+    ///
+    /// [`StateFault::NotWellFormed`] exactly where the snapshot isn't well-formed.
+    pub fn of(alloc: Global, snapshot: &Snapshot) -> Result<Version, StateFault>
+        ensures version { IfOk result (λ version. version ≡ first_state snapshot.now) }
+        ensures well_formed { IfOk result (λ _. IsWellFormedSnapshot snapshot.now) }
+        ensures refused { IsErrOf result StateFault.NotWellFormed
+            → IsWellFormedSnapshot snapshot.now → ⊥ }
+    {
+        if !is_snapshot_well_formed(alloc, snapshot)? {
+            return Err(StateFault::NotWellFormed);
+        }
+        let version = first_version(alloc, snapshot)?;
+        Ok(version)
+    }
+
+    /// The number of the next change, at most 2^63.
+    pub fn seq(&self) -> u64
+        ensures next { result ≡ self.now.next }
+        ensures most { self.now.next ≤ 2 ^ 63 }
+    {
+        self.next
+    }
+
+    /// The effects of the last [`crate::EFFECTS_ENTRIES_LIMIT`] entries, in order.
+    pub fn effects(&self) -> &[Effect]
+        ensures { result.now ≡ self.now.effects }
+    {
+        self.effects.as_slice()
+    }
+
+    /// The number of the oldest entry whose effects are kept; that of the next change where none
+    /// are.
+    pub fn oldest(&self) -> u64
+        ensures oldest { result ≡ self.now.oldest }
+        ensures most { self.now.oldest ≤ self.now.next }
+    {
+        self.oldest
+    }
+
+    /// An equal version, which shares its memory.
+    pub fn share(&self, alloc: Global) -> Mem<Version>
+        ensures { IfOk result (λ version. version ≡ self.now) }
+    {
+        let base = copy_iri(alloc, &self.base)?;
+        let owner = self.owner.copy(alloc)?;
+        let rows = self.rows.share(alloc)?;
+        let table = self.table.share()?;
+        let effects = kept_effects(alloc, self.effects.as_slice(), 0)?;
+        Ok(Version {
+            next: self.next,
+            base,
+            owner,
+            rows,
+            table,
+            effects,
+            oldest: self.oldest,
+        })
+    }
+
+    /// The row at a path, and the access list that governs it. `steps` counts the paths that are
+    /// read: at most 16 more than the binary digits of the number of rows.
+    pub fn find_counted<L: Ledger>(
+        &self,
+        path: &Path,
+        steps: &mut Steps<L>,
+    ) -> Option<(&Row, Effective<'_>)>
+        ensures some { IfSome result (λ found. row_at self.now.pod.rows path.now
+            ≡ Some found.0.now) }
+        ensures governs { IfSome result (λ found. effective_of self.now.pod.rows path.now
+            ≡ Some (governed found.1.at.now found.1.how)) }
+        ensures rules { IfSome result (λ found. found.1.rules.now.list
+            ≡ rules_at self.now.pod found.1.at.now) }
+        ensures none { IfNone result (row_at self.now.pod.rows path.now ≡ None) }
+        ensures cost { (b : ℕ) → length self.now.pod.rows < 2 ^ b
+            → steps.new ≤ steps.old + b + 16 }
+    {
+        match self.rows.find_counted(path.as_str().as_bytes(), steps) {
+            Some(item) => Some((item.row(), access(&self.table, item.list(), item.is_own()))),
+            None => None,
+        }
+    }
+}
+
+/// The version of a snapshot that is well-formed.
+fn first_version(alloc: Global, snapshot: &Snapshot) -> Mem<Version>
+    requires { IsWellFormedSnapshot snapshot.now }
+    ensures { IfOk result (λ version. version ≡ first_state snapshot.now) }
+{
+    let rows = first_rows(alloc, snapshot.rows.as_slice())?;
+    let paths = paths_of(alloc, snapshot.rows.as_slice())?;
+    let none = ListTable::new(alloc, Vec::new(alloc))?;
+    let resolved = marked_again(alloc, &snapshot.base, &rows, &none, &rows, paths.as_slice())?;
+    let base = copy_iri(alloc, &snapshot.base)?;
+    let owner = snapshot.owner.copy(alloc)?;
+    Ok(Version {
+        next: snapshot.seq,
+        base,
+        owner,
+        rows: resolved.rows,
+        table: resolved.table,
+        effects: Vec::new(alloc),
+        oldest: snapshot.seq,
+    })
+}
+
+/// Whether the snapshot is well-formed.
+fn is_snapshot_well_formed(alloc: Global, snapshot: &Snapshot) -> Mem<bool>
+    ensures sound { IfOk result (λ r. IsTrue r → IsWellFormedSnapshot snapshot.now) }
+    ensures complete { IfOk result (λ r. IsWellFormedSnapshot snapshot.now → IsTrue r) }
+{
+    if snapshot.seq > 1 << 63 {
+        return Ok(false);
+    }
+    is_well_formed(
+        alloc,
+        &snapshot.base,
+        &snapshot.owner,
+        snapshot.rows.as_slice(),
+    )
+}
+
+/// An equal IRI.
+fn copy_iri(alloc: Global, iri: &Iri) -> Mem<Iri>
+    ensures { IfOk result (λ copy. copy ≡ iri.now) }
+{
+    match iri.copy(alloc) {
+        Ok(copy) => Ok(copy),
+        Err(_) => Err(NoMemory),
+    }
+}
+
+/// The rows without marks.
+fn first_rows(alloc: Global, rows: &[Row]) -> Mem<Rows>
+    requires { AreInOrder rows.now }
+    ensures { IfOk result (λ all. all ≡ map unmarked rows.now) }
+{
+    let mut items = Vec::with_capacity(alloc, rows.len())?;
+    for row in rows {
+        let copy = row.copy(alloc)?;
+        let item = Item::new(alloc, copy, 0, false)?;
+        items.push(item)?;
+    }
+    let all = Rows::of(alloc, items.as_slice())?;
+    Ok(all)
+}
+
+/// The paths of rows.
+fn paths_of(alloc: Global, rows: &[Row]) -> Mem<Vec<Path>>
+    ensures { IfOk result (λ paths. paths.items ≡ map (λ (row : Row). row.path) rows.now) }
+{
+    let mut paths = Vec::with_capacity(alloc, rows.len())?;
+    for row in rows {
+        let path = row.path.copy(alloc)?;
+        paths.push(path)?;
+    }
+    Ok(paths)
+}
+
+/// The path of an edit.
+fn edit_path(edit: &Edit) -> &Path
+    ensures { result.now ≡ path_of_edit edit.entry.now }
+{
+    match edit {
+        Edit::Put(row) => &row.path,
+        Edit::Change {
+            path,
+            change: _,
+            modified: _,
+        } => path,
+        Edit::Touch { path, modified: _ } => path,
+        Edit::Remove { path } => path,
+    }
+}
+
+/// The paths of edits.
+fn edit_paths(alloc: Global, edits: &[Edit]) -> Mem<Vec<Path>>
+    ensures { IfOk result (λ paths. paths.items ≡ map path_of_edit edits.now) }
+{
+    let mut paths = Vec::with_capacity(alloc, edits.len())?;
+    for edit in edits {
+        let path = edit_path(edit).copy(alloc)?;
+        paths.push(path)?;
+    }
+    Ok(paths)
+}
+
+/// How a list governs what it is the own list of, or what inherits it.
+fn how_of(own: bool) -> How
+    ensures { result ≡ how_of own }
+{
+    if own { How::Own } else { How::Inherited }
+}
+
+/// The list with a number.
+fn access(table: &ListTable, number: u32, own: bool) -> Effective<'_>
+    requires { is_some (list_at table.now number) ≡ true }
+    ensures list { list_at table.entry.now number
+        ≡ Some (record { at = result.at.now; rules = result.rules.now }) }
+    ensures how { result.how ≡ how_of own }
+{
+    match table.list(number) {
+        Some(list) => Effective {
+            at: &list.at,
+            how: how_of(own),
+            rules: &list.rules,
+        },
+        None => unreachable!(),
+    }
+}
+
+/// Whether the row is a child of the container.
+fn is_child_of(alloc: Global, container: &Path, row: &Row) -> Mem<bool>
+    ensures { IfOk result (λ r. r ≡ is_child_of container.now row.now) }
+{
+    if row.path.is_acl() || row.path.is_meta() {
+        return Ok(false);
+    }
+    match row.path.parent(alloc)? {
+        Some(parent) => Ok(parent.as_str() == container.as_str()),
+        None => Ok(false),
+    }
+}
+
+/// The paths of a container's children among items, in their order.
+fn children_among(alloc: Global, items: &[Item], container: &Path) -> Mem<Vec<Path>>
+    ensures { IfOk result (λ paths. paths.items
+        ≡ map (λ (item : Placed). item.row.path)
+        (filter (λ (item : Placed). is_child_of container.now item.row) items.now)) }
+{
+    let mut paths = Vec::new(alloc);
+    for item in items {
+        if is_child_of(alloc, container, item.row())? {
+            let path = item.row().path.copy(alloc)?;
+            paths.push(path)?;
+        }
+    }
+    Ok(paths)
+}
+
+/// Copies of the rows of items.
+fn copy_rows(alloc: Global, items: &[Item]) -> Mem<Vec<Row>>
+    ensures { IfOk result (λ rows. rows.items ≡ rows_of items.now) }
+{
+    let mut rows = Vec::with_capacity(alloc, items.len())?;
+    for item in items {
+        let row = item.row().copy(alloc)?;
+        rows.push(row)?;
+    }
+    Ok(rows)
+}
+
+/// Whether a document of RDF states that the agent is a member of the group.
+fn states_member(group: &str, agent: &str, row: &Row) -> bool
+    ensures { result ≡ states_member group.now agent.now row.now.kind row.now.content }
+{
+    match row.kind {
+        Kind::Graph => match &row.content {
+            Content::Graph(graph) => graph.has_iris(group, VCARD_HAS_MEMBER, agent),
+            Content::Bytes { ctype: _, bytes: _ } => false,
+        },
+        Kind::Container | Kind::Acl | Kind::Bytes | Kind::Meta => false,
+    }
+}
+
+impl Taken for Version {
+    ghost is_row = { λ state. is_row state.pod.rows };
+
+    fn taken(&self, path: &Path) -> bool {
+        is_row(&self.rows, path)
+    }
+
+    fn taken_text(&self, text: &str) -> bool {
+        self.rows.find(text.as_bytes()).is_some()
+    }
+}
+
+impl Groups for Version {
+    ghost is_member = { λ state. is_member_at state.pod.rows };
+
+    fn member(&self, doc: &Path, group: &str, agent: &str) -> bool {
+        match row_at(&self.rows, doc) {
+            Some(row) => states_member(group, agent, row),
+            None => false,
+        }
+    }
+}
+
+impl PodState for Version {
+    ghost pod = { λ state. state.pod };
+
+    ghost next_number = { λ state. state.next };
+
+    fn next(&self) -> u64 {
+        self.next
+    }
+
+    fn base(&self) -> &Iri {
+        &self.base
+    }
+
+    fn owner(&self) -> &Text {
+        &self.owner
+    }
+
+    fn count(&self) -> usize {
+        self.rows.len()
+    }
+
+    fn find(&self, path: &Path) -> Option<&Row> {
+        row_at(&self.rows, path)
+    }
+
+    fn children(&self, alloc: Global, path: &Path) -> Mem<List<Path>> {
+        let below = self.rows.below(alloc, path.as_str().as_bytes())?;
+        let paths = children_among(alloc, below.as_slice(), path)?;
+        Ok(List::from_vec(paths))
+    }
+
+    fn effective(&self, path: &Path) -> Effective<'_> {
+        match self.rows.find(path.as_str().as_bytes()) {
+            Some(item) => access(&self.table, item.list(), item.is_own()),
+            None => match path_mark(&self.rows, path) {
+                Some(mark) => access(&self.table, mark.list, mark.own),
+                None => unreachable!(),
+            },
+        }
+    }
+
+    fn rows(&self, alloc: Global) -> Mem<List<Row>> {
+        let items = self.rows.below(alloc, b"")?;
+        let rows = copy_rows(alloc, items.as_slice())?;
+        Ok(List::from_vec(rows))
+    }
+
+    fn after(&self, alloc: Global, entry: &Entry) -> Mem<Version> {
+        let version = self.after_entry(alloc, entry)?;
+        Ok(version)
+    }
+
+    fn is_well_formed(&self) {
+        let _rows = self.rows.len();
+    }
+
+    ghost rows_are = { λ _ _. refl };
+
+    ghost members_are = { λ _ _ _ _. refl };
+}
+
+impl Version {
+    /// The version after an entry that applies to it: [`PodState::after`] with the effects.
+    pub fn after_entry(&self, alloc: Global, entry: &Entry) -> Mem<Version>
+        requires { Applies self.now.pod self.now.next entry.now }
+        ensures { IfOk result (λ version. version ≡ state_after self.now entry.now) }
+    {
+        let next = self.next + 1;
+        let oldest = oldest_after(self.oldest, next);
+        let edits = entry.edits.as_slice();
+        let mut effects = kept_effects(alloc, self.effects.as_slice(), oldest)?;
+        let after = after_edits(alloc, entry.seq, &self.rows, edits, &mut effects)?;
+        match after {
+            Some(rows) => {
+                let paths = edit_paths(alloc, edits)?;
+                let resolved = marked_again(
+                    alloc,
+                    &self.base,
+                    &self.rows,
+                    &self.table,
+                    &rows,
+                    paths.as_slice(),
+                )?;
+                let base = copy_iri(alloc, &self.base)?;
+                let owner = self.owner.copy(alloc)?;
+                Ok(Version {
+                    next,
+                    base,
+                    owner,
+                    rows: resolved.rows,
+                    table: resolved.table,
+                    effects,
+                    oldest,
+                })
+            }
+            None => unreachable!(),
+        }
+    }
+}
