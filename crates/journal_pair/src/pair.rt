@@ -231,6 +231,7 @@ impl Pair {
         ensures fault { OnErr result ((bodies : List (List ℕ)) (body : List ℕ)
             → IsPairInDoubt D.image first.old second.old self.old bodies body
             → IsPairInDoubt D.image first.new second.new self.new bodies body) }
+        ensures fault_kind { OnErr result (self.new.checkpoint ≡ self.old.checkpoint) }
         ensures append_passed { self.old.checkpoint ≡ false
             → IsPassedBeside D.image first.old second.old self.old
             → IsPassedBeside D.image first.new second.new self.new }
