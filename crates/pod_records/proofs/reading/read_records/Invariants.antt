@@ -1,0 +1,10 @@
+use Rattle.std.proofs.Common.{◌≡◌, ◌∷◌, take}
+use Rattle.pod_records.specs.PodStores.{gate_after}
+use Rattle.pod_records.specs.Readings.{IsReadTo}
+use Rattle.pod_records.proofs.reading.read_records.Given as goal
+
+abbrev pub invariant-loop-record : goal.invariant-loop-record
+invariant-loop-record l = record {
+  read : IsReadTo l.fn.format (l.fn.snapshot ∷ take l.record-index l.fn.entries) l.reading.version.pod l.reading.version.next l.reading.last;
+  at : l.reading.at ≡ gate_after (l.fn.snapshot ∷ take l.record-index l.fn.entries);
+}

@@ -1,0 +1,5 @@
+-- what the records of a journal hold, and what two disks stand for by it
+pub mod Records
+pub mod PodStores
+pub mod Readings
+pub mod OpenedStores

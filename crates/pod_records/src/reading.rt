@@ -1,0 +1,243 @@
+//! Reading the records of a journal: each is decoded and applied once.
+ghost use Rattle.std.specs.Prelude.{◌≡◌, ◌+◌, ◌<◌, ◌^◌, ◌++◌, ◌∷◌, [], ◌⊎◌, List, ℕ, Option, Some, None};
+ghost use Rattle.std.specs.Prelude.{IfOk, IfErr, IfSome, OnOk, OnErr};
+ghost use Rattle.pod_base.specs.declared.moment.Moment.{Moment as MomentValue};
+ghost use Rattle.journal_log.specs.Frames.{frame_len};
+ghost use Rattle.pod_command.specs.Storable.{IsStorable};
+ghost use Rattle.pod_command.specs.StoredForms.{entry_bytes, entry_1_bytes};
+ghost use Rattle.pod_command.specs.declared.entry.Entry.{Entry as EntryValue};
+ghost use Rattle.pod_command.specs.declared.snapshot.Snapshot.{Snapshot as SnapshotValue};
+ghost use Rattle.pod_records.specs.PodStores.{gate_after};
+ghost use Rattle.pod_records.specs.Readings.{IsReadTo, IsSnapshotOf, IsSnapshotRead};
+ghost use Rattle.pod_records.specs.Readings.{IsEntryOf, IsEntryRead, HasNoEntry, HasRecordCause};
+ghost use Rattle.pod_records.specs.Records.{IsEntryIn, IsReadable};
+ghost use Rattle.pod_records.specs.declared.reading.RecordFault.TheVariants.{NoMemory as OutOfMemory};
+ghost use Rattle.pod_rows.specs.Apply.{Applies, applied};
+ghost use Rattle.pod_rows.specs.WellFormed.{IsWellFormedSnapshot, pod_of};
+
+use pod_base::{Bytes, Mem, Moment, NoMemory};
+use pod_command::{Entry, ReadBack, Snapshot, decode_entry, decode_entry_1, decode_snapshot};
+use pod_rows::{PlainRows, PodState, StateFault, fits};
+use std::alloc::Global;
+
+/// A version of a pod, which is never changed: the next one takes its place.
+pub type Version = PlainRows;
+
+/// The offset of a journal's first gate.
+const FIRST_GATE: u64 = 16;
+
+/// How many bytes a record has beside its body: the gate before it, and its length.
+const FRAME_LEN: u64 = 9;
+
+/// The format whose entries have no bases.
+const OLD_FORMAT: u8 = 1;
+
+/// Why records could not be read.
+#[derive(Clone, Copy, Debug, PartialEq, Eq)]
+pub enum RecordFault {
+    /// The record after the gate at this offset is the first that doesn't hold what it should.
+    Damaged { at: u64 },
+    NoMemory,
+}
+
+impl From<NoMemory> for RecordFault {
+    ghost from_gives = { λ _ fault. fault ≡ OutOfMemory };
+
+    fn from(_error: NoMemory) -> RecordFault {
+        RecordFault::NoMemory
+    }
+}
+
+/// What records hold: the pod after their entries, the moment of the last entry, and the offset of
+/// the gate after them.
+#[derive(Drop)]
+pub struct Reading {
+    pub version: Version,
+    pub last: Option<Moment>,
+    pub at: u64,
+}
+
+/// The version of a stored snapshot. None where the record isn't the text of a well-formed one.
+fn read_snapshot(alloc: Global, text: &[u8]) -> Mem<Option<Version>>
+    ensures some { IfOk result (λ found. IfSome found
+        (λ version. IsSnapshotRead text.now version.pod version.next)) }
+    ensures none { IfOk result (λ found. found ≡ None
+        → (snapshot : SnapshotValue) → IsSnapshotOf text.now snapshot → ⊥) }
+{
+    match decode_snapshot(alloc, text) {
+        Ok(snapshot) => version_of(alloc, &snapshot),
+        Err(ReadBack::NotCanonical) => Ok(None),
+        Err(ReadBack::NoMemory) => Err(NoMemory),
+    }
+}
+
+/// The version of a snapshot. None where it isn't well-formed.
+fn version_of(alloc: Global, snapshot: &Snapshot) -> Mem<Option<Version>>
+    ensures pod { IfOk result (λ found. IfSome found (λ version. version.pod ≡ pod_of snapshot.now)) }
+    ensures next { IfOk result (λ found. IfSome found (λ version. version.next ≡ snapshot.now.seq)) }
+    ensures well_formed { IfOk result
+        (λ found. IfSome found (λ _. IsWellFormedSnapshot snapshot.now)) }
+    ensures none { IfOk result (λ found. found ≡ None → IsWellFormedSnapshot snapshot.now → ⊥) }
+{
+    match Version::of(alloc, snapshot) {
+        Ok(version) => Ok(Some(version)),
+        Err(StateFault::NotWellFormed) => Ok(None),
+        Err(StateFault::NoMemory) => Err(NoMemory),
+    }
+}
+
+/// The entry of a record of format 1. None where the record isn't the text of one.
+fn read_old(alloc: Global, text: &[u8]) -> Mem<Option<Entry>>
+    ensures some { IfOk result (λ found. IfSome found (IsEntryRead 1 text.now)) }
+    ensures none { IfOk result (λ found. found ≡ None
+        → (entry : EntryValue) → IsEntryOf 1 text.now entry → ⊥) }
+{
+    match decode_entry_1(alloc, text) {
+        Ok(entry) => Ok(Some(entry)),
+        Err(ReadBack::NotCanonical) => Ok(None),
+        Err(ReadBack::NoMemory) => Err(NoMemory),
+    }
+}
+
+/// The entry of a record of format 2. None where the record isn't the text of one.
+fn read_new(alloc: Global, text: &[u8]) -> Mem<Option<Entry>>
+    ensures some { IfOk result (λ found. IfSome found (IsEntryRead 2 text.now)) }
+    ensures none { IfOk result (λ found. found ≡ None
+        → (entry : EntryValue) → IsEntryOf 2 text.now entry → ⊥) }
+{
+    match decode_entry(alloc, text) {
+        Ok(entry) => Ok(Some(entry)),
+        Err(ReadBack::NotCanonical) => Ok(None),
+        Err(ReadBack::NoMemory) => Err(NoMemory),
+    }
+}
+
+/// The entry of a record in this format. None where the record isn't the text of one.
+fn read_entry(alloc: Global, format: u8, text: &[u8]) -> Mem<Option<Entry>>
+    requires { (format ≡ 1) ⊎ (format ≡ 2) }
+    ensures some { IfOk result (λ found. IfSome found (IsEntryRead format text.now)) }
+    ensures none { IfOk result (λ found. found ≡ None
+        → (entry : EntryValue) → IsEntryOf format text.now entry → ⊥) }
+{
+    if format == OLD_FORMAT {
+        read_old(alloc, text)
+    } else {
+        read_new(alloc, text)
+    }
+}
+
+/// The version after an entry. None where the entry doesn't apply.
+fn version_after(alloc: Global, version: &Version, entry: &Entry) -> Mem<Option<Version>>
+    ensures applies { IfOk result (λ found. IfSome found
+        (λ _. Applies version.now.pod version.now.next entry.now)) }
+    ensures pod { IfOk result (λ found. IfSome found
+        (λ after. after.pod ≡ applied version.now.pod entry.now)) }
+    ensures next { IfOk result (λ found. IfSome found
+        (λ after. after.next ≡ version.now.next + 1)) }
+    ensures none { IfOk result (λ found. found ≡ None
+        → Applies version.now.pod version.now.next entry.now → ⊥) }
+{
+    if fits(alloc, version, entry)? {
+        let after = version.after(alloc, entry)?;
+        Ok(Some(after))
+    } else {
+        Ok(None)
+    }
+}
+
+/// The version after the entry of a record, and the entry's moment. None where the record isn't the
+/// text of an entry that applies.
+fn read_next(
+    alloc: Global,
+    format: u8,
+    version: &Version,
+    text: &[u8],
+) -> Mem<Option<(Version, Moment)>>
+    requires { (format ≡ 1) ⊎ (format ≡ 2) }
+    ensures some { IfOk result (λ found. IfSome found (λ next.
+        (bodies : List (List ℕ)) (last : Option MomentValue)
+        → IsReadTo format bodies version.now.pod version.now.next last
+        → IsReadTo format (bodies ++ text.now ∷ []) next.0.pod next.0.next (Some next.1))) }
+    ensures none { IfOk result (λ found. found ≡ None
+        → HasNoEntry format text.now version.now.pod version.now.next) }
+{
+    match read_entry(alloc, format, text)? {
+        Some(entry) => match version_after(alloc, version, &entry)? {
+            Some(after) => Ok(Some((after, entry.moment))),
+            None => Ok(None),
+        },
+        None => Ok(None),
+    }
+}
+
+impl Reading {
+    /// What the first record holds.
+    fn begin(alloc: Global, text: &[u8]) -> Result<Reading, RecordFault>
+        requires { frame_len text.now + 16 < 2 ^ 64 }
+        ensures read { IfOk result (λ reading. (format : ℕ)
+            → IsReadTo format (text.now ∷ []) reading.version.pod reading.version.next
+            reading.last) }
+        ensures at { IfOk result (λ reading. reading.at ≡ gate_after (text.now ∷ [])) }
+        ensures cause { IfErr result (λ fault. (format : ℕ) (rest : List (List ℕ))
+            → HasRecordCause format (text.now ∷ rest) fault) }
+    {
+        match read_snapshot(alloc, text)? {
+            Some(version) => Ok(Reading {
+                version,
+                last: None,
+                at: FIRST_GATE + FRAME_LEN + text.len() as u64,
+            }),
+            None => Err(RecordFault::Damaged { at: FIRST_GATE }),
+        }
+    }
+
+    /// Reads the next record.
+    fn read(&mut self, alloc: Global, format: u8, text: &[u8]) -> Result<(), RecordFault>
+        requires format { (format ≡ 1) ⊎ (format ≡ 2) }
+        requires room { self.old.at + frame_len text.now < 2 ^ 64 }
+        ensures read { OnOk result ((bodies : List (List ℕ))
+            → IsReadTo format bodies self.old.version.pod self.old.version.next self.old.last
+            → IsReadTo format (bodies ++ text.now ∷ []) self.new.version.pod
+            self.new.version.next self.new.last) }
+        ensures at { OnOk result (self.new.at ≡ self.old.at + frame_len text.now) }
+        ensures cause { IfErr result (λ fault. (bodies rest : List (List ℕ))
+            → IsReadTo format bodies self.old.version.pod self.old.version.next self.old.last
+            → self.old.at ≡ gate_after bodies
+            → HasRecordCause format (bodies ++ text.now ∷ rest) fault) }
+    {
+        match read_next(alloc, format, &self.version, text)? {
+            Some((version, moment)) => {
+                self.version = version;
+                self.last = Some(moment);
+                self.at += FRAME_LEN + text.len() as u64;
+                Ok(())
+            }
+            None => Err(RecordFault::Damaged { at: self.at }),
+        }
+    }
+}
+
+/// What the records of a journal of this format hold: `snapshot`, and then `entries`.
+///
+/// # Errors
+///
+/// `Damaged` comes at the gate of the first record that isn't the text of what it should be: a
+/// well-formed snapshot, or an entry that applies after those before it.
+pub fn read_records(
+    alloc: Global,
+    format: u8,
+    snapshot: &[u8],
+    entries: &[Bytes],
+) -> Result<Reading, RecordFault>
+    requires format { (format ≡ 1) ⊎ (format ≡ 2) }
+    requires room { gate_after (snapshot.now ∷ entries.now) < 2 ^ 64 }
+    ensures read { IfOk result (λ reading. IsReadTo format (snapshot.now ∷ entries.now)
+        reading.version.pod reading.version.next reading.last) }
+    ensures cause { IfErr result (HasRecordCause format (snapshot.now ∷ entries.now)) }
+{
+    let mut reading = Reading::begin(alloc, snapshot)?;
+    for record in entries {
+        reading.read(alloc, format, record.as_slice())?;
+    }
+    Ok(reading)
+}
