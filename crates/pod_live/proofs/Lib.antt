@@ -1,0 +1,5 @@
+-- internal
+mod NewStore
+mod Opened
+mod Places
+mod Storing

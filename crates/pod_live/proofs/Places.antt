@@ -1,0 +1,26 @@
+-- Places of a history, and what is stored from there on.
+use Rattle.std.proofs.Common.{◌≡◌, ◌⊎◌, inl, inr, ℕ, zero, suc, ◌+◌, ◌-◌, ◌≤◌, List, [], ◌∷◌, ◌++◌, length, map, take, drop, Option, Some, None, refl, sym, ◌∙◌, ap, subst, arith, length-append}
+use Rattle.pod_command.specs.declared.entry.Entry.{Entry}
+use Rattle.pod_command.specs.declared.snapshot.Snapshot.{Snapshot}
+use Rattle.pod_core.specs.History.{History, IsHistory, IsPlace, end_of, pod_at, longer}
+use Rattle.pod_core.proofs.Histories.{pod_at_end}
+use Rattle.pod_live.specs.Stored.{IsSnapshotAt, IsStored, history_of}
+use Rattle.pod_records.specs.Records.{Holds}
+use Rattle.pod_rows.specs.Apply.{AllApply, replayed}
+use Rattle.pod_rows.specs.WellFormed.{IsWellFormedSnapshot, pod_of}
+
+-- what records hold is a history that begins with their snapshot
+pub held_history : (format : ℕ) (bodies : List (List ℕ)) (snapshot : Snapshot) (entries : List Entry) → Holds format bodies snapshot entries → IsHistory (history_of snapshot entries)
+held_history format bodies snapshot entries h = record { well_formed = h.well_formed.pod; apply = h.apply }
+
+pub held_from_start : (format : ℕ) (bodies : List (List ℕ)) (snapshot : Snapshot) (entries : List Entry) → Holds format bodies snapshot entries → IsStored (history_of snapshot entries) format snapshot.seq bodies
+held_from_start format bodies snapshot entries h =
+    let zero_is : 0 ≡ snapshot.seq - snapshot.seq = omega arith in record {
+      snapshot = snapshot;
+      is_at = record {
+        there = record { from = omega arith; to = omega arith };
+        pod = ap (λ n. replayed (pod_of snapshot) (take n entries)) zero_is;
+        number = refl;
+      };
+      holds = subst (λ n. Holds format bodies snapshot (drop n entries)) zero_is h;
+    }

@@ -1,0 +1,8 @@
+-- what holds a history
+pub mod Stored
+pub mod CrashedPods
+-- what a keeper stands for, and what its calls make of it
+pub mod KeeperState
+pub mod Kept
+pub mod OpenedPods
+pub mod NewStores
