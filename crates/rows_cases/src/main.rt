@@ -1,44 +1,80 @@
 //! Runs cases of pods: reads one from each line of standard input, and prints it with the result as
-//! one more field. The first field of a case is its call, the second the head of the pod, and the
-//! third its rows.
+//! one more field. The first field of a case is its call. The second is the head of the pod and the
+//! third its rows, as `case_pods` reads them.
 //!
-//! A head is the base, the owner and the number of the next change; `-` is that of a new pod. Rows
-//! have `|` between them. A row is its path, its kind, its moment and its content, with a space
-//! between. The row `new` is the two first rows of a new pod. A content is a media type and a text
-//! for bytes, and else a graph: three words for each triple, and a comma after each but the last.
-//! `guard` is the graph of a new pod's access list. A word is an IRI: of a path where it begins with
-//! `/`, of a vocabulary with one of the prefixes `rdf:`, `ldp:`, `acl:` and `vcard:`, of a person
-//! where it begins with `@`, or written out. One that begins with `_` is a blank node, and one with
-//! `'` a literal. The call `many` has the number of rows of a pod alone.
+//! | Fields | Result |
+//! |---|---|
+//! | `well-formed` | whether the pod is well-formed |
+//! | `row` PATH | the row at a path |
+//! | `children` PATH, `view` PATH | the children and the view of a container |
+//! | `effective` PATH | the access list that governs a path, and the nodes of its rules |
+//! | `member` PATH GROUP AGENT | whether the document at a path names the agent as a member |
+//! | `after` NUMBER EDIT.., `twice` NUMBER EDIT.. | the pod after an entry, and whether it applies again |
+//! | `create` ROW, `replace` ROW, `patch` EDIT, `delete` PATH MOMENT, `remove` PATH | the edits of a change, and the pod after them |
+//! | `place` PATH, `twin` PATH, `subject` PATH, `empty` PATH, `room` NUMBER | what is in the way of a change |
+//! | `contains` PATH GRAPH, `guard` PATH GRAPH | the same of a graph at a path |
+//!
+//! An edit is `put` and a row, `remove` and a path, `touch`, a path and a moment, or `change`, a
+//! path, a moment, the graph that is removed, `then` and the graph that is added.
 #![tactic(auto)]
 
 mod changes;
-mod fields;
+mod edit_lists;
+mod obstacles;
 mod pods;
 mod shown;
 
+use case_pods::state_of;
+use case_values::known;
+use pod_base::Mem;
+use pod_rows::PlainRows;
+use shown::yes_or_no;
 use std::alloc::{AllocError, Global};
 use std::io;
 
-/// What the library returns for the fields of a case.
+/// What the libraries return for a call on a pod.
+fn result_of(alloc: Global, state: &PlainRows, call: &str, words: &[&str]) -> Mem<String> {
+    match (call, words) {
+        ("row", [path]) => pods::row(alloc, state, path),
+        ("children", [path]) => pods::children(alloc, state, path),
+        ("effective", [path]) => pods::effective(alloc, state, path),
+        ("view", [path]) => pods::view(alloc, state, path),
+        ("member", [doc, group, agent]) => pods::member(alloc, state, doc, group, agent),
+        ("after", [seq, edits @ ..]) => changes::after(alloc, state, seq, edits),
+        ("twice", [seq, edits @ ..]) => changes::twice(alloc, state, seq, edits),
+        ("create", [row]) => edit_lists::create(alloc, state, row),
+        ("replace", [row]) => edit_lists::replace(alloc, state, row),
+        ("patch", [edit]) => edit_lists::patch(alloc, state, edit),
+        ("delete", [path, moment]) => edit_lists::delete(alloc, state, path, moment),
+        ("remove", [path]) => edit_lists::remove(alloc, state, path),
+        ("place", [path]) => obstacles::place(alloc, state, path),
+        ("twin", [path]) => obstacles::twin(alloc, state, path),
+        ("subject", [path]) => obstacles::subject(alloc, state, path),
+        ("empty", [path]) => obstacles::empty(alloc, state, path),
+        ("room", [added]) => obstacles::room(alloc, state, added),
+        ("contains", [path, graph]) => obstacles::contains(alloc, path, graph),
+        ("guard", [path, graph]) => obstacles::guard(alloc, state, path, graph),
+        _ => Ok(String::from_str(alloc, "no case")?),
+    }
+}
+
+/// What the libraries return for a call on the pod with a head and rows.
+fn result_on(alloc: Global, call: &str, head: &str, rows: &str, words: &[&str]) -> Mem<String> {
+    let state = state_of(alloc, head, rows)?;
+    if call == "well-formed" {
+        return yes_or_no(alloc, state.is_some());
+    }
+    match state {
+        Some(state) => result_of(alloc, &state, call, words),
+        None => Ok(String::from_str(alloc, "not well-formed")?),
+    }
+}
+
+/// What the libraries return for the fields of a case.
 fn answer(alloc: Global, fields: &[&str]) -> Result<String, AllocError> {
-    let found = match fields {
-        ["well-formed", head, rows] => pods::well_formed(alloc, head, rows),
-        ["row", head, rows, path] => pods::row(alloc, head, rows, path),
-        ["children", head, rows, path] => pods::children(alloc, head, rows, path),
-        ["effective", head, rows, path] => pods::effective(alloc, head, rows, path),
-        ["view", head, rows, path] => pods::view(alloc, head, rows, path),
-        ["member", head, rows, doc, group, agent] => {
-            pods::member(alloc, head, rows, doc, group, agent)
-        }
-        ["many", count] => pods::many(alloc, count),
-        ["after", head, rows, seq, edits @ ..] => changes::after(alloc, head, rows, seq, edits),
-        ["twice", head, rows, seq, edits @ ..] => changes::twice(alloc, head, rows, seq, edits),
-        _ => return String::from_str(alloc, "no case"),
-    };
-    match found {
-        Ok(text) => Ok(text),
-        Err(_) => Err(AllocError),
+    match fields {
+        [call, head, rows, words @ ..] => known(result_on(alloc, call, head, rows, words)),
+        _ => String::from_str(alloc, "no case"),
     }
 }
 

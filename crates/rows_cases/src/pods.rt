@@ -1,67 +1,19 @@
 //! Cases of a pod as it is.
+
 ghost use Rattle.std.specs.Prelude.{◌≡◌};
 ghost use Rattle.pod_rows.specs.Pod.{is_row};
 
-use crate::fields::{expanded, number, path, row as fields_row, snapshot};
-use crate::shown::{paths_text, row_text};
+use crate::shown::{paths_text, row_text, yes_or_no};
 use acl_rules::{Groups, How};
 use case_lines::shown_whole;
-use pod_base::{Mem, NoMemory};
+use case_pods::BASE;
+use case_values::{path_or_root, pod_iri};
+use pod_base::Mem;
 use pod_path::{Path, Taken};
-use pod_rows::{PlainRows, PodState, StateFault, container_view};
+use pod_rows::{PlainRows, PodState, container_view};
 use rdf_graph::Term;
 use std::alloc::Global;
 use turtle_write::write;
-
-/// The state of a head and rows, if it is well-formed.
-pub fn state(alloc: Global, head: &str, rows: &str) -> Mem<Option<PlainRows>> {
-    let snapshot = snapshot(alloc, head, rows)?;
-    match PlainRows::of(alloc, &snapshot) {
-        Ok(state) => Ok(Some(state)),
-        Err(StateFault::NotWellFormed) => Ok(None),
-        Err(StateFault::NoMemory) => Err(NoMemory),
-    }
-}
-
-/// `yes` or `no`.
-pub fn word(alloc: Global, holds: bool) -> Mem<String> {
-    Ok(String::from_str(alloc, if holds { "yes" } else { "no" })?)
-}
-
-fn not_well_formed(alloc: Global) -> Mem<String> {
-    Ok(String::from_str(alloc, "not well-formed")?)
-}
-
-/// Whether the pod is well-formed.
-pub fn well_formed(alloc: Global, head: &str, rows: &str) -> Mem<String> {
-    let found = state(alloc, head, rows)?;
-    word(alloc, found.is_some())
-}
-
-/// Whether a pod of so many rows is well-formed: the first two, and one for each number.
-pub fn many(alloc: Global, count: &str) -> Mem<String> {
-    let mut snapshot = snapshot(alloc, "-", "new")?;
-    for index in 2..number(count).min(99_999) {
-        let text = format!(in alloc; "/{index:05} bytes 0 type:text/plain x")?;
-        let row = fields_row(alloc, text.as_str())?;
-        if snapshot.rows.push(alloc, row).is_err() {
-            return Err(NoMemory);
-        }
-    }
-    match PlainRows::of(alloc, &snapshot) {
-        Ok(state) => word(alloc, state.count() > 0),
-        Err(StateFault::NotWellFormed) => word(alloc, false),
-        Err(StateFault::NoMemory) => Err(NoMemory),
-    }
-}
-
-/// The row at a path.
-pub fn row(alloc: Global, head: &str, rows: &str, at: &str) -> Mem<String> {
-    match state(alloc, head, rows)? {
-        Some(state) => found_text(alloc, &state, &path(alloc, at)?),
-        None => not_well_formed(alloc),
-    }
-}
 
 /// Whether there is a row at the path, over any state.
 fn is_taken<S: PodState>(state: &S, at: &Path) -> bool
@@ -80,23 +32,15 @@ fn found_text<S: PodState>(alloc: Global, state: &S, at: &Path) -> Mem<String> {
     }
 }
 
-/// The children of a container.
-pub fn children(alloc: Global, head: &str, rows: &str, at: &str) -> Mem<String> {
-    match state(alloc, head, rows)? {
-        Some(state) => {
-            let found = state.children(alloc, &path(alloc, at)?)?;
-            paths_text(alloc, found.as_slice())
-        }
-        None => not_well_formed(alloc),
-    }
+/// The row at a path.
+pub(crate) fn row(alloc: Global, state: &PlainRows, at: &str) -> Mem<String> {
+    found_text(alloc, state, &path_or_root(alloc, at)?)
 }
 
-/// The access list that governs a path, and the nodes of its rules.
-pub fn effective(alloc: Global, head: &str, rows: &str, at: &str) -> Mem<String> {
-    match state(alloc, head, rows)? {
-        Some(state) => effective_text(alloc, &state, &path(alloc, at)?),
-        None => not_well_formed(alloc),
-    }
+/// The children of a container.
+pub(crate) fn children(alloc: Global, state: &PlainRows, at: &str) -> Mem<String> {
+    let found = state.children(alloc, &path_or_root(alloc, at)?)?;
+    paths_text(alloc, found.as_slice())
 }
 
 fn effective_text<S: PodState>(alloc: Global, state: &S, at: &Path) -> Mem<String> {
@@ -115,35 +59,29 @@ fn effective_text<S: PodState>(alloc: Global, state: &S, at: &Path) -> Mem<Strin
     Ok(text)
 }
 
+/// The access list that governs a path, and the nodes of its rules.
+pub(crate) fn effective(alloc: Global, state: &PlainRows, at: &str) -> Mem<String> {
+    effective_text(alloc, state, &path_or_root(alloc, at)?)
+}
+
 /// The view of a container.
-pub fn view(alloc: Global, head: &str, rows: &str, at: &str) -> Mem<String> {
-    match state(alloc, head, rows)? {
-        Some(state) => {
-            let graph = container_view(alloc, &state, &path(alloc, at)?)?;
-            let text = write(alloc, &graph)?;
-            let shown = shown_whole(alloc, text.as_slice())?;
-            Ok(format!(in alloc; "{} bytes: {shown}", text.len())?)
-        }
-        None => not_well_formed(alloc),
-    }
+pub(crate) fn view(alloc: Global, state: &PlainRows, at: &str) -> Mem<String> {
+    let graph = container_view(alloc, state, &path_or_root(alloc, at)?)?;
+    let text = write(alloc, &graph)?;
+    let shown = shown_whole(alloc, text.as_slice())?;
+    Ok(format!(in alloc; "{} bytes: {shown}", text.len())?)
 }
 
 /// Whether an agent is a member of a group, by the document at a path.
-pub fn member(
+pub(crate) fn member(
     alloc: Global,
-    head: &str,
-    rows: &str,
+    state: &PlainRows,
     doc: &str,
     group: &str,
     agent: &str,
 ) -> Mem<String> {
-    match state(alloc, head, rows)? {
-        Some(state) => {
-            let group = expanded(alloc, group)?;
-            let agent = expanded(alloc, agent)?;
-            let doc = path(alloc, doc)?;
-            word(alloc, state.member(&doc, group.as_str(), agent.as_str()))
-        }
-        None => not_well_formed(alloc),
-    }
+    let group = pod_iri(alloc, BASE, group)?;
+    let agent = pod_iri(alloc, BASE, agent)?;
+    let doc = path_or_root(alloc, doc)?;
+    yes_or_no(alloc, state.member(&doc, group.as_str(), agent.as_str()))
 }

@@ -7,6 +7,11 @@ use pod_path::Path;
 use std::alloc::Global;
 use turtle_write::write;
 
+/// `yes` or `no`.
+pub(crate) fn yes_or_no(alloc: Global, holds: bool) -> Mem<String> {
+    Ok(String::from_str(alloc, if holds { "yes" } else { "no" })?)
+}
+
 fn kind_name(kind: Kind) -> &'static str {
     match kind {
         Kind::Container => "container",
@@ -32,7 +37,7 @@ fn content_text(alloc: Global, content: &Content) -> Mem<String> {
 }
 
 /// A row as its path, its kind, its moment and its content.
-pub fn row_text(alloc: Global, row: &Row) -> Mem<String> {
+pub(crate) fn row_text(alloc: Global, row: &Row) -> Mem<String> {
     let kind = kind_name(row.kind);
     let content = content_text(alloc, &row.content)?;
     let moment = row.modified.0;
@@ -40,7 +45,7 @@ pub fn row_text(alloc: Global, row: &Row) -> Mem<String> {
 }
 
 /// Rows with `|` between them. An access list is shown without its content.
-pub fn rows_text(alloc: Global, rows: &[Row]) -> Mem<String> {
+pub(crate) fn rows_text(alloc: Global, rows: &[Row]) -> Mem<String> {
     let mut text = String::new(alloc);
     for row in rows {
         if !text.is_empty() {
@@ -57,7 +62,7 @@ pub fn rows_text(alloc: Global, rows: &[Row]) -> Mem<String> {
 }
 
 /// Paths with a space between them, or `none`.
-pub fn paths_text(alloc: Global, paths: &[Path]) -> Mem<String> {
+pub(crate) fn paths_text(alloc: Global, paths: &[Path]) -> Mem<String> {
     let mut text = String::new(alloc);
     for path in paths {
         if !text.is_empty() {
