@@ -1,5 +1,5 @@
-//! The figure `jsonld`: a graph is written as expanded JSON-LD and as Turtle, and the JSON-LD is
-//! read again.
+//! The figure `jsonld`: a graph is written as expanded JSON-LD and as Turtle, and both are read
+//! again.
 
 use crate::building::make_triples;
 use crate::used::used_micros;
@@ -9,14 +9,39 @@ use pod_base::Bytes;
 use rdf_graph::Graph;
 use std::alloc::Global;
 
-/// Writes the graph as Turtle, and prints how many bytes it wrote, and the time if asked.
-fn write_turtle(rt: &HostRuntime, alloc: Global, graph: &Graph, times: bool) -> anyhow::Result<()> {
+/// Reads the text of Turtle, and returns the microseconds that it took. Fails where the graph has
+/// another number of triples.
+fn read_turtle(
+    rt: &HostRuntime,
+    alloc: Global,
+    text: &Bytes,
+    count: usize,
+) -> anyhow::Result<u128> {
+    let base = Iri::read(alloc, "http://e.example/d")?;
+    let start = used_micros(rt)?;
+    let graph = turtle_text::read(alloc, &base, text.as_slice())?;
+    let read = used_micros(rt)?.saturating_sub(start);
+    if graph.len() != count {
+        bail!("read as a graph of {} triples", graph.len());
+    }
+    Ok(read)
+}
+
+/// Writes the graph as Turtle and reads it, and prints how many bytes it wrote, and the times if
+/// asked.
+fn exchange_turtle(
+    rt: &HostRuntime,
+    alloc: Global,
+    graph: &Graph,
+    times: bool,
+) -> anyhow::Result<()> {
     let start = used_micros(rt)?;
     let text = turtle_write::write(alloc, graph)?;
     let written = used_micros(rt)?.saturating_sub(start);
+    let read = read_turtle(rt, alloc, &text, graph.len())?;
     if times {
         println!(rt;
-            "{} bytes of Turtle: written in {written} microseconds",
+            "{} bytes of Turtle: written in {written} microseconds, read in {read}",
             text.len()
         )?;
     }
@@ -54,7 +79,7 @@ pub fn exchange_graph(
     times: bool,
 ) -> anyhow::Result<()> {
     let graph = Graph::of(make_triples(alloc, count)?);
-    write_turtle(rt, alloc, &graph, times)?;
+    exchange_turtle(rt, alloc, &graph, times)?;
     let start = used_micros(rt)?;
     let text = jsonld_write::write(alloc, &graph)?;
     let written = used_micros(rt)?.saturating_sub(start);

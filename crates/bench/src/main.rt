@@ -7,10 +7,12 @@
 mod building;
 mod coding;
 mod deciding;
+mod documents;
 mod fielding;
 mod joining;
 mod jsonld;
 mod opening;
+mod patching;
 mod reading;
 mod serving;
 mod used;
@@ -20,10 +22,12 @@ use anyhow::bail;
 use building::build_graph;
 use coding::code_snapshots;
 use deciding::decide_access;
+use documents::read_document;
 use fielding::read_fields;
 use joining::join_conditions;
 use jsonld::exchange_graph;
 use opening::open_journal;
+use patching::read_patches;
 use reading::{Looks, read_versions};
 use serving::serve_stream;
 use std::alloc::Global;
@@ -51,6 +55,10 @@ fn run_small(rt: &HostRuntime, alloc: Global) -> anyhow::Result<()> {
     serve_stream(rt, alloc, 100, 1, false)?;
     write_graph(rt, alloc, 1_000, false)?;
     exchange_graph(rt, alloc, 1_000, false)?;
+    read_patches(rt, alloc, 100, 1, false)?;
+    for shape in 0..6 {
+        read_document(rt, alloc, shape, 10_000, false)?;
+    }
     for kind in 0..3 {
         read_fields(rt, alloc, 1, kind)?;
     }
@@ -89,7 +97,9 @@ fn main(rt: HostRuntime) -> anyhow::Result<()> {
         "join" => join_conditions(&rt, alloc, first, true),
         "jsonld" => exchange_graph(&rt, alloc, first, true),
         "journal" => open_journal(&rt, alloc, true),
+        "patch" => read_patches(&rt, alloc, first, number(&rt, 3, 1)?, true),
         "pipe" => serve_stream(&rt, alloc, first, number(&rt, 3, 1)?, true),
+        "read" => read_document(&rt, alloc, first, number(&rt, 3, 0)?, true),
         "turtle" => write_graph(&rt, alloc, first, true),
         "view" => {
             let looks = read_versions(&rt, alloc, first as u64)?;
