@@ -6,23 +6,22 @@
 //! ```
 //!
 //! Proved of [`answer`], for every state of a pod: the reply is that of the definition (`reply`),
-//! its entry applies to the pod (`applies`), its bytes can be written (`sent`), it is no server
-//! error (`status`), a change has an entry exactly where it succeeded (`complete`), and pods that
-//! are alike for the agent have the same reply (`alike`). `specs/History.antt`,
-//! `specs/Session.antt` and `specs/Output.antt` say what a history is, what a session of one
-//! connection is, and which bytes it writes; [`laws`] says what follows from them.
+//! its entry applies to the pod (`applies`) and has a stored form (`encodable`), its bytes can be
+//! written (`sent`), it is no server error (`status`), a change has an entry exactly where it
+//! succeeded (`complete`), and pods that are alike for the agent have the same reply (`alike`).
+//! `specs/History.antt`, `specs/Session.antt` and `specs/Output.antt` say what a history is, what a
+//! session of one connection is, and which bytes it writes; [`laws`] says what follows from them.
 //!
 //! It stands on `pod_reply` for the reply, on `pod_rows` for states, on `http_conn` and `http_out`
 //! for messages, on `moment_date` for dates, and on `request_target` for targets.
 #![tactic(auto)]
 
 mod answering;
-mod change;
 pub mod laws;
 mod refused;
 
 pub use answering::answer;
-pub use change::is_change;
 pub use pod_reply::Replied;
 pub use refused::{closes_after, refusal_of};
+pub use reply_laws::is_change;
 pub use request_target::target_path;

@@ -10,14 +10,17 @@
 //! and its response can be written as HTTP ([`sent`]); the status of a reply is never 500 or 503,
 //! and 101 only of an upgrade ([`status`]); a reply has an entry exactly where a change succeeds
 //! ([`complete`]); and the entry records the request and one basis for each of its needs
-//! ([`bases`]). The functions do nothing: their contracts are the laws. `proofs/Walk.antt` has the
+//! ([`bases`]). These functions do nothing: their contracts are the laws. `proofs/Walk.antt` has the
 //! walk through the definition, which finds of each reply that it is a refusal, a success without
-//! an entry, an upgrade, or a change with its entry (`proofs/ReplyKinds.antt`).
+//! an entry, an upgrade, or a change with its entry (`proofs/ReplyKinds.antt`). [`is_change`] says
+//! which methods may change a pod.
 //!
 //! It stands on `pod_reply` for the definition, on the laws of `pod_edits`, `request_body` and
 //! `pod_path`, and on the definitions of responses.
 #![tactic(auto)]
 
+mod change;
 mod laws;
 
+pub use change::is_change;
 pub use laws::{applies, bases, complete, encodable, sent, status};
