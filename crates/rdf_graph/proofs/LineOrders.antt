@@ -112,6 +112,22 @@ unfolding text
 iris_rank xs ys None r = r
 iris_rank xs ys (Some o) r = decides_shared 32 (codes "<") (xs ++ codes ">") (ys ++ codes ">") o (decides_closed 62 32 xs ys o r)
 
+then_equal : (o : Ordering) → ordering_then o Equal ≡ o
+then_equal Less = refl
+then_equal Equal = refl
+then_equal Greater = refl
+
+iris_order : (xs ys : List ℕ) (found : Option Ordering) → IfSome found (DecidesOrder 62 xs ys) → IfSome found (λ o. o ≡ bytes_cmp (text (Iri xs)) (text (Iri ys)))
+unfolding text
+iris_order xs ys None r = r
+iris_order xs ys (Some o) r = sym (cmp_same (codes "<") (xs ++ codes ">") (ys ++ codes ">") ∙ r.whole [] [] ∙ then_equal o)
+
+-- closed by the mark of IRIs, two of them are in the order of their texts
+pub orders_iris : (a b : Term) (xs ys : List ℕ) (found : Option Ordering) → Iri xs ≡ a → Iri ys ≡ b → IfSome found (DecidesOrder 62 xs ys)
+    → IfSome found (λ o. o ≡ bytes_cmp (text a) (text b))
+orders_iris a b xs ys found d e r =
+    subst (λ t. IfSome found (λ o. o ≡ bytes_cmp (text t) (text b))) d (subst (λ t. IfSome found (λ o. o ≡ bytes_cmp (text (Iri xs)) (text t))) e (iris_order xs ys found r))
+
 pub decides_iris : (a b : Term) (xs ys : List ℕ) (found : Option Ordering) → Iri xs ≡ a → Iri ys ≡ b → IfSome found (DecidesOrder 62 xs ys) → IfSome found (DecidesOrder 32 (text a) (text b))
 decides_iris a b xs ys found d e r =
     subst (λ t. IfSome found (DecidesOrder 32 (text t) (text b))) d (subst (λ t. IfSome found (DecidesOrder 32 (text (Iri xs)) (text t))) e (iris_rank xs ys found r))

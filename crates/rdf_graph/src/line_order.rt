@@ -98,11 +98,34 @@ impl Term {
     pub fn cmp_text(&self, other: &Term) -> Ordering
         ensures { result ≡ slice_cmp nat_cmp (text self.now) (text other.now) }
     {
-        if self == other {
-            return Ordering::Equal;
+        match cmp_iris(self, other) {
+            Some(order) => order,
+            None => cmp_bytes(self, other),
         }
-        cmp_written(self.written(), other.written())
     }
+}
+
+/// The byte order of the texts of two IRIs. None for other terms, and where this takes a comparison
+/// byte by byte.
+fn cmp_iris(a: &Term, b: &Term) -> Option<Ordering>
+    ensures { IfSome result (λ order. order ≡ bytes_cmp (text a.now) (text b.now)) }
+{
+    match (a, b) {
+        (Term::Iri(a), Term::Iri(b)) => {
+            cmp_marked(a.as_str().as_bytes(), b.as_str().as_bytes(), b'>')
+        }
+        _ => None,
+    }
+}
+
+/// The byte order of the terms' texts, byte by byte where they differ.
+fn cmp_bytes(a: &Term, b: &Term) -> Ordering
+    ensures { result ≡ bytes_cmp (text a.now) (text b.now) }
+{
+    if a == b {
+        return Ordering::Equal;
+    }
+    cmp_written(a.written(), b.written())
 }
 
 impl Triple {
