@@ -9,6 +9,7 @@ pub mod Writes
 pub mod Renewing
 pub mod Classes
 pub mod Causes
+pub mod Sides
 pub mod Laws
 -- internal: cited by private clauses alone
 pub mod Reading

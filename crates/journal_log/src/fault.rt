@@ -1,6 +1,7 @@
 //! Why a call of a journal failed.
 
-ghost use Rattle.std.specs.Prelude.{◌≡◌};
+ghost use Rattle.std.specs.Prelude.{◌≡◌, Some};
+ghost use Rattle.journal_log.specs.Sides.{side_text};
 ghost use Rattle.journal_log.specs.declared.fault.OpenFault.TheVariants as open_fault;
 
 use pod_base::NoMemory;
@@ -18,6 +19,8 @@ pub enum Side {
 }
 
 impl fmt::Display for Side {
+    ghost output = { λ side. Some (side_text side) };
+
     fn fmt<W: fmt::Write>(&self, f: &mut Formatter<W>) -> fmt::Result {
         match self {
             Side::First => f.write_str("first"),
