@@ -8,11 +8,12 @@
 //! Proved: [`stem`] is the definition `stem_of` of the slug (`text`), and part of a path as it is
 //! (`plain`). [`choose`] gives the path of the first free candidate (`path`), and fails with a
 //! limit exactly where that path passes it (`normal`, `fault`): among at most [`ROW_LIMIT`] rows
-//! one of the candidates is free.
+//! one of the candidates is free. There is one path at most ([`laws`]).
 //!
 //! It stands on `percent_encoding`, `itoa`, `iri_ref`, `pod_path` and `pod_base`.
 #![tactic(auto)]
 
+pub mod laws;
 mod names;
 mod stems;
 
