@@ -1,1 +1,2 @@
 mod Containment
+pub mod OneOutcome

@@ -1,7 +1,9 @@
--- What a patch makes of the graph of a row, or why it is refused (Solid Protocol, section 5.3.1). The
--- children of a container are no triples of its own, so no patch of it names `ldp:contains`.
-use Rattle.std.specs.Prelude.{◌⊎◌, ℕ, Bool, IsTrue, List, Option, Some, None, Result, Ok, Err, codes}
+-- What a patch makes of the graph of a row, or why it is refused (Solid Protocol, section 5.3.1).
+-- The children of a container are no triples of its own, so no patch of it names `ldp:contains`.
+use Rattle.std.specs.Prelude.{◌⊎◌, ℕ, Bool, IsTrue, List, Option, Some, None, Result, Ok, Err}
+use Rattle.std.specs.Prelude.{codes}
 use Rattle.pod_rows.specs.Vocabulary.{ldp_contains}
+use Rattle.rdf_graph.specs.Graph.{IsGraph}
 use Rattle.rdf_graph.specs.Patch.{HasPredicate, IsChangeOf, IsFaultOf, IsTheSolution}
 use Rattle.rdf_graph.specs.Pattern.{Binding}
 use Rattle.rdf_graph.specs.declared.change.Change.{Change}
@@ -10,8 +12,9 @@ use Rattle.rdf_graph.specs.declared.patch.PatchFault.{PatchFault}
 use Rattle.rdf_graph.specs.declared.patch.PatchFault.TheVariants as faults
 use Rattle.rdf_graph.specs.declared.triple.Triple.{Triple}
 use Rattle.patch_outcome.specs.declared.refusal.PatchRefusal.{PatchRefusal}
-use Rattle.patch_outcome.specs.declared.refusal.PatchRefusal.TheVariants.{Contains, NoMatch, ManyMatches}
-use Rattle.patch_outcome.specs.declared.refusal.PatchRefusal.TheVariants.{MissingDeletion, NotTriple}
+use Rattle.patch_outcome.specs.declared.refusal.PatchRefusal.TheVariants.{Contains, NoMatch}
+use Rattle.patch_outcome.specs.declared.refusal.PatchRefusal.TheVariants.{ManyMatches, NotTriple}
+use Rattle.patch_outcome.specs.declared.refusal.PatchRefusal.TheVariants.{MissingDeletion}
 
 -- under the mapping a deletion or an insertion has `ldp:contains` as its predicate
 abbrev pub NamesContainment : Binding → Patch → Type 0
@@ -57,6 +60,11 @@ abbrev pub IsOutcome : Bool → List Triple → Patch → Result Change PatchRef
 IsOutcome container g patch (Ok change) =
     KeepsContainment container g patch × IsChangeOf g patch change
 IsOutcome container g patch (Err refusal) = IsRefusal container g patch refusal
+
+-- The triples of a change are graphs: each once, in the order of graphs.
+abbrev pub HasGraphs : Result Change PatchRefusal → Type 0
+HasGraphs (Ok change) = IsGraph change.removed × IsGraph change.added
+HasGraphs (Err refusal) = Unit {0}
 
 -- the word of a refusal
 abbrev pub word_of : PatchRefusal → List ℕ

@@ -11,11 +11,13 @@
 //! Proved: [`outcome`] returns the change of the patch at the graph, or the first of its refusals
 //! (`IsOutcome` of `specs/Outcomes.antt`); [`update_outcome`] does the same for an update of SPARQL
 //! data, by the patch that it spells at the graph (`IsUpdateOutcome` of `specs/Updates.antt`).
+//! There is at most one outcome ([`laws`]).
 //!
 //! It stands on `rdf_graph` for patches, on `sparql_patch` for updates, and on `pod_rows` for the
 //! vocabulary of containers.
 #![tactic(auto)]
 
+pub mod laws;
 mod outcomes;
 mod refusal;
 mod update;

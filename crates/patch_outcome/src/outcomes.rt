@@ -70,10 +70,10 @@ fn outcome_under(
     }
 }
 
-/// The outcome of a patch of a row with this graph: the change, or the first refusal, in the order of
-/// [`PatchRefusal`]. Where the row is a container, a patch is refused that names `ldp:contains` as the
-/// predicate of a deletion or an insertion, also by a variable whose value it is. Each variable of the
-/// deletions and insertions is one of the conditions.
+/// The outcome of a patch of a row with this graph: the change, or the first refusal, in the order
+/// of [`PatchRefusal`]. Where the row is a container, a patch is refused that names `ldp:contains`
+/// as the predicate of a deletion or an insertion, also by a variable whose value it is. Each
+/// variable of the deletions and insertions is one of the conditions.
 pub fn outcome(
     alloc: Global,
     container: bool,

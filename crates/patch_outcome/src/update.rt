@@ -27,9 +27,9 @@ fn names_containment(named: &[Named]) -> bool
     named.iter().any(is_containment)
 }
 
-/// The outcome of an update of a row with this graph: the change of the patch that it spells there, or
-/// a refusal. Where the row is a container, an update is refused that names a triple with the predicate
-/// `ldp:contains`, also one that isn't in the graph.
+/// The outcome of an update of a row with this graph: the change of the patch that it spells there,
+/// or a refusal. Where the row is a container, an update is refused that names a triple with the
+/// predicate `ldp:contains`, also one that isn't in the graph.
 pub fn update_outcome(
     alloc: Global,
     container: bool,

@@ -5,5 +5,4 @@ pub mod BodyLemmas
 pub mod RefusalLemmas
 pub mod DispatchLemmas
 pub mod OneName
-pub mod OneOutcome
 pub mod OneReply

@@ -1,36 +1,12 @@
 -- A new member has one path, or none.
-use Rattle.std.proofs.Common.{◌≡◌, ℕ, ◌<◌, Bool, List, Result, Ok, Err, ◌⊎◌, inl, inr, sym, ◌∙◌, ap, subst, arith}
-use Rattle.std.proofs.lemmas.Bool.{false≢true, cases_lt}
+use Rattle.std.proofs.Common.{◌≡◌, ℕ, Bool, List, Result, Ok, Err, ◌⊎◌, inl, inr, sym, ◌∙◌, ap, subst}
 use Rattle.pod_base.specs.declared.response.Response.{Response}
 use Rattle.pod_path.specs.Norm.{norm}
 use Rattle.pod_path.specs.declared.fault.PathFault.{PathFault}
 use Rattle.pod_path.specs.declared.fault.PathFault.TheVariants.{TooLong, TooDeep}
 use Rattle.pod_rows.specs.Pod.{Pod}
-use Rattle.slug_naming.specs.Names.{IsFreeName, candidate_path, is_free}
+use Rattle.slug_naming.proofs.FirstName.{one_free_name}
 use Rattle.pod_reply.specs.MemberNames.{HasNoName, IsMemberPath, IsNamed}
-
-module _ (t : List ℕ → Bool) (container stem : List ℕ) (folder : Bool) where
-  -- no candidate before the first free one is free
-  none_before : (p q : List ℕ) (h : IsFreeName t container stem folder p)
-      (k : IsFreeName t container stem folder q) → h.number < k.number → ⊥
-  none_before p q h k before =
-      false≢true (sym (k.first h.number before) ∙ ap (is_free t) (sym h.is) ∙ h.free)
-
-  one_number : (p q : List ℕ) (h : IsFreeName t container stem folder p)
-      (k : IsFreeName t container stem folder q) → h.number ≡ k.number
-  one_number p q h k =
-      elim (cases_lt h.number k.number) as (λ _. h.number ≡ k.number) [
-        | inl lt ↦ absurd (none_before p q h k lt)
-        | inr le ↦ elim (cases_lt k.number h.number) as (λ _. h.number ≡ k.number) [
-          | inl lt ↦ absurd (none_before q p k h lt)
-          | inr more ↦ omega arith
-        ]
-      ]
-
-  pub one_free_name : (p q : List ℕ) → IsFreeName t container stem folder p
-      → IsFreeName t container stem folder q → p ≡ q
-  one_free_name p q h k =
-      h.is ∙ ap (candidate_path container stem folder) (one_number p q h k) ∙ sym k.is
 
 not_fault : (path : List ℕ) (fault : PathFault) → norm path ≡ Ok path → norm path ≡ Err fault → ⊥
 not_fault path fault e k = cc

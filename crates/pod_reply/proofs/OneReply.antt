@@ -1,8 +1,10 @@
 -- A pod gives one reply to a request.
 use Rattle.std.proofs.Common.{◌≡◌, ℕ, Bool, false, List, Option, Some, None, Result, Ok, Err, refl, sym, ◌∙◌, ap, subst}
 use Rattle.std.specs.List.{list_any}
+use Rattle.patch_outcome.specs.Outcomes.{HasGraphs}
 use Rattle.patch_outcome.specs.Updates.{IsUpdateOutcome}
 use Rattle.patch_outcome.specs.declared.refusal.PatchRefusal.{PatchRefusal}
+use Rattle.patch_outcome.proofs.OneOutcome.{one_patch_outcome, one_update_outcome}
 use Rattle.pod_base.specs.Listed.{Listed}
 use Rattle.pod_base.specs.declared.method.Method.{Method}
 use Rattle.pod_base.specs.declared.method.Method.TheVariants.{Get, Head, Options, Post, Put, Patch as PatchMethod, Delete, Other}
@@ -30,7 +32,7 @@ use Rattle.request_target.specs.declared.target.Target.TheVariants.{Server, Reso
 use Rattle.slug_naming.specs.Stems.{stem_of}
 use Rattle.sparql_patch.specs.declared.named.Named.{Named}
 use Rattle.pod_reply.specs.AccessRank.{access_of}
-use Rattle.pod_reply.specs.PatchReplies.{HasGraphs, IsApplied, IsBodyOutcome, IsPatchedUnless, outcome_reply, patch_refusal}
+use Rattle.pod_reply.specs.PatchReplies.{IsApplied, IsBodyOutcome, IsPatchedUnless, outcome_reply, patch_refusal}
 use Rattle.pod_reply.specs.PostReplies.{IsMade, IsMadeUnless, IsMemberReply, IsNamedReply, IsPosted, IsPostReply, judged_member, member_refusal}
 use Rattle.pod_reply.specs.PutReplies.{put_reply}
 use Rattle.pod_reply.specs.Replies.{Reply, unchanged}
@@ -40,7 +42,6 @@ use Rattle.pod_reply.specs.Laws.{HasOneReply}
 use Rattle.pod_reply.specs.declared.origin.Origin.{Origin}
 use Rattle.wac_decide.specs.declared.request_needs.Shape.{Shape}
 use Rattle.pod_reply.proofs.OneName.{one_named}
-use Rattle.pod_reply.proofs.OneOutcome.{one_patch_outcome, one_update_outcome}
 
 -- ---- bodies that are the same
 
@@ -120,7 +121,7 @@ module _ (pod : Pod) (request : Request) (path : List ℕ) (origin : Origin) (ba
   one_outcome (body_of.Patch p) body_of.Nothing g a b same graphs graphs' h k = absurd k
   one_outcome (body_of.Patch p) (body_of.Content c) g a b same graphs graphs' h k = absurd k
   one_outcome (body_of.Patch p) (body_of.Patch q) g a b same graphs graphs' h k =
-      one_patch_outcome (is_container path) g p q a b same graphs graphs' h k
+      one_patch_outcome (is_container path) g p q a b same.conditions same.deletions same.insertions graphs graphs' h k
   one_outcome (body_of.Patch p) (body_of.Update v) g a b same graphs graphs' h k =
       absurd (patch_or_update p v same)
   one_outcome (body_of.Update u) body_of.Nothing g a b same graphs graphs' h k = absurd k

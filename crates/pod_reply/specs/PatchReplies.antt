@@ -7,7 +7,7 @@ use Rattle.pod_base.specs.declared.response.Response.{Response}
 use Rattle.pod_command.specs.declared.basis.Basis.{Basis}
 use Rattle.pod_command.specs.declared.row.Content.TheVariants as contents
 use Rattle.pod_command.specs.declared.row.Row.{Row}
-use Rattle.patch_outcome.specs.Outcomes.{IsOutcome, word_of}
+use Rattle.patch_outcome.specs.Outcomes.{HasGraphs, IsOutcome, word_of}
 use Rattle.patch_outcome.specs.Updates.{IsUpdateOutcome}
 use Rattle.patch_outcome.specs.declared.refusal.PatchRefusal.{PatchRefusal}
 use Rattle.pod_edits.specs.Allowed.{triples_of}
@@ -17,7 +17,6 @@ use Rattle.pod_path.specs.Hierarchy.{is_container}
 use Rattle.pod_responses.specs.Responses.{changed}
 use Rattle.pod_rows.specs.GraphSets.{changed_graph}
 use Rattle.pod_rows.specs.Pod.{Pod, row_at, is_row}
-use Rattle.rdf_graph.specs.Graph.{IsGraph}
 use Rattle.rdf_graph.specs.Patch.{IsBound}
 use Rattle.rdf_graph.specs.declared.change.Change.{Change}
 use Rattle.rdf_graph.specs.declared.triple.Triple.{Triple}
@@ -80,11 +79,6 @@ outcome_reply pod request path origin bases (Err refusal) = unchanged (conflict 
 outcome_reply pod request path origin bases (Ok change) =
     unless_refused (guard_refusal pod path change)
     (changing_reply pod request path origin bases change (is_row pod.rows path))
-
--- The triples of a change are graphs: each once, in the order of graphs.
-abbrev pub HasGraphs : Result Change PatchRefusal → Type 0
-HasGraphs (Ok change) = IsGraph change.removed × IsGraph change.added
-HasGraphs (Err refusal) = Unit {0}
 
 -- the reply where nothing is in the way
 pub record IsApplied (pod : Pod) (request : Request) (path : List ℕ) (origin : Origin)

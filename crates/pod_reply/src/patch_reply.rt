@@ -2,6 +2,7 @@
 
 ghost use Rattle.std.specs.Prelude.{◌≡◌, IfOk};
 ghost use Rattle.conditional_req.specs.Conditions.{conditions as conditions_of};
+ghost use Rattle.patch_outcome.specs.Outcomes.{HasGraphs};
 ghost use Rattle.pod_reply.specs.PatchReplies as spec;
 ghost use Rattle.pod_reply.specs.Replies.{reply_of};
 ghost use Rattle.pod_reply.specs.Shapes.{IsPlaced};
@@ -78,7 +79,7 @@ fn apply(
 
 /// The triples of an outcome are graphs. It does nothing.
 fn has_graphs(outcome: &Result<Change, PatchRefusal>)
-    ensures { spec.HasGraphs outcome.now }
+    ensures { HasGraphs outcome.now }
 {
     if let Ok(change) = outcome {
         let _removed = change.removed.as_slice();

@@ -1,7 +1,6 @@
 -- A patch, and an update, has one outcome at a graph.
 use Rattle.std.proofs.Common.{◌≡◌, Bool, false, List, None, Result, Ok, Err, inl, inr, refl, sym, ◌∙◌, ap, subst}
 use Rattle.std.specs.List.{Contains}
-use Rattle.n3_patch.specs.Laws.{SamePatch}
 use Rattle.rdf_graph.specs.Graph.{IsGraph, SameSet}
 use Rattle.rdf_graph.specs.Patch.{AreInstances, HasInvalidInsertion, HasPredicate, IsChangeOf, IsInstance, IsTheSolution, LacksDeletion}
 use Rattle.rdf_graph.specs.Pattern.{Binding, IsSolution, SameBinding, slot_term}
@@ -16,12 +15,12 @@ use Rattle.rdf_graph.specs.declared.triple.Triple.{Triple}
 use Rattle.rdf_graph.proofs.Graphs.{one_graph}
 use Rattle.sparql_patch.specs.declared.named.Named.{Named}
 use Rattle.pod_rows.specs.Vocabulary.{ldp_contains}
+use Rattle.patch_outcome.specs.Laws.{HasOneOutcome, HasOneUpdateOutcome}
 use Rattle.patch_outcome.specs.Outcomes.{NamesContainment, TouchesContainment}
-use Rattle.patch_outcome.specs.Outcomes.{KeepsContainment, IsRefusal, IsOutcome}
-use Rattle.patch_outcome.specs.Updates.{IsContainsRefusal, IsSpelledOutcome, IsUpdateOutcome}
+use Rattle.patch_outcome.specs.Outcomes.{HasGraphs, KeepsContainment, IsRefusal, IsOutcome}
+use Rattle.patch_outcome.specs.Updates.{IsContainsRefusal, IsSpelledOutcome}
 use Rattle.patch_outcome.specs.declared.refusal.PatchRefusal.{PatchRefusal}
 use Rattle.patch_outcome.specs.declared.refusal.PatchRefusal.TheVariants.{Contains as Children, NoMatch, ManyMatches, MissingDeletion, NotTriple}
-use Rattle.pod_reply.specs.PatchReplies.{HasGraphs}
 
 -- ---- equal mappings
 
@@ -142,6 +141,11 @@ module _ (container : Bool) (g : List Triple) (patch : Patch) where
 
 -- ---- patches with the same lists
 
+record SamePatch (p q : Patch) : Type 0 where
+  conditions : p.conditions.items ≡ q.conditions.items
+  deletions : p.deletions.items ≡ q.deletions.items
+  insertions : p.insertions.items ≡ q.insertions.items
+
 same_back : (p q : Patch) → SamePatch p q → SamePatch q p
 same_back p q same = record {
   conditions = sym same.conditions;
@@ -229,10 +233,9 @@ module _ (g : List Triple) where
   outcome_moved container p q (Ok c) same h = (keeps_moved container p q same h.0, change_moved p q c same h.1)
   outcome_moved container p q (Err r) same h = refusal_moved container p q r same h
 
-pub one_patch_outcome : (container : Bool) (g : List Triple) (p q : Patch)
-    (a b : Result Change PatchRefusal) → SamePatch p q → HasGraphs a → HasGraphs b
-    → IsOutcome container g p a → IsOutcome container g q b → a ≡ b
-one_patch_outcome container g p q a b same graphs graphs' h k =
+pub one_patch_outcome : HasOneOutcome
+one_patch_outcome container g p q a b conditions deletions insertions graphs graphs' h k =
+    let same : SamePatch p q = record { conditions = conditions; deletions = deletions; insertions = insertions } in
     one container g q a b graphs graphs' (outcome_moved g container p q a same h) k
 
 -- ---- updates
@@ -248,15 +251,11 @@ is_contains (Err NotTriple) h = absurd h
 one_spelled_outcome : (g : List Triple) (named : List Named) (a b : Result Change PatchRefusal)
     → HasGraphs a → HasGraphs b → IsSpelledOutcome g named a → IsSpelledOutcome g named b → a ≡ b
 one_spelled_outcome g named a b graphs graphs' h k =
-    one_patch_outcome false g h.patch k.patch a b (record {
-      conditions = h.spelled.conditions ∙ sym k.spelled.conditions;
-      deletions = h.spelled.deletions ∙ sym k.spelled.deletions;
-      insertions = h.spelled.insertions ∙ sym k.spelled.insertions;
-    }) graphs graphs' h.applied k.applied
+    one_patch_outcome false g h.patch k.patch a b (h.spelled.conditions ∙ sym k.spelled.conditions)
+    (h.spelled.deletions ∙ sym k.spelled.deletions) (h.spelled.insertions ∙ sym k.spelled.insertions)
+    graphs graphs' h.applied k.applied
 
-pub one_update_outcome : (container : Bool) (g : List Triple) (named : List Named)
-    (a b : Result Change PatchRefusal) → HasGraphs a → HasGraphs b
-    → IsUpdateOutcome container g named a → IsUpdateOutcome container g named b → a ≡ b
+pub one_update_outcome : HasOneUpdateOutcome
 one_update_outcome container g named a b graphs graphs' (inl h) (inl k) =
     is_contains a h.1 ∙ sym (is_contains b k.1)
 one_update_outcome container g named a b graphs graphs' (inl h) (inr k) = absurd (k.0 h.0)
