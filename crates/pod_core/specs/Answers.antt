@@ -6,7 +6,7 @@ use Rattle.pod_base.specs.declared.request.Request.{Request}
 use Rattle.pod_reply.specs.Replies.{Reply}
 use Rattle.pod_reply.specs.Reply.{IsReply, agent_of}
 use Rattle.pod_rows.specs.Pod.{Pod}
-use Rattle.reply_isolation.specs.Alike.{Alike}
+use Rattle.reply_laws.specs.Alike.{Alike}
 use Rattle.reply_laws.specs.Granted.{is_change}
 use Rattle.reply_laws.specs.Laws.{is_success}
 use Rattle.token_table.specs.Credentials.{AskedAgent}

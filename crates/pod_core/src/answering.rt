@@ -12,7 +12,6 @@ ghost use Rattle.token_table.specs.Credentials.{asked_view};
 use pod_base::{Mem, Request, Stamp};
 use pod_reply::{Replied, reply};
 use pod_rows::PodState;
-use reply_isolation::isolation_law;
 use std::alloc::Global;
 use token_table::Asked;
 
@@ -58,6 +57,6 @@ pub fn answer<S: PodState>(
     reply_laws::sent();
     reply_laws::status();
     reply_laws::complete();
-    isolation_law();
+    reply_laws::isolation_law();
     Ok(replied)
 }

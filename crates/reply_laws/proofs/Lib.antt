@@ -10,3 +10,11 @@ mod Encoding
 mod Making
 mod Walk
 mod LawsOfKinds
+mod SamePaths
+mod SameAccess
+mod GrantedNeeds
+mod InsertionsAlone
+mod SameRanks
+mod SameChanges
+mod SameAfter
+mod SameReplies

@@ -33,8 +33,8 @@ use Rattle.pod_rows.specs.Access.{Governs, effective_of, list_path, rules_at, ru
 use Rattle.pod_rows.specs.Members.{row_states_member}
 use Rattle.pod_rows.specs.Pod.{Pod, is_at, row_at}
 use Rattle.rdf_graph.proofs.Members.{contains_here, contains_there, contains_none}
-use Rattle.reply_isolation.proofs.SamePaths.{same_effective}
-use Rattle.reply_isolation.specs.Alike.{Alike, NamesGroup}
+use Rattle.reply_laws.proofs.SamePaths.{same_effective}
+use Rattle.reply_laws.specs.Alike.{Alike, NamesGroup}
 use Rattle.wac_decide.proofs.Positions.{slice_get_member}
 use Rattle.wac_decide.specs.Decision.{allow_modes, basis_at, covers, first_ground, ground_in, has_mode, has_subject, is_about, rule_grants, subjects_at, subjects_of}
 use Rattle.wac_decide.specs.declared.decision.Ground.{Ground}

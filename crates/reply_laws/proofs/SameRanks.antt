@@ -27,9 +27,9 @@ use Rattle.pod_rows.specs.Pod.{Pod, is_row, row_at}
 use Rattle.rdf_graph.specs.declared.triple.Triple.{Triple}
 use Rattle.request_body.specs.declared.body.RequestBody.{RequestBody}
 use Rattle.request_fields.specs.Upgrades.{upgrade_key}
-use Rattle.reply_isolation.proofs.SameAccess.{found_row, same_allow}
-use Rattle.reply_isolation.proofs.SamePaths.{same_added, same_children, same_exceeds, same_is_row_at, same_nearest, same_subject, same_twin}
-use Rattle.reply_isolation.specs.Alike.{Alike}
+use Rattle.reply_laws.proofs.SameAccess.{found_row, same_allow}
+use Rattle.reply_laws.proofs.SamePaths.{same_added, same_children, same_exceeds, same_is_row_at, same_nearest, same_subject, same_twin}
+use Rattle.reply_laws.specs.Alike.{Alike}
 
 module _ (agent : Agent) (p q : Pod) (alike : Alike agent p q) (request : Request) (path : List ℕ) where
   -- ---- what is in the way

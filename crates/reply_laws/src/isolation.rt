@@ -1,6 +1,7 @@
 //! [`isolation_law`]: pods alike for an agent reply alike. Its contract is a law, and it does
 //! nothing.
-ghost use Rattle.reply_isolation.specs.Laws.{ChangesAlike, RepliesAlike, StayAlike};
+
+ghost use Rattle.reply_laws.specs.Isolation.{ChangesAlike, RepliesAlike, StayAlike};
 
 /// Pods that are alike for an agent give its requests the same replies, and the same entries.
 pub fn isolation_law()

@@ -39,11 +39,11 @@ use Rattle.request_target.specs.Admission.{admitted, admitted_to, method_refusal
 use Rattle.request_target.specs.Targets.{origin_form, resource_of, server_for, target_of}
 use Rattle.request_target.specs.declared.target.Target.{Target}
 use Rattle.request_target.specs.declared.target.Target.TheVariants.{Server, Resource}
-use Rattle.reply_isolation.proofs.GrantedNeeds.{granted, judged_on, list_is_same, once, read_is_same}
-use Rattle.reply_isolation.proofs.SameAccess.{same_bases}
-use Rattle.reply_isolation.proofs.SameChanges.{same_delete, same_patch, same_post, same_put}
-use Rattle.reply_isolation.proofs.SameRanks.{same_read, same_shape}
-use Rattle.reply_isolation.specs.Alike.{Alike}
+use Rattle.reply_laws.proofs.GrantedNeeds.{granted, judged_on, list_is_same, once, read_is_same}
+use Rattle.reply_laws.proofs.SameAccess.{same_bases}
+use Rattle.reply_laws.proofs.SameChanges.{same_delete, same_patch, same_post, same_put}
+use Rattle.reply_laws.proofs.SameRanks.{same_read, same_shape}
+use Rattle.reply_laws.specs.Alike.{Alike}
 use Rattle.token_table.specs.Credentials.{AskedAgent}
 use Rattle.wac_decide.specs.Needs.{all_needs, description_needs, each_once, is_options, needs_of, new_row_needs, on, patch_modes, resource_needs, tag_modes}
 use Rattle.wac_decide.specs.declared.request_needs.Need.{Need}

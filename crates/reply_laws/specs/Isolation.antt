@@ -10,7 +10,7 @@ use Rattle.pod_rows.specs.WellFormed.{WellFormed}
 use Rattle.token_table.specs.Credentials.{AskedAgent}
 use Rattle.pod_reply.specs.Replies.{Reply}
 use Rattle.pod_reply.specs.Reply.{IsReply, agent_of}
-use Rattle.reply_isolation.specs.Alike.{Alike, IsHidden}
+use Rattle.reply_laws.specs.Alike.{Alike, IsHidden}
 
 abbrev pub RepliesAlike : Type 0
 RepliesAlike = (p q : Pod) (request : Request) (asked : AskedAgent) (seq : ℕ) (stamp : Stamp)

@@ -2,9 +2,9 @@ use Rattle.std.proofs.Common.{ap, sym, ◌∙◌}
 use Rattle.pod_edits.proofs.Pointwise.{same_after}
 use Rattle.pod_rows.specs.Apply.{with_rows_if}
 use Rattle.pod_rows.specs.Pod.{row_at}
-use Rattle.reply_isolation.proofs.SameAfter.{stays_alike}
-use Rattle.reply_isolation.proofs.SameReplies.{replies_alike}
-use Rattle.reply_isolation.proofs.isolation.isolation_law.Goals as goal
+use Rattle.reply_laws.proofs.SameAfter.{stays_alike}
+use Rattle.reply_laws.proofs.SameReplies.{replies_alike}
+use Rattle.reply_laws.proofs.isolation.isolation_law.Goals as goal
 
 pub returns : goal.returns
 returns c = record {

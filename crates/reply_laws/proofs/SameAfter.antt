@@ -18,8 +18,8 @@ use Rattle.pod_rows.specs.Apply.{Applies, after_edits, applied, change_found, ch
 use Rattle.pod_rows.specs.GraphSets.{changed_graph, has_triples}
 use Rattle.pod_rows.specs.Pod.{Pod, row_at}
 use Rattle.rdf_graph.specs.declared.change.Change.{Change}
-use Rattle.reply_isolation.proofs.SamePaths.{same_kind}
-use Rattle.reply_isolation.specs.Alike.{Alike, IsHidden, kind_of, path_of}
+use Rattle.reply_laws.proofs.SamePaths.{same_kind}
+use Rattle.reply_laws.specs.Alike.{Alike, IsHidden, kind_of, path_of}
 
 -- ---- rows by path and kind
 

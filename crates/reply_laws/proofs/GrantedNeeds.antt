@@ -20,7 +20,7 @@ use Rattle.pod_rows.specs.Access.{Governs, about, effective_of, governs}
 use Rattle.pod_rows.specs.Pod.{Pod, row_at}
 use Rattle.pod_rows.specs.WellFormed.{WellFormed}
 use Rattle.rdf_graph.proofs.Members.{contains_cases, contains_here, contains_none}
-use Rattle.reply_isolation.specs.Alike.{Alike}
+use Rattle.reply_laws.specs.Alike.{Alike}
 use Rattle.wac_decide.proofs.Granting.{some_is_granted}
 use Rattle.wac_decide.proofs.Positions.{any_passes}
 use Rattle.wac_decide.specs.Decision.{first_ground}

@@ -38,11 +38,11 @@ use Rattle.request_body.specs.declared.body.RequestBody.{RequestBody}
 use Rattle.request_body.specs.declared.body.RequestBody.TheVariants as bodies
 use Rattle.request_fields.specs.Links.{links_to_container}
 use Rattle.request_fields.specs.PartFields.{slug}
-use Rattle.reply_isolation.proofs.GrantedNeeds.{list_is_same}
-use Rattle.reply_isolation.proofs.InsertionsAlone.{insertions_alone}
-use Rattle.reply_isolation.proofs.SamePaths.{same_creation, same_deletion, same_has_children, same_is_row, same_is_row_at, same_kind}
-use Rattle.reply_isolation.proofs.SameRanks.{same_condition, same_content, same_place, same_room}
-use Rattle.reply_isolation.specs.Alike.{Alike, kind_of}
+use Rattle.reply_laws.proofs.GrantedNeeds.{list_is_same}
+use Rattle.reply_laws.proofs.InsertionsAlone.{insertions_alone}
+use Rattle.reply_laws.proofs.SamePaths.{same_creation, same_deletion, same_has_children, same_is_row, same_is_row_at, same_kind}
+use Rattle.reply_laws.proofs.SameRanks.{same_condition, same_content, same_place, same_room}
+use Rattle.reply_laws.specs.Alike.{Alike, kind_of}
 use Rattle.slug_naming.specs.Names.{IsFreeName}
 use Rattle.slug_naming.specs.Stems.{stem_of}
 

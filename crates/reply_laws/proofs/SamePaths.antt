@@ -17,7 +17,7 @@ use Rattle.pod_rows.specs.Pod.{is_at, is_row, is_row_of, row_at}
 use Rattle.pod_rows.specs.Tree.{ancestors, children_of, is_child_of, is_the_path}
 use Rattle.pod_rows.specs.WellFormed.{is_subject_row}
 use Rattle.pod_rows.specs.declared.limits.TheConstants.{ROWS_LIMIT}
-use Rattle.reply_isolation.specs.Alike.{kind_of, path_of}
+use Rattle.reply_laws.specs.Alike.{kind_of, path_of}
 
 -- ---- rows by their paths
 
