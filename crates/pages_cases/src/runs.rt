@@ -2,6 +2,7 @@
 
 use crate::entries::{entry, first, path};
 use crate::shown::{access_text, effects_text, state_text};
+use entry_fits::fits as fits_touched;
 use pod_base::{Mem, NoMemory};
 use pod_command::Entry;
 use pod_pages::Version;
@@ -82,7 +83,17 @@ fn all_paths(alloc: Global) -> Mem<Vec<Path>> {
     Ok(paths)
 }
 
-/// The state and the version after an entry, if it applies to both.
+/// The version after an entry, if it applies to it by what its edits touch.
+fn version_after(alloc: Global, version: &Version, entry: &Entry) -> Mem<Option<Version>> {
+    if fits_touched(alloc, version, entry)? {
+        let next = version.after(alloc, entry)?;
+        Ok(Some(next))
+    } else {
+        Ok(None)
+    }
+}
+
+/// The state after an entry, if it applies.
 fn after<S: PodState>(alloc: Global, state: &S, entry: &Entry) -> Mem<Option<S>> {
     if fits(alloc, state, entry)? {
         let next = state.after(alloc, entry)?;
@@ -129,19 +140,29 @@ fn both_after(
     })
 }
 
-/// Both after an entry, if it applies to both.
+/// A new pod after an entry that applies to one of them alone.
+fn differing(alloc: Global, both: &Both) -> Mem<Both> {
+    let new = start(alloc)?;
+    Ok(Both {
+        plain: new.plain,
+        version: new.version,
+        applied: both.applied.saturating_add(1),
+        same: both.same,
+    })
+}
+
+/// Both after an entry, if it applies.
 fn step(alloc: Global, both: &Both, words: &str, paths: &[Path]) -> Mem<Option<Both>> {
     let entry = entry(alloc, both.plain.next(), words)?;
     let before = state_text(alloc, &both.version, paths)?;
-    match after(alloc, &both.plain, &entry)? {
-        Some(plain) => match after(alloc, &both.version, &entry)? {
-            Some(version) => {
-                let next = both_after(alloc, both, plain, version, before.as_str(), paths)?;
-                Ok(Some(next))
-            }
-            None => Ok(None),
-        },
-        None => Ok(None),
+    let plain = after(alloc, &both.plain, &entry)?;
+    match (plain, version_after(alloc, &both.version, &entry)?) {
+        (Some(plain), Some(version)) => {
+            let next = both_after(alloc, both, plain, version, before.as_str(), paths)?;
+            Ok(Some(next))
+        }
+        (None, None) => Ok(None),
+        _ => Ok(Some(differing(alloc, both)?)),
     }
 }
 

@@ -9,6 +9,8 @@ use Rattle.pod_rows.specs.Apply.{Applies, AllApply, applied, replayed, after_edi
 use Rattle.pod_rows.specs.Pod.{Pod}
 use Rattle.pod_rows.specs.WellFormed.{pod_of}
 use Rattle.pod_records.specs.PodStores.{BreaksAfter, gate_after}
+use Rattle.pod_pages.specs.State.{VersionState, first_state, state_after, states_after}
+use Rattle.pod_pages.proofs.History.{pod_replayed, next_replayed}
 use Rattle.pod_records.specs.Readings.{IsReadTo, IsSnapshotOf, IsSnapshotRead, IsEntryOf, IsEntryRead, HasNoEntry}
 use Rattle.pod_records.specs.Records.{entry_text, last_after, Holds, IsEntryIn, IsReadable}
 use Rattle.pod_records.proofs.Entries.{replayed_more, last_more, apply_more, apply_split, all_more, all_split, map_more, EndsIn, ends_in}
@@ -63,46 +65,58 @@ held_more format bodies text snapshot entries entry h is applies = record {
 first_of : (format : ℕ) (bodies : List (List ℕ)) (snapshot : Snapshot) (entries : List Entry) → Holds format bodies snapshot entries → bodies ≡ snapshot_bytes snapshot ∷ map (entry_text format) entries
 first_of format bodies snapshot entries h = h.texts
 
+-- the version after one entry more
+states_more : (v : VersionState) (entries : List Entry) (entry : Entry) → states_after v (entries ++ entry ∷ []) ≡ state_after (states_after v entries) entry
+states_more v [] entry = refl
+states_more v (one ∷ more) entry = states_more (state_after v one) more entry
+
+-- its pod, and the number of its next change
+pub read_pod : (format : ℕ) (bodies : List (List ℕ)) (version : VersionState) (last : Option Moment) (h : IsReadTo format bodies version last) → version.pod ≡ replayed (pod_of h.snapshot) h.entries
+read_pod format bodies version last h = ap (λ (v : VersionState). v.pod) h.version_is ∙ pod_replayed (first_state h.snapshot) h.entries
+
+pub read_number : (format : ℕ) (bodies : List (List ℕ)) (version : VersionState) (last : Option Moment) (h : IsReadTo format bodies version last) → version.next ≡ h.snapshot.seq + length h.entries
+read_number format bodies version last h = ap (λ (v : VersionState). v.next) h.version_is ∙ next_replayed (first_state h.snapshot) h.entries
+
 -- the next record is read
-pub read_more : (format : ℕ) (bodies : List (List ℕ)) (text : List ℕ) (pod : Pod) (next : ℕ) (last : Option Moment) (entry : Entry) (new : Pod) (new_next : ℕ) → IsReadTo format bodies pod next last → IsEntryRead format text entry → Applies pod next entry → new ≡ applied pod entry → new_next ≡ next + 1 → IsReadTo format (bodies ++ text ∷ []) new new_next (Some entry.moment)
-read_more format bodies text pod next last entry new new_next h is applies new_is next_is =
+pub read_more : (format : ℕ) (bodies : List (List ℕ)) (text : List ℕ) (version : VersionState) (last : Option Moment) (entry : Entry) (new : VersionState) → IsReadTo format bodies version last → IsEntryRead format text entry → Applies version.pod version.next entry → new ≡ state_after version entry → IsReadTo format (bodies ++ text ∷ []) new (Some entry.moment)
+read_more format bodies text version last entry new h is applies new_is =
     let s = h.snapshot in
     let es = h.entries in
-    let here : Applies (replayed (pod_of s) es) (s.seq + length es) entry = subst (λ p. Applies p (s.seq + length es) entry) h.pod_is (subst (λ n. Applies pod n entry) h.next_is applies) in record {
+    let new_pod : new.pod ≡ applied version.pod entry = ap (λ (v : VersionState). v.pod) new_is in
+    let new_next : new.next ≡ version.next + 1 = ap (λ (v : VersionState). v.next) new_is in
+    let here : Applies (replayed (pod_of s) es) (s.seq + length es) entry = subst (λ p. Applies p (s.seq + length es) entry) (read_pod format bodies version last h) (subst (λ n. Applies version.pod n entry) (read_number format bodies version last h) applies) in record {
       snapshot = s;
       entries = es ++ entry ∷ [];
       holds = held_more format bodies text s es entry h.holds is.is here;
-      pod_is = new_is ∙ (ap (λ p. applied p entry) h.pod_is ∙ sym (replayed_more (pod_of s) es entry));
-      next_is = omega (arith, next_is, h.next_is, length-append es (entry ∷ []));
+      version_is = new_is ∙ (ap (λ v. state_after v entry) h.version_is ∙ sym (states_more (first_state s) es entry));
       last_is = sym (last_more None es entry);
       only = λ other others held.
           let more = holds_more format (snapshot_bytes s) (map (entry_text format) es) text other others (subst (λ l. Holds format (l ++ text ∷ []) other others) h.holds.texts held) in
           let front = h.only other more.front (subst (λ l. Holds format l other more.front) (sym h.holds.texts) more.holds) in
           let same = is.only more.last more.is in (
-            ap (replayed (pod_of other)) more.are ∙ (replayed_more (pod_of other) more.front more.last ∙ (ap (λ p. applied p more.last) front.0 ∙ (same_pod pod more.last entry same.1 ∙ sym new_is))),
-            omega (arith, ap length more.are, length-append more.front (more.last ∷ []), front.1, next_is),
+            ap (replayed (pod_of other)) more.are ∙ (replayed_more (pod_of other) more.front more.last ∙ (ap (λ p. applied p more.last) front.0 ∙ (same_pod version.pod more.last entry same.1 ∙ sym new_pod))),
+            omega (arith, ap length more.are, length-append more.front (more.last ∷ []), front.1, new_next),
           );
     }
 
 -- and where it has no entry that applies, the records with it hold nothing
-pub not_read : (format : ℕ) (bodies : List (List ℕ)) (text : List ℕ) (pod : Pod) (next : ℕ) (last : Option Moment) → IsReadTo format bodies pod next last → HasNoEntry format text pod next → IsReadable format (bodies ++ text ∷ []) → ⊥
-not_read format bodies text pod next last h none readable =
+pub not_read : (format : ℕ) (bodies : List (List ℕ)) (text : List ℕ) (version : VersionState) (last : Option Moment) → IsReadTo format bodies version last → HasNoEntry format text version.pod version.next → IsReadable format (bodies ++ text ∷ []) → ⊥
+not_read format bodies text version last h none readable =
     let s = h.snapshot in
     let es = h.entries in
     let other = readable.0 in
     let others = readable.1 in
     let more = holds_more format (snapshot_bytes s) (map (entry_text format) es) text other others (subst (λ l. Holds format (l ++ text ∷ []) other others) h.holds.texts readable.2) in
     let front = h.only other more.front (subst (λ l. Holds format l other more.front) (sym h.holds.texts) more.holds) in
-    none more.last more.is (subst (λ p. Applies p next more.last) front.0 (subst (λ n. Applies (replayed (pod_of other) more.front) n more.last) front.1 more.applies))
+    none more.last more.is (subst (λ p. Applies p version.next more.last) front.0 (subst (λ n. Applies (replayed (pod_of other) more.front) n more.last) front.1 more.applies))
 
 -- the first record is read
-pub read_first : (format : ℕ) (text : List ℕ) (pod : Pod) (next : ℕ) → IsSnapshotRead text pod next → IsReadTo format (text ∷ []) pod next None
-read_first format text pod next h = record {
+pub read_first : (format : ℕ) (text : List ℕ) (version : VersionState) → IsSnapshotRead text version → IsReadTo format (text ∷ []) version None
+read_first format text version h = record {
   snapshot = h.snapshot;
   entries = [];
   holds = record { texts = ap (λ t. t ∷ []) h.is.form; stored = h.is.stored; well_formed = h.is.well_formed; all_stored = tt; apply = tt };
-  pod_is = h.pod_is;
-  next_is = omega (arith, h.next_is);
+  version_is = h.version_is;
   last_is = refl;
   only = λ other others held. alone other others held (first_text other others held);
 }
@@ -111,7 +125,7 @@ read_first format text pod next h = record {
     first_text other [] held = let e = held.texts in (search (rules, e), refl)
     first_text other (o ∷ os) held = let e = held.texts in search (rules, e)
 
-    alone : (other : Snapshot) (others : List Entry) → Holds format (text ∷ []) other others → (text ≡ snapshot_bytes other) × (others ≡ []) → (replayed (pod_of other) others ≡ pod) × (other.seq + length others ≡ next)
+    alone : (other : Snapshot) (others : List Entry) → Holds format (text ∷ []) other others → (text ≡ snapshot_bytes other) × (others ≡ []) → (replayed (pod_of other) others ≡ version.pod) × (other.seq + length others ≡ version.next)
     alone other others held is =
         let same = h.only other (record { form = is.0; stored = held.stored; well_formed = held.well_formed }) in
         (ap (replayed (pod_of other)) is.1 ∙ same.0, omega (arith, ap length is.1, same.1))
@@ -124,13 +138,13 @@ first_not_read format text none readable =
     none readable.0 (record { form = search (rules, e); stored = held.stored; well_formed = held.well_formed })
 
 -- damage at the next record
-pub breaks_next : (format : ℕ) (bodies rest : List (List ℕ)) (text : List ℕ) (pod : Pod) (next : ℕ) (last : Option Moment) → IsReadTo format bodies pod next last → HasNoEntry format text pod next → BreaksAfter format (bodies ++ text ∷ rest) bodies
-breaks_next format bodies rest text pod next last h none = record {
+pub breaks_next : (format : ℕ) (bodies rest : List (List ℕ)) (text : List ℕ) (version : VersionState) (last : Option Moment) → IsReadTo format bodies version last → HasNoEntry format text version.pod version.next → BreaksAfter format (bodies ++ text ∷ rest) bodies
+breaks_next format bodies rest text version last h none = record {
   bad = text;
   rest = rest;
   are = refl;
   holds = inr (h.snapshot, h.entries, h.holds);
-  breaks = not_read format bodies text pod next last h none;
+  breaks = not_read format bodies text version last h none;
 }
 
 pub breaks_first : (format : ℕ) (rest : List (List ℕ)) (text : List ℕ) → ((snapshot : Snapshot) → IsSnapshotOf text snapshot → ⊥) → BreaksAfter format (text ∷ rest) []

@@ -14,7 +14,7 @@ use Rattle.pod_command.specs.declared.row.Row.{Row}
 use Rattle.pod_command.specs.declared.snapshot.Snapshot.{Snapshot}
 use Rattle.pod_path.specs.Hierarchy.{is_container, is_acl, is_meta}
 use Rattle.pod_rows.specs.WellFormed.{IsWellFormedSnapshot, fits_kind, has_right_kind, is_document, pod_of}
-use Rattle.pod_rows.specs.State.{NumberedPod}
+use Rattle.pod_pages.specs.State.{VersionState, first_state}
 use Rattle.pod_records.specs.Readings.{IsSnapshotRead}
 use Rattle.pod_records.specs.Records.{Holds, IsSnapshotText}
 
@@ -49,16 +49,17 @@ text_of snapshot text h stored is = record {
 
 -- the version of a decoded snapshot
 module _ (text : List ℕ) (snapshot : Snapshot) (form : text ≡ snapshot_bytes snapshot) (stored : IsStorableSnapshot snapshot) (only : (s : Snapshot) → IsStorableSnapshot s → text ≡ snapshot_bytes s → snapshot ≡ bare_snapshot s) where
-  pub version_read : {E : Type 0} (r : Result (Option NumberedPod) E) → IfOk r (λ found. IfSome found (λ version. version.pod ≡ pod_of snapshot)) → IfOk r (λ found. IfSome found (λ version. version.next ≡ snapshot.seq)) → IfOk r (λ found. IfSome found (λ _. IsWellFormedSnapshot snapshot))
-      → IfOk r (λ found. IfSome found (λ version. IsSnapshotRead text version.pod version.next))
-  version_read (Err e) p n w = tt
-  version_read (Ok None) p n w = tt
-  version_read (Ok (Some version)) p n w = record {
+  pub version_read : {E : Type 0} (r : Result (Option VersionState) E) → IfOk r (λ found. IfSome found (λ version. version ≡ first_state snapshot)) → IfOk r (λ found. IfSome found (λ _. IsWellFormedSnapshot snapshot))
+      → IfOk r (λ found. IfSome found (λ version. IsSnapshotRead text version))
+  version_read (Err e) v w = tt
+  version_read (Ok None) v w = tt
+  version_read (Ok (Some version)) v w = record {
     snapshot = snapshot;
     is = record { form = form; stored = stored; well_formed = w };
-    pod_is = p;
-    next_is = n;
+    version_is = v;
     only = λ other is.
-        let same = only other is.stored is.form in
-        (ap pod_of (sym same) ∙ sym p, ap (λ (s : Snapshot). s.seq) (sym same) ∙ sym n);
+        let same = only other is.stored is.form in (
+          ap pod_of (sym same) ∙ sym (ap (λ (v : VersionState). v.pod) v),
+          ap (λ (s : Snapshot). s.seq) (sym same) ∙ sym (ap (λ (v : VersionState). v.next) v),
+        );
   }

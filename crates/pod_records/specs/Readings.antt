@@ -5,6 +5,7 @@ use Rattle.pod_command.specs.Storable.{IsStorableSnapshot}
 use Rattle.pod_command.specs.StoredForms.{snapshot_bytes}
 use Rattle.pod_command.specs.declared.entry.Entry.{Entry}
 use Rattle.pod_command.specs.declared.snapshot.Snapshot.{Snapshot}
+use Rattle.pod_pages.specs.State.{VersionState, first_state, states_after}
 use Rattle.pod_records.specs.PodStores.{BreaksAfter, gate_after}
 use Rattle.pod_records.specs.Records.{entry_text, last_after, Holds, IsEntryIn}
 use Rattle.pod_records.specs.declared.reading.RecordFault.{RecordFault}
@@ -13,18 +14,18 @@ use Rattle.pod_rows.specs.Apply.{Applies, replayed}
 use Rattle.pod_rows.specs.Pod.{Pod}
 use Rattle.pod_rows.specs.WellFormed.{IsWellFormedSnapshot, pod_of}
 
--- The records were read: they hold a snapshot and entries, and with these this is the pod, the
--- number of its next change and the last moment. Whatever they hold has that pod and that number.
-pub record IsReadTo (format : ℕ) (bodies : List (List ℕ)) (pod : Pod) (next : ℕ)
+-- The records were read: they hold a snapshot and entries, and with these this is the version and
+-- the last moment. Whatever they hold has its pod and its number.
+pub record IsReadTo (format : ℕ) (bodies : List (List ℕ)) (version : VersionState)
     (last : Option Moment) : Type 0 where
   pub snapshot : Snapshot
   pub entries : List Entry
   pub holds : Holds format bodies snapshot entries
-  pub pod_is : pod ≡ replayed (pod_of snapshot) entries
-  pub next_is : next ≡ snapshot.seq + length entries
+  pub version_is : version ≡ states_after (first_state snapshot) entries
   pub last_is : last ≡ last_after None entries
   pub only : (other : Snapshot) (others : List Entry) → Holds format bodies other others
-      → (replayed (pod_of other) others ≡ pod) × (other.seq + length others ≡ next)
+      → (replayed (pod_of other) others ≡ version.pod)
+      × (other.seq + length others ≡ version.next)
 
 -- a record that is the text of a well-formed snapshot
 pub record IsSnapshotOf (text : List ℕ) (snapshot : Snapshot) : Type 0 where
@@ -32,14 +33,14 @@ pub record IsSnapshotOf (text : List ℕ) (snapshot : Snapshot) : Type 0 where
   pub stored : IsStorableSnapshot snapshot
   pub well_formed : IsWellFormedSnapshot snapshot
 
--- The record was read as a snapshot of this pod and number, the only ones that it has.
-pub record IsSnapshotRead (text : List ℕ) (pod : Pod) (next : ℕ) : Type 0 where
+-- The record was read as a snapshot of this version, whose pod and number are the only ones that it
+-- has.
+pub record IsSnapshotRead (text : List ℕ) (version : VersionState) : Type 0 where
   pub snapshot : Snapshot
   pub is : IsSnapshotOf text snapshot
-  pub pod_is : pod ≡ pod_of snapshot
-  pub next_is : next ≡ snapshot.seq
+  pub version_is : version ≡ first_state snapshot
   pub only : (other : Snapshot) → IsSnapshotOf text other
-      → (pod_of other ≡ pod) × (other.seq ≡ next)
+      → (pod_of other ≡ version.pod) × (other.seq ≡ version.next)
 
 -- a record that is the text of an entry of this format
 pub record IsEntryOf (format : ℕ) (text : List ℕ) (entry : Entry) : Type 0 where

@@ -47,7 +47,7 @@ pub fn open_store<D: Disk>(
         (StoreStands opened.pair.active opened.pair.journal.format opened.pair.journal.epoch
         opened.records.items)) }
     ensures read { IfOk result (λ opened. IsReadTo opened.pair.journal.format opened.records.items
-        opened.reading.version.pod opened.reading.version.next opened.reading.last) }
+        opened.reading.version opened.reading.last) }
     ensures no_fewer_first { D.faults first.old ≤ D.faults first.new }
     ensures no_fewer_second { D.faults second.old ≤ D.faults second.new }
     ensures cause { IfErr result (HasPodCause (D.content first.old) (D.content second.old)
@@ -69,7 +69,7 @@ fn read_pair(alloc: Global, pair: Pair, records: List<Bytes>) -> Result<OpenedSt
     ensures pair { IfOk result (λ opened. opened.pair ≡ pair) }
     ensures records { IfOk result (λ opened. opened.records.items ≡ records.items) }
     ensures read { IfOk result (λ opened. IsReadTo pair.journal.format records.items
-        opened.reading.version.pod opened.reading.version.next opened.reading.last) }
+        opened.reading.version opened.reading.last) }
     ensures cause { IfErr result
         (HasContentCause pair.active pair.journal.format records.items) }
 {
@@ -93,7 +93,7 @@ fn read_all(alloc: Global, format: u8, records: &[Bytes]) -> Result<Reading, Rec
     requires some { 0 < length records.now }
     requires room { gate_after records.now < 2 ^ 64 }
     ensures read { IfOk result (λ reading. IsReadTo format records.now
-        reading.version.pod reading.version.next reading.last) }
+        reading.version reading.last) }
     ensures cause { IfErr result (HasRecordCause format records.now) }
 {
     match records.split_first() {

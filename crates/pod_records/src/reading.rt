@@ -7,21 +7,21 @@ ghost use Rattle.pod_command.specs.Storable.{IsStorable};
 ghost use Rattle.pod_command.specs.StoredForms.{entry_bytes, entry_1_bytes};
 ghost use Rattle.pod_command.specs.declared.entry.Entry.{Entry as EntryValue};
 ghost use Rattle.pod_command.specs.declared.snapshot.Snapshot.{Snapshot as SnapshotValue};
+ghost use Rattle.pod_pages.specs.State.{first_state, state_after};
 ghost use Rattle.pod_records.specs.PodStores.{gate_after};
 ghost use Rattle.pod_records.specs.Readings.{IsReadTo, IsSnapshotOf, IsSnapshotRead};
 ghost use Rattle.pod_records.specs.Readings.{IsEntryOf, IsEntryRead, HasNoEntry, HasRecordCause};
 ghost use Rattle.pod_records.specs.Records.{IsEntryIn, IsReadable};
 ghost use Rattle.pod_records.specs.declared.reading.RecordFault.TheVariants.{NoMemory as OutOfMemory};
-ghost use Rattle.pod_rows.specs.Apply.{Applies, applied};
-ghost use Rattle.pod_rows.specs.WellFormed.{IsWellFormedSnapshot, pod_of};
+ghost use Rattle.pod_rows.specs.Apply.{Applies};
+ghost use Rattle.pod_rows.specs.WellFormed.{IsWellFormedSnapshot};
 
+use entry_fits::fits;
 use pod_base::{Bytes, Mem, Moment, NoMemory};
 use pod_command::{Entry, ReadBack, Snapshot, decode_entry, decode_entry_1, decode_snapshot};
-use pod_rows::{PlainRows, PodState, StateFault, fits};
+use pod_pages::Version;
+use pod_rows::StateFault;
 use std::alloc::Global;
-
-/// A version of a pod, which is never changed: the next one takes its place.
-pub type Version = PlainRows;
 
 /// The offset of a journal's first gate.
 const FIRST_GATE: u64 = 16;
@@ -60,7 +60,7 @@ pub struct Reading {
 /// The version of a stored snapshot. None where the record isn't the text of a well-formed one.
 fn read_snapshot(alloc: Global, text: &[u8]) -> Mem<Option<Version>>
     ensures some { IfOk result (λ found. IfSome found
-        (λ version. IsSnapshotRead text.now version.pod version.next)) }
+        (IsSnapshotRead text.now)) }
     ensures none { IfOk result (λ found. found ≡ None
         → (snapshot : SnapshotValue) → IsSnapshotOf text.now snapshot → ⊥) }
 {
@@ -73,8 +73,8 @@ fn read_snapshot(alloc: Global, text: &[u8]) -> Mem<Option<Version>>
 
 /// The version of a snapshot. None where it isn't well-formed.
 fn version_of(alloc: Global, snapshot: &Snapshot) -> Mem<Option<Version>>
-    ensures pod { IfOk result (λ found. IfSome found (λ version. version.pod ≡ pod_of snapshot.now)) }
-    ensures next { IfOk result (λ found. IfSome found (λ version. version.next ≡ snapshot.now.seq)) }
+    ensures version { IfOk result
+        (λ found. IfSome found (λ version. version ≡ first_state snapshot.now)) }
     ensures well_formed { IfOk result
         (λ found. IfSome found (λ _. IsWellFormedSnapshot snapshot.now)) }
     ensures none { IfOk result (λ found. found ≡ None → IsWellFormedSnapshot snapshot.now → ⊥) }
@@ -130,15 +130,13 @@ fn read_entry(alloc: Global, format: u8, text: &[u8]) -> Mem<Option<Entry>>
 fn version_after(alloc: Global, version: &Version, entry: &Entry) -> Mem<Option<Version>>
     ensures applies { IfOk result (λ found. IfSome found
         (λ _. Applies version.now.pod version.now.next entry.now)) }
-    ensures pod { IfOk result (λ found. IfSome found
-        (λ after. after.pod ≡ applied version.now.pod entry.now)) }
-    ensures next { IfOk result (λ found. IfSome found
-        (λ after. after.next ≡ version.now.next + 1)) }
+    ensures after { IfOk result
+        (λ found. IfSome found (λ after. after ≡ state_after version.now entry.now)) }
     ensures none { IfOk result (λ found. found ≡ None
         → Applies version.now.pod version.now.next entry.now → ⊥) }
 {
     if fits(alloc, version, entry)? {
-        let after = version.after(alloc, entry)?;
+        let after = version.after_entry(alloc, entry)?;
         Ok(Some(after))
     } else {
         Ok(None)
@@ -156,8 +154,8 @@ fn read_next(
     requires { (format ≡ 1) ⊎ (format ≡ 2) }
     ensures some { IfOk result (λ found. IfSome found (λ next.
         (bodies : List (List ℕ)) (last : Option MomentValue)
-        → IsReadTo format bodies version.now.pod version.now.next last
-        → IsReadTo format (bodies ++ text.now ∷ []) next.0.pod next.0.next (Some next.1))) }
+        → IsReadTo format bodies version.now last
+        → IsReadTo format (bodies ++ text.now ∷ []) next.0 (Some next.1))) }
     ensures none { IfOk result (λ found. found ≡ None
         → HasNoEntry format text.now version.now.pod version.now.next) }
 {
@@ -175,8 +173,7 @@ impl Reading {
     fn begin(alloc: Global, text: &[u8]) -> Result<Reading, RecordFault>
         requires { frame_len text.now + 16 < 2 ^ 64 }
         ensures read { IfOk result (λ reading. (format : ℕ)
-            → IsReadTo format (text.now ∷ []) reading.version.pod reading.version.next
-            reading.last) }
+            → IsReadTo format (text.now ∷ []) reading.version reading.last) }
         ensures at { IfOk result (λ reading. reading.at ≡ gate_after (text.now ∷ [])) }
         ensures cause { IfErr result (λ fault. (format : ℕ) (rest : List (List ℕ))
             → HasRecordCause format (text.now ∷ rest) fault) }
@@ -196,12 +193,11 @@ impl Reading {
         requires format { (format ≡ 1) ⊎ (format ≡ 2) }
         requires room { self.old.at + frame_len text.now < 2 ^ 64 }
         ensures read { OnOk result ((bodies : List (List ℕ))
-            → IsReadTo format bodies self.old.version.pod self.old.version.next self.old.last
-            → IsReadTo format (bodies ++ text.now ∷ []) self.new.version.pod
-            self.new.version.next self.new.last) }
+            → IsReadTo format bodies self.old.version self.old.last
+            → IsReadTo format (bodies ++ text.now ∷ []) self.new.version self.new.last) }
         ensures at { OnOk result (self.new.at ≡ self.old.at + frame_len text.now) }
         ensures cause { IfErr result (λ fault. (bodies rest : List (List ℕ))
-            → IsReadTo format bodies self.old.version.pod self.old.version.next self.old.last
+            → IsReadTo format bodies self.old.version self.old.last
             → self.old.at ≡ gate_after bodies
             → HasRecordCause format (bodies ++ text.now ∷ rest) fault) }
     {
@@ -232,7 +228,7 @@ pub fn read_records(
     requires format { (format ≡ 1) ⊎ (format ≡ 2) }
     requires room { gate_after (snapshot.now ∷ entries.now) < 2 ^ 64 }
     ensures read { IfOk result (λ reading. IsReadTo format (snapshot.now ∷ entries.now)
-        reading.version.pod reading.version.next reading.last) }
+        reading.version reading.last) }
     ensures cause { IfErr result (HasRecordCause format (snapshot.now ∷ entries.now)) }
 {
     let mut reading = Reading::begin(alloc, snapshot)?;

@@ -3,6 +3,7 @@
 use crate::shown::{rows_text, yes_or_no};
 use case_pods::{graph_of, row_of, split_word};
 use case_values::{number_of, path_or_root};
+use entry_fits::fits as fits_touched;
 use pod_base::{Agent, List, Mem, Method, Moment};
 use pod_command::{Edit, Entry};
 use pod_rows::{PlainRows, PodState, fits, snapshot};
@@ -75,10 +76,13 @@ fn state_text<S: PodState>(alloc: Global, state: &S) -> Mem<String> {
     Ok(format!(in alloc; "{count} rows, next {next}: {rows}")?)
 }
 
+/// The pod after an entry. Both tests of whether it applies say the same.
 fn applied_text(alloc: Global, state: &PlainRows, entry: &Entry) -> Mem<String> {
+    let touched = fits_touched(alloc, state, entry)?;
     match applied(alloc, state, entry)? {
-        Some(after) => state_text(alloc, &after),
-        None => Ok(String::from_str(alloc, "doesn't apply")?),
+        Some(after) if touched => state_text(alloc, &after),
+        None if !touched => Ok(String::from_str(alloc, "doesn't apply")?),
+        _ => Ok(String::from_str(alloc, "the tests differ")?),
     }
 }
 

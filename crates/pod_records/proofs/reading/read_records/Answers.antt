@@ -18,7 +18,7 @@ returns-in_err-read-clause-cause c =
 pub loop-record-preserved : goal.loop-record-preserved
 loop-record-preserved c =
     let next = taken c.args.snapshot.now c.args.entries.now c.loop-record.record-index c.record-item.result c.as_slice.result.now c.loop-record-test.true c.record-item.is c.as_slice.ensures in record {
-      read = subst (λ l. IsReadTo c.args.format l c.read.new.self.version.pod c.read.new.self.version.next c.read.new.self.last) (sym next)
+      read = subst (λ l. IsReadTo c.args.format l c.read.new.self.version c.read.new.self.last) (sym next)
           (c.in_ok-read.ensures.read (c.args.snapshot.now ∷ take c.loop-record.record-index c.args.entries.now) c.loop-record.invariant.read);
       at = gate_next c.args.snapshot.now c.args.entries.now c.loop-record.record-index c.record-item.result c.as_slice.result.now c.loop-record-test.true c.record-item.is c.as_slice.ensures c.loop-record.reading.at c.read.new.self.at c.loop-record.invariant.at c.in_ok-read.ensures.at;
     }

@@ -5,7 +5,7 @@ use Rattle.pod_records.proofs.reading.Reading.begin.Goals as goal
 pub returns-in-Some-clause-read : goal.returns-in-Some-clause-read
 returns-in-Some-clause-read c = λ format.
     let is = rw c.in-Some.is at c.in_ok-version.ensures.some in
-    read_first format c.args.text.now c.in-Some.version.pod c.in-Some.version.next is
+    read_first format c.args.text.now c.in-Some.version is
 
 pub returns-in-None-clause-cause : goal.returns-in-None-clause-cause
 returns-in-None-clause-cause c = λ format rest.

@@ -1,0 +1,5 @@
+pub mod Latest
+pub mod Counts
+pub mod MadeSteps
+pub mod Fine
+pub mod Whole

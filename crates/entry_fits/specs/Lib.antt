@@ -1,0 +1,3 @@
+-- internal: cited by private clauses alone
+pub mod Made
+pub mod Touched
