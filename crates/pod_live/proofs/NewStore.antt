@@ -1,5 +1,5 @@
 -- A new store.
-use Rattle.std.proofs.Common.{◌≡◌, ◌≤◌, ◌^◌, ℕ, List, [], ◌∷◌, IsTrue, refl, sym, ◌∙◌, ap, subst, arith}
+use Rattle.std.proofs.Common.{◌≡◌, ℕ, List, [], ◌∷◌, IsTrue, sym, subst, arith}
 use Rattle.journal_log.specs.declared.fault.Side.{Side}
 use Rattle.journal_pair.specs.Stores.{StoreStands}
 use Rattle.first_rows.specs.FirstPods.{first_pod, FirstPodsAreWellFormed}

@@ -1,34 +1,32 @@
 -- What a keeper stands for when it was opened.
-use Rattle.std.proofs.Common.{◌≡◌, ◌⊎◌, inl, inr, ℕ, ◌+◌, ◌≤◌, List, [], ◌∷◌, length, Option, Some, None, Result, Ok, Err, IfOk, IfErr, refl, sym, ◌∙◌, ap, subst, arith}
-use Rattle.journal_log.specs.Opening.{IsWhileOpened, IsNormalizing}
-use Rattle.journal_log.specs.declared.fault.Side.{Side}
+use Rattle.std.proofs.Common.{◌≡◌, inl, inr, ℕ, ◌≤◌, List, Option, Result, Ok, Err, IfOk, IfErr, refl, sym, ap, ◌∙◌, subst}
 use Rattle.journal_log.specs.declared.fault.Side.TheVariants.{First, Second}
 use Rattle.journal_pair.specs.Causes.{IfBothVisible}
-use Rattle.journal_pair.specs.PairJournal.{IsPairClean, IsPassedBeside}
+use Rattle.journal_pair.specs.PairJournal.{IsPairClean}
 use Rattle.journal_pair.specs.PairMoments.{EachPair, LeavesPairs, IsWhileStoreOpened}
 use Rattle.journal_pair.specs.PairState.{PairState}
 use Rattle.journal_pair.specs.Stores.{StoreStands}
 use Rattle.pod_base.specs.declared.moment.Moment.{Moment}
 use Rattle.pod_core.proofs.Histories.{pod_at_end}
 use Rattle.pod_live.specs.CrashedPods.{StandsForOneOf, ThoughMended}
-use Rattle.pod_live.specs.Kept.{certain, IsKept}
 use Rattle.pod_live.specs.KeeperState.{KeeperState}
-use Rattle.pod_live.specs.OpenedPods.{IsOpened, KeepsStanding, OpensDisks}
+use Rattle.pod_live.specs.OpenedPods.{IsOpened, OpensDisks}
 use Rattle.pod_live.specs.Stored.{history_of}
 use Rattle.pod_live.proofs.Places.{held_history, held_from_start}
+use Rattle.pod_pages.specs.State.{VersionState}
+use Rattle.pod_records.proofs.ReadSteps.{read_pod, read_number}
 use Rattle.pod_records.specs.Readings.{IsReadTo}
-use Rattle.pod_rows.specs.Pod.{Pod}
 
 -- a result whose value is this one
 pub if_ok_is : {T E X : Type 0} (r : Result T E) (of : T → X) (x : X) (P : X → Type 0) → IfOk r (λ t. of t ≡ x) → P x → IfOk r (λ t. P (of t))
 if_ok_is (Ok t) of x P is p = subst P (sym is) p
 if_ok_is (Err e) of x P is p = tt
 
-module _ {D : Type 0} (image : D → List ℕ → Type 0) (first second : D) (pair : PairState) (pod : Pod) (next : ℕ) (last : Option Moment) where
+module _ {D : Type 0} (image : D → List ℕ → Type 0) (first second : D) (pair : PairState) (version : VersionState) (last : Option Moment) where
   abbrev pub keeper_at : KeeperState D
-  keeper_at = record { first = first; second = second; pair = pair; pod = pod; next = next; last = last }
+  keeper_at = record { first = first; second = second; pair = pair; pod = version.pod; next = version.next; effects = version.effects; oldest = version.oldest; last = last }
 
-  pub is_opened : (content content_2 : Option (List ℕ)) (bodies : List (List ℕ)) → IsReadTo pair.journal.format bodies pod next last → IsPairClean image first second pair bodies
+  pub is_opened : (content content_2 : Option (List ℕ)) (bodies : List (List ℕ)) → IsReadTo pair.journal.format bodies version last → IsPairClean image first second pair bodies
       → IfBothVisible content content_2 (StoreStands pair.active pair.journal.format pair.journal.epoch bodies) → IsOpened image content content_2 bodies keeper_at
   is_opened content content_2 bodies read clean stands =
       let history = history_of read.snapshot read.entries in record {
@@ -38,8 +36,10 @@ module _ {D : Type 0} (image : D → List ℕ → Type 0) (first second : D) (pa
         stands = stands;
         kept = record {
           is_history = held_history pair.journal.format bodies read.snapshot read.entries read.holds;
-          pod = read.pod_is ∙ sym (pod_at_end history);
-          next = read.next_is;
+          pod = read_pod pair.journal.format bodies version last read ∙ sym (pod_at_end history);
+          next = read_number pair.journal.format bodies version last read;
+          effects = ap (λ (v : VersionState). v.effects) read.version_is;
+          oldest = ap (λ (v : VersionState). v.oldest) read.version_is;
           last = read.last_is;
           bodies = bodies;
           stored = held_from_start pair.journal.format bodies read.snapshot read.entries read.holds;

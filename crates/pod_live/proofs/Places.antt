@@ -1,13 +1,12 @@
 -- Places of a history, and what is stored from there on.
-use Rattle.std.proofs.Common.{◌≡◌, ◌⊎◌, inl, inr, ℕ, zero, suc, ◌+◌, ◌-◌, ◌≤◌, List, [], ◌∷◌, ◌++◌, length, map, take, drop, Option, Some, None, refl, sym, ◌∙◌, ap, subst, arith, length-append}
+use Rattle.std.proofs.Common.{◌≡◌, ℕ, ◌-◌, List, take, drop, refl, ap, subst, arith}
 use Rattle.pod_command.specs.declared.entry.Entry.{Entry}
 use Rattle.pod_command.specs.declared.snapshot.Snapshot.{Snapshot}
-use Rattle.pod_core.specs.History.{History, IsHistory, IsPlace, end_of, pod_at, longer}
-use Rattle.pod_core.proofs.Histories.{pod_at_end}
-use Rattle.pod_live.specs.Stored.{IsSnapshotAt, IsStored, history_of}
+use Rattle.pod_core.specs.History.{IsHistory}
+use Rattle.pod_live.specs.Stored.{IsStored, history_of}
 use Rattle.pod_records.specs.Records.{Holds}
-use Rattle.pod_rows.specs.Apply.{AllApply, replayed}
-use Rattle.pod_rows.specs.WellFormed.{IsWellFormedSnapshot, pod_of}
+use Rattle.pod_rows.specs.Apply.{replayed}
+use Rattle.pod_rows.specs.WellFormed.{pod_of}
 
 -- what records hold is a history that begins with their snapshot
 pub held_history : (format : ℕ) (bodies : List (List ℕ)) (snapshot : Snapshot) (entries : List Entry) → Holds format bodies snapshot entries → IsHistory (history_of snapshot entries)

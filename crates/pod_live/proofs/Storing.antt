@@ -1,16 +1,15 @@
 -- Records that hold a history, as it grows and at its end.
-use Rattle.std.proofs.Common.{◌≡◌, ◌⊎◌, inl, inr, ℕ, zero, suc, ◌+◌, ◌-◌, ◌≤◌, List, [], ◌∷◌, ◌++◌, length, map, take, drop, Option, Some, None, refl, sym, ◌∙◌, ap, subst, arith, length-append}
+use Rattle.std.proofs.Common.{◌≡◌, ℕ, ◌+◌, ◌-◌, ◌≤◌, List, [], ◌∷◌, ◌++◌, length, take, drop, refl, sym, ◌∙◌, ap, subst, arith}
 use Rattle.std.proofs.lemmas.List.{drop-append-le, drop_all, take-append-drop, length-drop}
 use Rattle.pod_command.specs.declared.entry.Entry.{Entry}
 use Rattle.pod_command.specs.declared.snapshot.Snapshot.{Snapshot}
-use Rattle.pod_core.specs.History.{History, IsHistory, IsPlace, end_of, pod_at, longer}
-use Rattle.pod_core.proofs.Histories.{pod_at_end, end_grows, place_grows, pod_grows, history_next}
+use Rattle.pod_core.specs.History.{History, IsHistory, end_of, pod_at, longer}
+use Rattle.pod_core.proofs.Histories.{pod_at_end, place_grows, pod_grows, history_next}
 use Rattle.pod_live.specs.Kept.{IsNextEntry, IsCheckpointText}
 use Rattle.pod_live.specs.Stored.{IsSnapshotAt, IsStored}
-use Rattle.pod_records.specs.Readings.{IsEntryOf}
-use Rattle.pod_records.specs.Records.{Holds, IsSnapshotText, entry_text}
+use Rattle.pod_records.specs.Records.{Holds, entry_text}
 use Rattle.pod_records.proofs.ReadSteps.{held_more}
-use Rattle.pod_rows.specs.Apply.{Applies, AllApply, applied, replayed}
+use Rattle.pod_rows.specs.Apply.{Applies, applied, replayed}
 use Rattle.pod_rows.specs.Pod.{Pod}
 use Rattle.pod_rows.specs.WellFormed.{pod_of}
 

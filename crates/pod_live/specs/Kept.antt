@@ -6,6 +6,7 @@ use Rattle.pod_command.specs.declared.entry.Entry.{Entry}
 use Rattle.pod_core.specs.History.{History, IsHistory, end_of, pod_at}
 use Rattle.pod_live.specs.KeeperState.{KeeperState}
 use Rattle.pod_live.specs.Stored.{IsStored}
+use Rattle.pod_pages.specs.State.{VersionState, states_after}
 use Rattle.pod_records.specs.Records.{entry_text, last_after, IsEntryIn, IsSnapshotText}
 use Rattle.pod_rows.specs.Apply.{Applies}
 
@@ -42,14 +43,30 @@ module _ {D : Type 0} (image : D → List ℕ → Type 0) (first second : D) (pa
   HasOnDisks history bodies checkpointed = (text : List ℕ) × IsCheckpointText history text
       × IsCheckpointInDoubt image first second pair bodies text
 
--- The keeper stands for the history. Its pod is the one at the end, and its last moment that of the
--- last entry. The active journal holds the history from this place on.
+-- The version of a history: its pod after all entries, and the effects of the last 256 of them.
+abbrev pub version_of : History → VersionState
+version_of history = states_after (record {
+  pod = history.first;
+  next = history.start;
+  effects = [];
+  oldest = history.start;
+}) history.entries
+
+-- The keeper stands for the history. Its version is the one at the end, and its last moment that of
+-- the last entry. The active journal holds the history from this place on.
 pub record IsKept {D : Type 0} (image : D → List ℕ → Type 0) (keeper : KeeperState D)
     (history : History) (place : ℕ) (doubt : Doubt) : Type 0 where
   pub is_history : IsHistory history
   pub pod : keeper.pod ≡ pod_at history (end_of history)
   pub next : keeper.next ≡ end_of history
+  pub effects : keeper.effects ≡ (version_of history).effects
+  pub oldest : keeper.oldest ≡ (version_of history).oldest
   pub last : keeper.last ≡ last_after None history.entries
   pub bodies : List (List ℕ)
   pub stored : IsStored history keeper.pair.journal.format place bodies
   pub disks : HasOnDisks image keeper.first keeper.second keeper.pair history bodies doubt
+
+-- it stands for some history
+abbrev pub StandsForSome : {D : Type 0} → (D → List ℕ → Type 0) → KeeperState D → Type 0
+StandsForSome image keeper = (history : History) × (place : ℕ) × (doubt : Doubt)
+    × IsKept image keeper history place doubt

@@ -5,7 +5,7 @@ ghost use Rattle.std.specs.Arc.{arc_value};
 use journal_pair::Pair;
 use pod_base::{Mem, Moment, NoMemory};
 use pod_disk::{Disk, Disks};
-use pod_records::Version;
+use pod_pages::Version;
 use pod_rows::PodState;
 use std::alloc::Global;
 use std::marker::Model;
@@ -14,8 +14,8 @@ use std::sync::Arc;
 /// The one writer of a pod, over the two disks of its store. It keeps the present version, and the
 /// moment of the last entry.
 ///
-/// Contracts see the disks, the state of their pair, the pod, the number of its next change and
-/// that moment (`KeeperState`), and say by `IsKept` for which histories the keeper stands.
+/// Contracts see the disks, the state of their pair, the version and that moment (`KeeperState`),
+/// and say by `IsKept` for which histories the keeper stands.
 #[derive(Drop)]
 pub struct Keeper<D: Disk> {
     pub(crate) disks: Disks<D>,
@@ -46,6 +46,8 @@ impl<D: Disk> Model for Keeper<D> {
       pair = k.pair;
       pod = (arc_value k.version).pod;
       next = (arc_value k.version).next;
+      effects = (arc_value k.version).effects;
+      oldest = (arc_value k.version).oldest;
       last = k.last;
     } };
 }
@@ -55,6 +57,8 @@ impl<D: Disk> Keeper<D> {
     pub fn version(&self) -> &Arc<Version>
         ensures pod { (arc_value result.now).pod ≡ self.now.pod }
         ensures next { (arc_value result.now).next ≡ self.now.next }
+        ensures effects { (arc_value result.now).effects ≡ self.now.effects }
+        ensures oldest { (arc_value result.now).oldest ≡ self.now.oldest }
     {
         &self.version
     }
@@ -64,6 +68,13 @@ impl<D: Disk> Keeper<D> {
         ensures { result ≡ self.now.next }
     {
         self.version.next()
+    }
+
+    /// The moment of the last entry.
+    pub fn last(&self) -> Option<Moment>
+        ensures { result ≡ self.now.last }
+    {
+        self.last
     }
 
     /// Gives the disks back as they are.

@@ -2,6 +2,7 @@
 
 ghost use Rattle.std.specs.Prelude.{◌≡◌, ◌+◌, ◌<◌, ◌^◌, ℕ, List as ListOf, ◌∷◌, IfOk, IfErr, OnOk};
 ghost use Rattle.pair_writes.specs.Doubts.{IsSure};
+ghost use Rattle.pod_live.specs.Kept.{StandsForSome};
 ghost use Rattle.pod_live.specs.OpenedPods.{IsOpened, OpensDisks};
 ghost use Rattle.pod_records.specs.OpenedStores.{HasPodCause};
 
@@ -25,6 +26,8 @@ fn keeper_of<D: Disk>(
       pair = opened.pair;
       pod = opened.reading.version.pod;
       next = opened.reading.version.next;
+      effects = opened.reading.version.effects;
+      oldest = opened.reading.version.oldest;
       last = opened.reading.last;
     }) }
     ensures records { IfOk result (λ kept. kept.1.items ≡ opened.records.items) }
@@ -66,6 +69,7 @@ impl<D: Disk> Keeper<D> {
     pub fn open(alloc: Global, disks: Disks<D>) -> Result<Keeper<D>, NotOpened<D>>
         ensures opened { IfOk result (λ keeper. (bodies : ListOf (ListOf ℕ))
             × IsOpened D.image (D.content disks.first) (D.content disks.second) bodies keeper) }
+        ensures stands { IfOk result (λ keeper. StandsForSome D.image keeper) }
         ensures sure { IfOk result
             (λ keeper. IsSure D.image keeper.first keeper.second keeper.pair) }
         ensures cause { IfErr result (λ refused.
@@ -91,6 +95,7 @@ impl<D: Disk> Keeper<D> {
     ) -> Result<(Keeper<D>, List<Bytes>), NotOpened<D>>
         ensures opened { IfOk result (λ opened. IsOpened D.image (D.content disks.first)
             (D.content disks.second) opened.1.items opened.0) }
+        ensures stands { IfOk result (λ opened. StandsForSome D.image opened.0) }
         ensures sure { IfOk result
             (λ opened. IsSure D.image opened.0.first opened.0.second opened.0.pair) }
         ensures cause { IfErr result (λ refused.
