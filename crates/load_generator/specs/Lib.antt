@@ -1,0 +1,3 @@
+-- the requests of a run, and the line that it prints
+pub mod Streams
+pub mod Summaries

@@ -1,0 +1,16 @@
+-- What the code keeps of the words that it has read.
+use Rattle.std.specs.Option.{option_map}
+use Rattle.podctl_words.specs.Given.{Given}
+use Rattle.podctl_words.specs.declared.given.Given as kept
+
+-- the same with the texts of the words
+abbrev pub given_of : kept.Given → Given
+given_of given = record {
+  base = option_map (λ word. word.now) given.base;
+  owner = option_map (λ word. word.now) given.owner;
+  fresh = option_map (λ word. word.now) given.fresh;
+  as_owner = given.as_owner;
+  trail = given.trail;
+  operand = option_map (λ word. word.now) given.operand;
+  mode = given.mode;
+}

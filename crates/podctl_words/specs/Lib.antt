@@ -1,0 +1,6 @@
+-- the command that words ask for: how words are written, and the reading of words
+pub mod Spelling
+pub mod Given
+pub mod Readings
+-- internal: cited by private clauses alone
+pub mod Givens

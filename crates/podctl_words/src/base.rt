@@ -1,0 +1,49 @@
+//! The form of a base.
+ghost use Rattle.std.specs.Prelude.{◌≡◌};
+ghost use Rattle.std.specs.List.{list_all};
+ghost use Rattle.pod_rows.specs.Base.{is_base, is_base_of, is_authority_and_slash};
+ghost use Rattle.pod_rows.specs.Base.{is_authority_byte};
+
+use pod_rows::BASE_BYTES_LIMIT;
+
+/// Whether a word is `http://` or `https://`, an authority and a slash, of at most
+/// [`BASE_BYTES_LIMIT`] bytes.
+pub(crate) fn is_base(word: &str) -> bool
+    ensures { result ≡ is_base word.now }
+{
+    word.len() <= BASE_BYTES_LIMIT && (is_base_of(word, "http://") || is_base_of(word, "https://"))
+}
+
+/// Whether a word is the scheme, an authority and a slash.
+fn is_base_of(word: &str, scheme: &str) -> bool
+    ensures { result ≡ is_base_of word.now scheme.now }
+{
+    match word.as_bytes().strip_prefix(scheme.as_bytes()) {
+        Some(rest) => is_authority_and_slash(rest),
+        None => false,
+    }
+}
+
+/// Whether these are the bytes of an authority, at least one, and a slash.
+fn is_authority_and_slash(text: &[u8]) -> bool
+    ensures { result ≡ is_authority_and_slash text.now }
+{
+    if text.len() < 2 || !text.ends_with(b"/") {
+        return false;
+    }
+    are_authority_bytes(&text[..text.len() - 1])
+}
+
+/// Whether an authority may have these bytes.
+fn are_authority_bytes(bytes: &[u8]) -> bool
+    ensures { result ≡ list_all is_authority_byte bytes.now }
+{
+    bytes.iter().all(|&byte| is_authority_byte(byte))
+}
+
+/// Whether an authority may have this byte.
+fn is_authority_byte(byte: u8) -> bool
+    ensures { result ≡ is_authority_byte byte }
+{
+    byte.is_ascii_alphanumeric() || matches!(byte, b'-' | b'.' | b':' | b'[' | b']')
+}

@@ -1,0 +1,29 @@
+//! The commands of `podctl`.
+
+use iri_ref::Iri;
+
+/// How the agent of each request of a connection is known.
+#[derive(Debug, Drop)]
+pub enum Asking {
+    /// By its token, from the table of tokens.
+    ByTokens,
+    /// Each request is the owner's of the store.
+    Owner,
+    /// Each request is the owner's of a new pod in memory.
+    Fresh(Iri),
+}
+
+/// What `podctl` is to do.
+#[derive(Debug, Drop)]
+pub enum Command {
+    /// Makes a store.
+    Init { base: Iri, owner: Iri },
+    /// Serves one connection. With `trail` each answered request gets a line.
+    Pipe { asking: Asking, trail: bool },
+    /// Prints how much the store holds.
+    Check,
+    /// Prints the changes of the store.
+    Audit,
+    /// Runs so many requests of the load generator.
+    Load(u16),
+}

@@ -1,0 +1,34 @@
+//! What the words after the program's name ask of `podctl`.
+//!
+//! ```ignore
+//! // pipe --fresh https://alice.example/#me --trail
+//! match read(alloc, &words)? {
+//!     Some(Command::Pipe { asking: Asking::Fresh(owner), trail: true }) => ..,
+//!     None => ..,   // the words have no reading
+//!     ..
+//! }
+//! ```
+//!
+//! Proved: [`read`] gives the command of the definition `reading` (`reading`), which may be
+//! carried out (`sound`), and is out of memory only where the words have a reading
+//! (`out_of_memory`). The law [`laws::readings_are_written`] says what that definition means: words
+//! have a reading exactly where they are a subcommand and then uses of its options and its operand,
+//! each at most once, in any order; and the reading is the command that these ask for.
+//!
+//! It stands on `pod_rows` for the form of a base, on `token_table` and `iri_ref` for agents, and
+//! on `pod_base`.
+#![tactic(auto)]
+
+mod base;
+mod command;
+mod given;
+pub mod laws;
+mod number;
+mod reader;
+mod subcommand;
+
+pub use command::{Asking, Command};
+pub use given::Mode;
+pub use number::{DIGITS_LIMIT, LOAD_LIMIT};
+pub use reader::read;
+pub use subcommand::{Flag, Parameter, Subcommand};

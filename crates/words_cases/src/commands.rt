@@ -1,0 +1,52 @@
+//! The commands that words ask for.
+
+use podctl_words::{Asking, Command, read};
+use std::alloc::{AllocError, Global};
+
+/// How the agents of a connection are known.
+fn asking_text<'a>(asking: &'a Asking) -> (&'static str, &'a str) {
+    match asking {
+        Asking::ByTokens => ("by tokens", ""),
+        Asking::Owner => ("as the owner", ""),
+        Asking::Fresh(owner) => ("fresh ", owner.as_str()),
+    }
+}
+
+/// A connection.
+fn pipe_text(alloc: Global, asking: &Asking, trail: bool) -> Result<String, AllocError> {
+    let (how, owner) = asking_text(asking);
+    let end = if trail { ", trail" } else { "" };
+    format!(in alloc; "pipe {how}{owner}{end}")
+}
+
+/// A command as text.
+fn command_text(alloc: Global, command: &Command) -> Result<String, AllocError> {
+    match command {
+        Command::Init { base, owner } => {
+            format!(in alloc; "init {} {}", base.as_str(), owner.as_str())
+        }
+        Command::Pipe { asking, trail } => pipe_text(alloc, asking, *trail),
+        Command::Check => String::from_str(alloc, "check"),
+        Command::Audit => String::from_str(alloc, "audit"),
+        Command::Load(requests) => format!(in alloc; "load {requests}"),
+    }
+}
+
+/// The words of a case.
+fn words_of(alloc: Global, fields: &[&str]) -> Result<Vec<String>, AllocError> {
+    let mut words = Vec::new(alloc);
+    for field in fields {
+        words.push(case_lines::text(alloc, field)?)?;
+    }
+    Ok(words)
+}
+
+/// The command that the words ask for.
+pub(crate) fn answer(alloc: Global, fields: &[&str]) -> Result<String, AllocError> {
+    let words = words_of(alloc, fields)?;
+    match read(alloc, words.as_slice()) {
+        Ok(Some(command)) => command_text(alloc, &command),
+        Ok(None) => String::from_str(alloc, "none"),
+        Err(_none) => String::from_str(alloc, "out of memory"),
+    }
+}
