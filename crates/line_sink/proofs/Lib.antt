@@ -1,0 +1,2 @@
+-- for the crates above too
+pub mod Extending

@@ -1,0 +1,4 @@
+-- internal
+mod Excluded
+mod Lines
+mod Printed

@@ -1,0 +1,95 @@
+-- What was printed, by the end.
+use Rattle.std.proofs.Common.{◌≡◌, ◌⊎◌, inl, inr, ℕ, List, map, length, Option, Result, Ok, Err, IsErrOf, refl, ◌∙◌, ap, subst, rules}
+use Rattle.std.proofs.lemmas.List.{length-map}
+use Rattle.journal_log.specs.declared.fault.OpenFault.{OpenFault}
+use Rattle.journal_log.specs.declared.fault.OpenFault.TheVariants as opening
+use Rattle.line_sink.specs.Writing.{AddsOrPart, Writes}
+use Rattle.pod_base.specs.Counts.{CountIncreased}
+use Rattle.pod_command.specs.declared.entry.Entry.{Entry}
+use Rattle.pod_command.specs.declared.snapshot.Snapshot.{Snapshot}
+use Rattle.pod_io.specs.Counts.{CountsFaults}
+use Rattle.pod_live.specs.KeeperState.{KeeperState}
+use Rattle.pod_live.specs.OpenedPods.{IsOpened}
+use Rattle.pod_records.specs.OpenedStores.{HasPodCause}
+use Rattle.pod_records.specs.Records.{entry_text}
+use Rattle.store_commands.specs.Prints.{IsStoreOf, Prints, Tells}
+use Rattle.store_commands.specs.Records.{printed_end, refused_end}
+use Rattle.store_commands.specs.Ends.{IsMadeEnd}
+use Rattle.store_commands.specs.Texts.{check_text, counts_line}
+use Rattle.store_commands.specs.declared.ends.StoreEnd.{StoreEnd}
+use Rattle.store_commands.specs.declared.ends.StoreEnd.TheVariants as ends
+use Rattle.store_commands.specs.declared.printing.PrintFault.{PrintFault}
+use Rattle.store_commands.specs.declared.printing.PrintFault.TheVariants as printing
+
+-- a line whose failure changes nothing
+pub told_or_part : {T E : Type 0} (result : Result T E) (line : List ℕ) (old new : Option (List ℕ)) (before after : ℕ) → Writes result line old new → CountsFaults result before after → AddsOrPart line old new before after
+told_or_part (Ok done) line old new before after w c = inl w.whole
+told_or_part (Err fault) line old new before after w c = inr (c.failed refl, w.part)
+
+-- a store that wasn't opened
+module _ (text : Snapshot → List Entry → List ℕ) (first second : Option (List ℕ)) (a a_new b b_new : ℕ) where
+  pub refused_prints : (old : Option (List ℕ)) (fault : OpenFault) → HasPodCause first second a a_new b b_new fault → Prints text first second old old (refused_end fault)
+  refused_prints old opening.Empty cause = (cause, refl)
+  refused_prints old (opening.Damaged side at) cause = (cause, refl)
+  refused_prints old opening.DiskFault cause = refl
+  refused_prints old opening.NoMemory cause = inl refl
+
+pub refused_disk : (first second : Option (List ℕ)) (a a_new b b_new : ℕ) (fault : OpenFault) → HasPodCause first second a a_new b b_new fault → refused_end fault ≡ ends.DiskFault → CountIncreased a a_new ⊎ CountIncreased b b_new
+refused_disk first second a a_new b b_new opening.Empty cause e = search (rules, e)
+refused_disk first second a a_new b b_new (opening.Damaged side at) cause e = search (rules, e)
+refused_disk first second a a_new b b_new opening.DiskFault cause e = cause
+refused_disk first second a a_new b b_new opening.NoMemory cause e = search (rules, e)
+
+pub refused_write : (fault : OpenFault) → refused_end fault ≡ ends.WriteFault → ⊥
+refused_write opening.Empty e = search (rules, e)
+refused_write (opening.Damaged side at) e = search (rules, e)
+refused_write opening.DiskFault e = search (rules, e)
+refused_write opening.NoMemory e = search (rules, e)
+
+-- a store that was opened
+module _ (text : Snapshot → List Entry → List ℕ) (first second old new : Option (List ℕ)) (snapshot : Snapshot) (entries : List Entry) (opened : IsStoreOf first second snapshot entries) where
+  pub prints : (printed : Result (Unit {0}) PrintFault) → Writes printed (text snapshot entries) old new → Prints text first second old new (printed_end printed)
+  prints (Ok done) w = record { snapshot = snapshot; entries = entries; opened = opened; printed = w.whole }
+  prints (Err printing.WriteFault) w = record { snapshot = snapshot; entries = entries; opened = opened; count = w.part.0; printed = w.part.1 }
+  prints (Err printing.NoMemory) w = inr (record { snapshot = snapshot; entries = entries; opened = opened; count = w.part.0; printed = w.part.1 })
+
+pub printed_told : (printed : Result (Unit {0}) PrintFault) (old : Option (List ℕ)) (before after : ℕ) → Tells (printed_end printed) old old before after
+printed_told (Ok done) old before after = refl
+printed_told (Err printing.WriteFault) old before after = refl
+printed_told (Err printing.NoMemory) old before after = refl
+
+pub printed_write : (printed : Result (Unit {0}) PrintFault) → printed_end printed ≡ ends.WriteFault → IsErrOf printed printing.WriteFault
+printed_write (Ok done) e = search (rules, e)
+printed_write (Err printing.WriteFault) e = refl
+printed_write (Err printing.NoMemory) e = search (rules, e)
+
+pub printed_disk : (printed : Result (Unit {0}) PrintFault) → printed_end printed ≡ ends.DiskFault → ⊥
+printed_disk (Ok done) e = search (rules, e)
+printed_disk (Err printing.WriteFault) e = search (rules, e)
+printed_disk (Err printing.NoMemory) e = search (rules, e)
+
+-- what an opening gives
+pub store_of : {D : Type 0} (image : D → List ℕ → Type 0) (first second : Option (List ℕ)) (bodies : List (List ℕ)) (keeper : KeeperState D) (h : IsOpened image first second bodies keeper) → IsStoreOf first second h.snapshot h.entries
+store_of image first second bodies keeper h = record {
+  side = keeper.pair.active;
+  format = keeper.pair.journal.format;
+  epoch = keeper.pair.journal.epoch;
+  bodies = bodies;
+  holds = h.holds;
+  stands = h.stands;
+}
+
+-- the counts of that store
+counts_same : (rows rows_2 entries entries_2 next next_2 : ℕ) → rows ≡ rows_2 → entries ≡ entries_2 → next ≡ next_2 → counts_line rows entries next ≡ counts_line rows_2 entries_2 next_2
+counts_same rows rows_2 entries entries_2 next next_2 a b c = ap (λ n. counts_line n entries next) a ∙ ap (λ n. counts_line rows_2 n next) b ∙ ap (λ n. counts_line rows_2 entries_2 n) c
+
+pub checked : {D T E : Type 0} (image : D → List ℕ → Type 0) (first second : Option (List ℕ)) (bodies : List (List ℕ)) (keeper : KeeperState D) (h : IsOpened image first second bodies keeper) (records : List (List ℕ)) → records ≡ map (entry_text keeper.pair.journal.format) h.entries
+    → (printed : Result T E) (old new : Option (List ℕ)) → Writes printed (counts_line (length keeper.pod.rows) (length records) keeper.next) old new → Writes printed (check_text h.snapshot h.entries) old new
+checked image first second bodies keeper h records are printed old new w =
+    subst (λ text. Writes printed text old new)
+    (counts_same _ _ _ _ _ _ (ap (λ p. length p.rows) h.kept.pod) (ap length are ∙ length-map h.entries (entry_text keeper.pair.journal.format)) h.kept.next) w
+
+-- making a store on empty disks without memory
+pub is_memory : (end : StoreEnd) → IsMadeEnd end → (end ≡ ends.NotEmpty) ⊎ (end ≡ ends.NoMemory) → end ≡ ends.NoMemory
+is_memory end made (inl e) = absurd (subst IsMadeEnd e made)
+is_memory end made (inr e) = e

@@ -1,0 +1,13 @@
+use Rattle.std.proofs.Common.{subst}
+use Rattle.store_commands.proofs.Printed.{is_memory}
+use Rattle.store_commands.proofs.making.init.Goals as goal
+
+pub returns-then-empty-clause-left : goal.returns-then-empty-clause-left
+returns-then-empty-clause-left g c = λ ended a b left left_2.
+    let memory = is_memory c.make.result c.make.ensures.ends ended in
+    c.in-Ok.ensures.left a b
+    (subst (λ disk. g.D.Disk.left_since disk (g.D.Disk.moment c.args.disks.now.first) a) (c.make.ensures.memory_first memory) left)
+    (subst (λ disk. g.D.Disk.left_since disk (g.D.Disk.moment c.args.disks.now.second) b) (c.make.ensures.memory_second memory) left_2)
+
+pub returns-else-empty-clause-not_empty : goal.returns-else-empty-clause-not_empty
+returns-else-empty-clause-not_empty g c = λ _. c.in-Ok.ensures.no c.if-empty.false

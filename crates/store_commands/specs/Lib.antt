@@ -1,0 +1,7 @@
+-- how the commands end, and what they print
+pub mod Ends
+pub mod Texts
+pub mod Prints
+pub mod Laws
+-- internal: cited by private clauses alone
+pub mod Records
