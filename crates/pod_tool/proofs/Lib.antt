@@ -1,13 +1,2 @@
-pub mod EndingsLemmas
-pub mod HeardLemmas
-pub mod LongerSessions
-pub mod OwnerLemmas
-pub mod ProgressLemmas
-pub mod ReadsLemmas
-pub mod RefusedLemmas
-pub mod ServingLemmas
-pub mod SessionLemmas
-pub mod TakenLemmas
-pub mod TalksLemmas
+pub mod FreshLemmas
 pub mod WordLemmas
-pub mod WritesLemmas

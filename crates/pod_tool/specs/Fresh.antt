@@ -1,37 +1,43 @@
--- A session on a new pod in memory: of connection 1, from place 0 on.
-use Rattle.std.specs.Prelude.{◌≡◌, ◌≢◌, ℕ, List, codes}
-use Rattle.std.specs.List.{AllByRecursion, flat_map}
+-- A new pod in memory.
+use Rattle.std.specs.Prelude.{◌≡◌, ℕ, Bool, List, [], Option, codes}
 use Rattle.first_rows.specs.FirstPods.{first_pod}
-use Rattle.pod_base.specs.declared.heard.Heard.{Heard}
 use Rattle.pod_base.specs.declared.request.Request.{Request}
-use Rattle.pod_core.specs.History.{IsHistory, end_of}
-use Rattle.pod_core.specs.Session.{IsClockMoment, IsSession, Item, Session, disk_fault, entries_of}
-use Rattle.pod_rows.specs.Pod.{Pod}
+use Rattle.pod_core.specs.History.{History}
+use Rattle.pod_core.specs.Session.{IsClockMoment, Item}
+use Rattle.pod_pipe.specs.Served.{WritesSession, disk_faults}
+use Rattle.pod_pipe.specs.Statuses.{PipesAndTells, status_of}
+use Rattle.pod_pipe.specs.Streams.{CountsInput}
+use Rattle.pod_pipe.specs.declared.status.PipeEnd.{PipeEnd}
 use Rattle.token_table.specs.Credentials.{AskedAgent, known}
 
 -- the base of a pod in memory
 abbrev pub fresh_base : List ℕ
 fresh_base = codes "http://127.0.0.1:8080/"
 
+-- the history of a new pod of that owner, whose rows have that moment, in seconds since 1970
+abbrev pub fresh_history : List ℕ → ℕ → History
+fresh_history owner made =
+    record { first = first_pod fresh_base owner (record { 0 = made }); start = 0; entries = [] }
+
 -- every request is the owner's, whatever it says
 abbrev pub asking_owner : List ℕ → Request → AskedAgent
 asking_owner owner request = known owner
 
--- a new pod of that owner, whose rows have a moment of the clock
-pub record IsFreshPod (may_give : ℕ → Type 0) (owner : List ℕ) (pod : Pod) : Type 0 where
+-- no item met a disk fault
+abbrev pub MeetsNoDisk : List Item → Type 0
+MeetsNoDisk items = disk_faults items ≡ 0
+
+-- What a run of `pipe --fresh` reads, writes and tells: what a connection of a new pod does, whose
+-- rows have a moment of the clock.
+pub record RunsFresh (may_give : ℕ → Type 0) (owner : List ℕ) (trail : Bool) (status : ℕ)
+    (old_input new_input old_output new_output old_errors new_errors : Option (List ℕ))
+    (before after old_reads new_reads old_ends new_ends : ℕ) : Type 0 where
+  pub end : PipeEnd
+  pub status_is : status ≡ status_of end
   pub made : ℕ
   pub clock : IsClockMoment may_give made
-  pub is : pod ≡ first_pod fresh_base owner (record { 0 = made })
-
--- The session is that of connection 1. Its history begins at place 0 with a new pod, and has
--- exactly the items' entries, each of which applies. No item met a disk fault.
-pub record OnFresh (may_give : ℕ → Type 0) (owner : List ℕ) (events : List Heard)
-    (session : Session) : Type 0 where
-  pub conn : session.conn ≡ 1
-  pub first : IsFreshPod may_give owner session.history.first
-  pub start : session.history.start ≡ 0
-  pub entries : flat_map entries_of session.items ≡ session.history.entries
-  pub history : IsHistory session.history
-  pub is_session : IsSession may_give (asking_owner owner) events session.history.start session
-      (end_of session.history)
-  pub no_disk : AllByRecursion (λ (item : Item). item.outcome ≢ disk_fault) session.items
+  pub pipes : PipesAndTells may_give (asking_owner owner) trail (fresh_history owner made)
+      MeetsNoDisk end old_input new_input old_output new_output old_errors new_errors before after
+  pub session : WritesSession may_give (asking_owner owner) trail (fresh_history owner made)
+      MeetsNoDisk old_input new_input old_output new_output
+  pub counts : CountsInput end old_reads new_reads old_ends new_ends

@@ -1,10 +1,4 @@
--- What public clauses cite: of those, Words, Statuses, Served, Streams and Fresh are the
--- headline's, over the sessions of pod_core.
+-- What public clauses cite: of those, Words and Fresh are the headline's, over the sessions of
+-- pod_core and the connections of pod_pipe.
 pub mod Words
-pub mod Statuses
-pub mod Served
-pub mod Streams
 pub mod Fresh
--- internal: cited by private clauses alone
-pub mod Talks
-pub mod Turns

@@ -1,0 +1,93 @@
+-- The same with less said of what is left of the holder, and where nothing was served.
+use Rattle.std.proofs.Common.{ℕ, Bool, true, false, List, [], Option, refl, arith}
+use Rattle.http_conn.specs.Messages.{Messages, unfinished, in_head}
+use Rattle.pod_base.specs.declared.heard.Heard.{Heard}
+use Rattle.pod_base.specs.declared.request.Request.{Request}
+use Rattle.pod_core.specs.History.{History, IsHistory}
+use Rattle.pod_core.specs.Session.{Item}
+use Rattle.token_table.specs.Credentials.{AskedAgent}
+use Rattle.pod_pipe.specs.Served.{IsServed, IsStopped, WritesSession}
+use Rattle.pod_pipe.specs.Statuses.{IsWritten, Pipes, PipesAndTells}
+use Rattle.pod_pipe.specs.declared.status.PipeEnd.{PipeEnd}
+use Rattle.pod_pipe.specs.declared.status.PipeEnd.TheVariants.{Peer, Cut, Closed, Limit, Upgraded, Bad, ReadFault, WriteFault, NoMemory, ReadLimit}
+use Rattle.pod_pipe.proofs.EndingsLemmas.{Came, served_stops, serves}
+use Rattle.pod_pipe.proofs.ProgressLemmas.{nothing_yet}
+use Rattle.pod_pipe.proofs.ServingLemmas.{all_first, nothing_read}
+use Rattle.pod_pipe.proofs.LongerSessions.{writes_session}
+use Rattle.pod_pipe.proofs.TalksLemmas.{nothing_added}
+
+module _ (may_give : ℕ → Type 0) (asking : Request → AskedAgent) (trails : Bool) (begun : History) (leaves less : List Item → Type 0) (weaker : (items : List Item) → leaves items → less items) where
+  served : (upgraded : Bool) (events : List Heard) (written trail : List ℕ) → IsServed may_give asking trails begun leaves upgraded events written trail → IsServed may_give asking trails begun less upgraded events written trail
+  served upgraded events written trail s = record { session = s.session; continues = s.continues; left = weaker s.session.items s.left; whole = s.whole; last = s.last; bytes = s.bytes; lines = s.lines }
+
+  stopped : (events : List Heard) (written trail : List ℕ) → IsStopped may_give asking trails begun leaves events written trail → IsStopped may_give asking trails begun less events written trail
+  stopped events written trail s = record { session = s.session; continues = s.continues; left = weaker s.session.items s.left; bytes = s.bytes; lines = s.lines }
+
+  was_written : (end : PipeEnd) (events : List Heard) (written trail : List ℕ) → IsWritten may_give asking trails begun leaves end events written trail → IsWritten may_give asking trails begun less end events written trail
+  was_written Peer events written trail w = served false events written trail w
+  was_written (Cut rest) events written trail w = served false events written trail w
+  was_written Closed events written trail w = served false events written trail w
+  was_written Limit events written trail w = served false events written trail w
+  was_written Upgraded events written trail w = served true events written trail w
+  was_written (Bad status) events written trail w = served false events written trail w
+  was_written ReadFault events written trail w = served false events written trail w
+  was_written ReadLimit events written trail w = served false events written trail w
+  was_written WriteFault events written trail w = stopped events written trail w
+  was_written NoMemory events written trail w = stopped events written trail w
+
+  pub pipes_weaker : (end : PipeEnd) (old_input new_input old_output new_output old_errors new_errors : Option (List ℕ)) (before after : ℕ)
+      → PipesAndTells may_give asking trails begun leaves end old_input new_input old_output new_output old_errors new_errors before after
+      → PipesAndTells may_give asking trails begun less end old_input new_input old_output new_output old_errors new_errors before after
+  pipes_weaker end old_input new_input old_output new_output old_errors new_errors before after p = record {
+    trailed = p.trailed;
+    pipes = record {
+      read = p.pipes.read;
+      heard = p.pipes.heard;
+      written = p.pipes.written;
+      trail = p.pipes.trail;
+      reads = p.pipes.reads;
+      hears = p.pipes.hears;
+      serves = was_written end p.pipes.heard p.pipes.written p.pipes.trail p.pipes.serves;
+      writes = p.pipes.writes;
+      trails_too = p.pipes.trails_too;
+    };
+    tells = p.tells;
+  }
+
+  pub session_weaker : (old_input new_input old_output new_output : Option (List ℕ))
+      → WritesSession may_give asking trails begun leaves old_input new_input old_output new_output → WritesSession may_give asking trails begun less old_input new_input old_output new_output
+  session_weaker old_input new_input old_output new_output w = record {
+    read = w.read;
+    written = w.written;
+    trail = w.trail;
+    reads = w.reads;
+    writes = w.writes;
+    session = λ all rest m. stopped all w.written w.trail (w.session all rest m);
+  }
+
+-- in nothing nothing is heard
+nothing_heard : Messages [] [] 0
+nothing_heard = unfinished [] [] [] refl (record { few = omega arith; stays = tt }) (in_head refl)
+
+-- nothing was read, and nothing written
+module _ (may_give : ℕ → Type 0) (asking : Request → AskedAgent) (trails : Bool) (begun : History) (legal : IsHistory begun) (leaves : List Item → Type 0) (left : leaves []) (input output errors : Option (List ℕ)) where
+  nothing_piped : Pipes may_give asking trails begun leaves NoMemory input input output output errors errors
+  nothing_piped =
+      let came : Came may_give asking trails begun leaves [] [] = record { progress = nothing_yet may_give asking begun legal; last = tt; left = left } in
+      record {
+        read = [];
+        heard = [];
+        written = [];
+        trail = [];
+        reads = nothing_read input;
+        hears = all_first [] [] 0 nothing_heard;
+        serves = served_stops may_give asking trails begun leaves false [] [] [] (serves may_give asking trails begun leaves [] [] false [] [] came refl refl refl refl);
+        writes = nothing_added output;
+        trails_too = nothing_added errors;
+      }
+
+  pub unserved : (faults : ℕ) → PipesAndTells may_give asking trails begun leaves NoMemory input input output output errors errors faults faults
+  unserved faults = record { trailed = errors; pipes = nothing_piped; tells = refl }
+
+  pub unserved_session : WritesSession may_give asking trails begun leaves input input output output
+  unserved_session = writes_session may_give asking trails begun leaves NoMemory input input output output errors errors nothing_piped

@@ -1,0 +1,21 @@
+use Rattle.std.proofs.Common.{◌≡◌, ◌+◌, ◌-◌, ◌^◌, ◌<◌, ◌≤◌}
+use Rattle.pod_core.specs.History.{History}
+use Rattle.pod_pipe.specs.Agents.{asking_of}
+use Rattle.pod_pipe.specs.Talks.{IsSound}
+use Rattle.pod_pipe.proofs.ServingLemmas.{Serving}
+use Rattle.pod_pipe.proofs.serve.serve.Given as goal
+
+-- what was read was answered, each read gave a byte, and no fault was forgotten
+abbrev pub invariant-reads : goal.invariant-reads
+invariant-reads g l =
+    ((history : History) → g.H.PodHolder.stands l.fn.talk.holder history
+    → Serving g.H.PodHolder.stands g.H.PodHolder.faults g.H.PodHolder.follows (g.C.Clock.may_give l.clock) (asking_of l.options.agents) l.options.trail history l.fn.talk.holder l.conn l.talk.holder l.talk.number
+    (g.S.Source.rest l.fn.input) (g.S.Source.rest l.input) (g.K.Sink.taken l.fn.output) (g.K.Sink.taken l.output) (g.E.Sink.taken l.fn.errors) (g.E.Sink.taken l.errors) l.counter)
+    × (g.S.Source.faults l.fn.input ≤ g.S.Source.faults l.input)
+    × (g.K.Sink.faults l.fn.output ≤ g.K.Sink.faults l.output)
+    × (g.S.Source.reads l.fn.input ≤ g.S.Source.reads l.input)
+    × (g.S.Source.reads l.input < 2 ^ 64 - 1 → g.S.Source.reads l.fn.input + l.counter ≤ g.S.Source.reads l.input)
+    × (g.S.Source.ends l.input ≡ g.S.Source.ends l.fn.input)
+    × (g.E.Sink.faults l.fn.errors ≤ g.E.Sink.faults l.errors)
+    × IsSound l.talk.number
+    × ((history : History) × g.H.PodHolder.stands l.talk.holder history)

@@ -1,0 +1,40 @@
+use Rattle.std.proofs.Common.{◌≡◌, ◌++◌, length, take, drop, sym, subst, arith}
+use Rattle.pod_pipe.specs.Streams.{ExtendsBy}
+use Rattle.pod_pipe.proofs.TalksLemmas.{adds_more}
+use Rattle.pod_pipe.proofs.WritesLemmas.{given_is, still_whole, part_is, part_less}
+use Rattle.pod_pipe.proofs.write.write_out.Goals as goal
+
+-- one piece more
+pub pieces-preserved : goal.pieces-preserved
+pieces-preserved g c =
+    let i = c.pieces.invariant.0 in
+    let count = c.next-count.result in
+    let given = take count c.next-count.new.into in
+    let whole = given_is c.pieces.out c.pieces.piece c.next-count.new.into count c.next-count.ensures.count c.next-count.ensures.given in (
+      (
+        i.0 ++ given,
+        subst (λ left. (i.0 ++ given) ++ left ≡ c.args.out) (sym c.next-count.ensures.left) (still_whole i.0 given c.pieces.out (drop count c.pieces.out) c.args.out i.1 whole),
+        adds_more (g.K.Sink.taken c.args.output.now) (g.K.Sink.taken c.pieces.output) (g.K.Sink.taken c.write_all.new.output) i.0 given i.2 c.in-Ok.ensures.writes.whole,
+      ),
+      omega (arith, c.pieces.invariant.1, c.in-Ok.ensures.faults.no_fewer),
+    )
+
+-- a front of it
+pub returns-in-Err-clause-writes : goal.returns-in-Err-clause-writes
+returns-in-Err-clause-writes g c =
+    let i = c.pieces.invariant.0 in
+    let count = c.next-count.result in
+    let given = take count c.next-count.new.into in
+    let whole = given_is c.pieces.out c.pieces.piece c.next-count.new.into count c.next-count.ensures.count c.next-count.ensures.given in
+    let part = c.in-Err.ensures.writes.part in
+    let front = i.0 ++ take part.0 given in
+    record {
+      whole = tt;
+      part = (
+        length front,
+        part_less i.0 given (drop count c.pieces.out) c.args.out part.0 (still_whole i.0 given c.pieces.out (drop count c.pieces.out) c.args.out i.1 whole) part.1,
+        subst (λ text. ExtendsBy text (g.K.Sink.taken c.args.output.now) (g.K.Sink.taken c.write_all.new.output))
+            (part_is i.0 given (drop count c.pieces.out) c.args.out part.0 (still_whole i.0 given c.pieces.out (drop count c.pieces.out) c.args.out i.1 whole))
+            (adds_more (g.K.Sink.taken c.args.output.now) (g.K.Sink.taken c.pieces.output) (g.K.Sink.taken c.write_all.new.output) i.0 (take part.0 given) i.2 part.2),
+      );
+    }

@@ -1,0 +1,60 @@
+-- What a holder of a pod answers to a request.
+use Rattle.std.specs.Prelude.{◌≡◌, ℕ, ◌+◌, ◌-◌, ◌^◌, ◌<◌, ◌≤◌, if◌then◌else◌, max, Result, Ok, Err}
+use Rattle.std.specs.Option.{option_to_list}
+use Rattle.pod_base.specs.declared.moment.Stamp.{Stamp}
+use Rattle.pod_base.specs.declared.request.Request.{Request}
+use Rattle.pod_core.specs.History.{History, end_of, longer, moment_before, pod_at}
+use Rattle.pod_reply.specs.Replies.{Reply}
+use Rattle.pod_reply.specs.Reply.{IsReply}
+use Rattle.reply_laws.specs.Granted.{is_change}
+use Rattle.token_table.specs.Credentials.{AskedAgent}
+use Rattle.pod_pipe.specs.declared.holder.Answer.{Answer}
+use Rattle.pod_pipe.specs.declared.holder.AnswerFault.{AnswerFault}
+use Rattle.pod_pipe.specs.declared.holder.AnswerFault.TheVariants.{NoMemory, DiskFault}
+
+-- The counts of faults of the two disks of a store. They are 0 where the pod is in memory.
+pub record Faults : Type 0 where
+  pub first : ℕ
+  pub second : ℕ
+
+-- So many faults were counted at least, unless a count is at the last number that it can hold; and
+-- no count fell.
+pub record CountsDiskFaults (many : ℕ) (old new : Faults) : Type 0 where
+  pub first : old.first ≤ new.first
+  pub second : old.second ≤ new.second
+  pub counted : new.first < 2 ^ 64 - 1 → new.second < 2 ^ 64 - 1
+      → many + (old.first + old.second) ≤ new.first + new.second
+
+-- A holder that stood for one history stands for another one, and has come to it so.
+abbrev pub Goes : {H : Type 0} → (H → History → Type 0) → (H → History → H → History → Type 0) → H
+    → History → H → History → Type 0
+Goes stands follows old history new more = stands new more × follows old history new more
+
+-- one where a disk failed, and else none
+abbrev pub faults_in : {T : Type 0} → Result T AnswerFault → ℕ
+faults_in (Ok answer) = 0
+faults_in (Err NoMemory) = 0
+faults_in (Err DiskFault) = 1
+
+-- The moment of a request at the end of a history, at a moment of the clock: that of a change is no
+-- earlier than that of the last entry.
+abbrev pub moment_of_request : History → Request → ℕ → ℕ
+moment_of_request history request clock = if is_change request.method
+    then max clock (moment_before history (end_of history)) else clock
+
+-- the stamp of a request at the end of a history
+abbrev pub stamp_of_request : History → Request → Stamp → Stamp
+stamp_of_request history request stamp =
+    record stamp { moment = record { 0 = moment_of_request history request stamp.moment.0 } }
+
+-- The request was answered at the end of the history by the reply there. The holder then has gone on
+-- to the history with the reply's entry, where it has one.
+pub record IsAnswerAtEnd (goes : History → Type 0) (history : History) (request : Request)
+    (asked : AskedAgent) (stamp : Stamp) (answer : Answer) : Type 0 where
+  pub reply : Reply
+  pub reply_is : IsReply (pod_at history (end_of history)) request asked (end_of history)
+      (stamp_of_request history request stamp) reply
+  pub response : answer.response ≡ reply.response
+  pub place : answer.place ≡ end_of history
+  pub moment : answer.moment.0 ≡ moment_of_request history request stamp.moment.0
+  pub gone : goes (longer history (option_to_list reply.entry))

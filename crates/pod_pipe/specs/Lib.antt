@@ -1,0 +1,12 @@
+-- What public clauses cite: what a holder of a pod is, how agents are asked, which sessions are
+-- served, and how a connection ends.
+pub mod Holders
+pub mod Memory
+pub mod Agents
+pub mod Trails
+pub mod Served
+pub mod Streams
+pub mod Statuses
+-- internal: cited by private clauses alone
+pub mod Turns
+pub mod Talks

@@ -1,0 +1,26 @@
+-- A pod in memory, over a history.
+use Rattle.std.specs.Prelude.{◌≡◌, ℕ}
+use Rattle.pod_core.specs.History.{History, IsHistory, end_of, moment_before, pod_at}
+use Rattle.pod_rows.specs.Pod.{Pod}
+use Rattle.pod_pipe.specs.Holders.{Faults}
+use Rattle.pod_pipe.specs.declared.memory.MemoryPod.{MemoryPod}
+
+-- The pod is the one at the end of the history, with the number of the next entry and the moment of
+-- the last one, 0 where there is none.
+pub record IsMemoryOf (pod : Pod) (next last : ℕ) (history : History) : Type 0 where
+  pub is_history : IsHistory history
+  pub pod_is : pod ≡ pod_at history (end_of history)
+  pub next_is : next ≡ end_of history
+  pub last_is : last ≡ moment_before history (end_of history)
+
+-- it has no disks
+abbrev pub no_faults : Faults
+no_faults = record { first = 0; second = 0 }
+
+-- the histories that a pod in memory stands for
+abbrev pub memory_stands : MemoryPod → History → Type 0
+memory_stands pod = IsMemoryOf pod.state.pod pod.state.next pod.last.0
+
+-- no disk is left behind
+abbrev pub nothing_follows : MemoryPod → History → MemoryPod → History → Type 0
+nothing_follows old history new more = Unit {0}

@@ -1,0 +1,82 @@
+-- What one connection writes of a pod, over a history that the pod's holder stands for.
+use Rattle.std.specs.Prelude.{◌≡◌, ℕ, ◌+◌, Bool, List, [], ◌∷◌, Option}
+use Rattle.std.specs.List.{flat_map}
+use mathlib.Core.List.{IsPrefix}
+use Rattle.http_conn.specs.Messages.{Messages}
+use Rattle.pod_base.specs.declared.heard.Heard.{Heard}
+use Rattle.pod_base.specs.declared.request.Request.{Request}
+use Rattle.pod_core.specs.History.{History, IsHistory, end_of, longer}
+use Rattle.pod_core.specs.Output.{output}
+use Rattle.pod_core.specs.Session.{Outcome, answered, no_memory, disk_fault, Item, Session}
+use Rattle.pod_core.specs.Session.{IsSession, IsWhole, ends_upgraded, entries_of}
+use Rattle.token_table.specs.Credentials.{AskedAgent}
+use Rattle.pod_pipe.specs.Holders.{Faults, CountsDiskFaults, Goes}
+use Rattle.pod_pipe.specs.Streams.{ExtendsBy, Reads}
+use Rattle.pod_pipe.specs.Trails.{trail_of}
+
+-- the history with the entries of these items
+abbrev pub grown : History → List Item → History
+grown begun items = longer begun (flat_map entries_of items)
+
+-- how many items met a disk fault
+abbrev pub fault_on : Outcome → ℕ
+fault_on (answered place reply) = 0
+fault_on no_memory = 0
+fault_on disk_fault = 1
+
+abbrev pub disk_faults : List Item → ℕ
+disk_faults [] = 0
+disk_faults (item ∷ items) = fault_on item.outcome + disk_faults items
+
+-- The session is that of connection 1, from the end of this history on. Its own history is that one
+-- with exactly the items' entries, each of which applies.
+pub record Continues (may_give : ℕ → Type 0) (asking : Request → AskedAgent) (begun : History)
+    (events : List Heard) (session : Session) : Type 0 where
+  pub conn : session.conn ≡ 1
+  pub history : session.history ≡ grown begun session.items
+  pub is_history : IsHistory session.history
+  pub is_session : IsSession may_give asking events (end_of begun) session
+      (end_of session.history)
+
+-- What is left of a holder that stood for the history: it has gone on to the history with the items'
+-- entries, and each item that met a disk fault was counted.
+pub record Leaves {H : Type 0} (stands : H → History → Type 0) (faults : H → Faults)
+    (follows : H → History → H → History → Type 0) (begun : History) (old new : H)
+    (items : List Item) : Type 0 where
+  pub gone : Goes stands follows old begun new (grown begun items)
+  pub counted : CountsDiskFaults (disk_faults items) (faults old) (faults new)
+
+module _ (may_give : ℕ → Type 0) (asking : Request → AskedAgent) (trails : Bool) (begun : History)
+    (leaves : List Item → Type 0) where
+  -- All that was heard was served: the bytes written are those of a whole session over it, and the
+  -- trail is that of its items. Its last item switched protocols, or none did.
+  pub record IsServed (upgraded : Bool) (events : List Heard) (written trail : List ℕ)
+      : Type 0 where
+    pub session : Session
+    pub continues : Continues may_give asking begun events session
+    pub left : leaves session.items
+    pub whole : IsWhole events session
+    pub last : ends_upgraded session.items ≡ upgraded
+    pub bytes : written ≡ output events session
+    pub lines : trail ≡ trail_of trails session.items
+
+  -- Serving stopped: the bytes written begin those of a session over what was heard, and the trail
+  -- begins that of its items.
+  pub record IsStopped (events : List Heard) (written trail : List ℕ) : Type 0 where
+    pub session : Session
+    pub continues : Continues may_give asking begun events session
+    pub left : leaves session.items
+    pub bytes : IsPrefix written (output events session)
+    pub lines : IsPrefix trail (trail_of trails session.items)
+
+  -- The bytes written begin those of a session over the bytes read, whatever the end: over each parse
+  -- of these, and a text has exactly one.
+  pub record WritesSession (old_input new_input old_output new_output : Option (List ℕ))
+      : Type 0 where
+    pub read : List ℕ
+    pub written : List ℕ
+    pub trail : List ℕ
+    pub reads : Reads read old_input new_input
+    pub writes : ExtendsBy written old_output new_output
+    pub session : (all : List Heard) (rest : ℕ) → Messages read all rest
+        → IsStopped all written trail

@@ -1,0 +1,159 @@
+-- How a connection ends, and what it has read, written and reported then.
+use Rattle.std.specs.Prelude.{◌≡◌, ◌⊎◌, ℕ, ◌^◌, ◌<◌, ◌≤◌, Bool, List, [], ◌++◌, length, take}
+use Rattle.std.specs.Prelude.{Option, Some, None, true, false, codes, decimal}
+use Rattle.http_conn.specs.Messages.{Messages, AreFirstEvents, StaysOpen}
+use Rattle.http_conn.specs.declared.events.TheConstants.{REQUEST_LIMIT}
+use Rattle.pod_base.specs.declared.heard.Heard.{Heard}
+use Rattle.pod_base.specs.declared.request.Request.{Request}
+use Rattle.pod_base.specs.Counts.{CountIncreased}
+use Rattle.pod_core.specs.History.{History}
+use Rattle.pod_core.specs.Session.{Item, requests_of, bad_status}
+use Rattle.token_table.specs.Credentials.{AskedAgent}
+use Rattle.pod_pipe.specs.Streams.{ExtendsBy, Reads, AtEnd}
+use Rattle.pod_pipe.specs.Served.{IsServed, IsStopped}
+use Rattle.pod_pipe.specs.declared.status.PipeEnd.{PipeEnd}
+use Rattle.pod_pipe.specs.declared.status.PipeEnd.TheVariants.{Peer, Cut, Closed, Limit, Upgraded}
+use Rattle.pod_pipe.specs.declared.status.PipeEnd.TheVariants.{Bad, ReadFault, WriteFault, NoMemory}
+use Rattle.pod_pipe.specs.declared.status.PipeEnd.TheVariants.{ReadLimit}
+
+-- the status of each end
+abbrev pub status_of : PipeEnd → ℕ
+status_of Peer = 0
+status_of Closed = 0
+status_of Limit = 0
+status_of Upgraded = 0
+status_of ReadFault = 3
+status_of WriteFault = 4
+status_of NoMemory = 7
+status_of (Cut rest) = 12
+status_of (Bad status) = 13
+status_of ReadLimit = 14
+
+-- a last request ended the connection: it asks for that, or it is the 10,000th
+abbrev pub IsLastHeard : List Heard → Type 0
+IsLastHeard heard = (StaysOpen 0 heard → ⊥) × (bad_status heard ≡ None)
+
+-- what is heard in the bytes begins so
+abbrev pub Hears : List ℕ → List Heard → Type 0
+Hears read heard = (all : List Heard) × (rest : ℕ) × Messages read all rest
+    × ((more : List Heard) × (all ≡ heard ++ more))
+
+-- what is heard in a front of the bytes begins so, and each reading of all of them does
+pub record HearsFirst (read : List ℕ) (heard : List Heard) : Type 0 where
+  pub front : AreFirstEvents read heard
+  pub whole : (all : List Heard) (rest : ℕ) → Messages read all rest → (more : List Heard)
+      × (all ≡ heard ++ more)
+
+-- What was heard in the bytes that were read, and what is left of them, by how the connection
+-- ended. For want of memory the last of these bytes may not have been heard. More may be heard
+-- behind a request that switched protocols.
+abbrev pub IsHeard : PipeEnd → List ℕ → List Heard → Option (List ℕ) → Type 0
+IsHeard Peer read heard left = Messages read heard 0 × StaysOpen 0 heard × AtEnd left
+IsHeard (Cut rest) read heard left = Messages read heard rest × (0 < rest) × StaysOpen 0 heard
+    × AtEnd left
+IsHeard Closed read heard left = Messages read heard 0 × IsLastHeard heard
+    × (length (requests_of heard) < REQUEST_LIMIT)
+IsHeard Limit read heard left = Messages read heard 0 × IsLastHeard heard
+    × (length (requests_of heard) ≡ REQUEST_LIMIT)
+IsHeard Upgraded read heard left = (rest : ℕ) × Messages read heard rest
+IsHeard (Bad status) read heard left = Messages read heard 0 × (bad_status heard ≡ Some status)
+IsHeard ReadFault read heard left = (rest : ℕ) × Messages read heard rest × StaysOpen 0 heard
+IsHeard ReadLimit read heard left = (rest : ℕ) × Messages read heard rest × StaysOpen 0 heard
+    × (2 ^ 40 ≤ length read)
+IsHeard WriteFault read heard left = Hears read heard
+IsHeard NoMemory read heard left = HearsFirst read heard
+
+module _ (may_give : ℕ → Type 0) (asking : Request → AskedAgent) (trails : Bool) (begun : History)
+    (leaves : List Item → Type 0) where
+  -- What was written of it, and the trail. All was served, up to a request that switched protocols
+  -- where one did; where a write failed or no memory was left, they begin those of a session.
+  abbrev pub IsWritten : PipeEnd → List Heard → List ℕ → List ℕ → Type 0
+  IsWritten WriteFault heard written trail =
+      IsStopped may_give asking trails begun leaves heard written trail
+  IsWritten NoMemory heard written trail =
+      IsStopped may_give asking trails begun leaves heard written trail
+  IsWritten Upgraded heard written trail =
+      IsServed may_give asking trails begun leaves true heard written trail
+  IsWritten _ heard written trail =
+      IsServed may_give asking trails begun leaves false heard written trail
+
+  -- The input gave the bytes that were read, the output took those that were written, and the error
+  -- sink the trail: those of a session over what was heard.
+  pub record Pipes (end : PipeEnd) (old_input new_input old_output new_output old_errors new_errors
+      : Option (List ℕ)) : Type 0 where
+    pub read : List ℕ
+    pub heard : List Heard
+    pub written : List ℕ
+    pub trail : List ℕ
+    pub reads : Reads read old_input new_input
+    pub hears : IsHeard end read heard new_input
+    pub serves : IsWritten end heard written trail
+    pub writes : ExtendsBy written old_output new_output
+    pub trails_too : ExtendsBy trail old_errors new_errors
+
+-- the last line on the error sink
+abbrev pub end_line : PipeEnd → List ℕ
+end_line Peer = codes "end: peer\n"
+end_line Closed = codes "end: closed\n"
+end_line Limit = codes "end: limit\n"
+end_line Upgraded = codes "end: upgraded\n"
+end_line (Cut rest) = codes "end: cut " ++ decimal rest ++ codes "\n"
+end_line (Bad status) = codes "end: bad " ++ decimal status ++ codes "\n"
+end_line _ = []
+
+-- the sink has a part of the line too, and not all of it: its count rose
+abbrev pub AddsPart : List ℕ → Option (List ℕ) → Option (List ℕ) → ℕ → ℕ → Type 0
+AddsPart line old new before after = CountIncreased before after
+    × ((count : ℕ) × (count < length line) × ExtendsBy (take count line) old new)
+
+-- the sink has the line too, or a part of it where its count rose
+abbrev pub AddsOrPart : List ℕ → Option (List ℕ) → Option (List ℕ) → ℕ → ℕ → Type 0
+AddsOrPart line old new before after =
+    ExtendsBy line old new ⊎ AddsPart line old new before after
+
+-- What the error sink has after the trail: the line of the end, or a part of it where its count
+-- rose. A line of status 0 that fails makes the end a write fault; another that fails changes
+-- nothing. After another write fault no line follows.
+abbrev pub Tells : PipeEnd → Option (List ℕ) → Option (List ℕ) → ℕ → ℕ → Type 0
+Tells Peer old new before after = ExtendsBy (end_line Peer) old new
+Tells Closed old new before after = ExtendsBy (end_line Closed) old new
+Tells Limit old new before after = ExtendsBy (end_line Limit) old new
+Tells Upgraded old new before after = ExtendsBy (end_line Upgraded) old new
+Tells (Cut rest) old new before after = AddsOrPart (end_line (Cut rest)) old new before after
+Tells (Bad status) old new before after = AddsOrPart (end_line (Bad status)) old new before after
+Tells WriteFault old new before after = (new ≡ old) ⊎ ((end : PipeEnd) × (status_of end ≡ 0)
+    × AddsPart (end_line end) old new before after)
+Tells NoMemory old new before after = new ≡ old
+Tells ReadFault old new before after = new ≡ old
+Tells ReadLimit old new before after = new ≡ old
+
+-- whether a line tells of the end
+abbrev pub IsTold : PipeEnd → Type 0
+IsTold ReadFault = ⊥
+IsTold WriteFault = ⊥
+IsTold NoMemory = ⊥
+IsTold ReadLimit = ⊥
+IsTold _ = Unit {0}
+
+-- How a connection ends that ended so: a line that can't be written or made is a write fault or
+-- want of memory.
+abbrev pub ComesOf : PipeEnd → PipeEnd → Type 0
+ComesOf end told = (told ≡ end) ⊎ (IsTold end × ((told ≡ WriteFault) ⊎ (told ≡ NoMemory)))
+
+module _ (may_give : ℕ → Type 0) (asking : Request → AskedAgent) (trails : Bool) (begun : History)
+    (leaves : List Item → Type 0) where
+  -- The same with the last line after the trail.
+  pub record PipesAndTells (end : PipeEnd) (old_input new_input old_output new_output old_errors
+      new_errors : Option (List ℕ)) (before after : ℕ) : Type 0 where
+    pub trailed : Option (List ℕ)
+    pub pipes : Pipes may_give asking trails begun leaves end old_input new_input old_output
+        new_output old_errors trailed
+    pub tells : Tells end trailed new_errors before after
+
+-- nothing was read or written
+pub record Untouched
+    (old_input new_input old_output new_output old_errors new_errors : Option (List ℕ))
+    : Type 0 where
+  pub input : new_input ≡ old_input
+  pub output : new_output ≡ old_output
+  pub errors : new_errors ≡ old_errors

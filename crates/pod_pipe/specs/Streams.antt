@@ -1,0 +1,36 @@
+-- What a run reads of its input and adds to its output.
+use Rattle.std.specs.Prelude.{◌≡◌, ◌⊎◌, ℕ, ◌+◌, ◌-◌, ◌^◌, ◌<◌, ◌≤◌, List, [], ◌++◌, Option}
+use Rattle.std.specs.Option.{option_map}
+use Rattle.pod_io.specs.Counts.{next_count}
+use Rattle.pod_io.specs.Visible.{IfVisible}
+use Rattle.pod_pipe.specs.declared.status.PipeEnd.{PipeEnd}
+use Rattle.pod_pipe.specs.declared.status.PipeEnd.TheVariants.{Peer, Cut, ReadLimit, WriteFault}
+use Rattle.pod_pipe.specs.declared.status.PipeEnd.TheVariants.{NoMemory}
+
+-- these bytes were read: they preceded what is left of the input
+abbrev pub Reads : List ℕ → Option (List ℕ) → Option (List ℕ) → Type 0
+Reads bytes old new = old ≡ option_map (λ rest. bytes ++ rest) new
+
+-- the input is at its end, where it shows that
+abbrev pub AtEnd : Option (List ℕ) → Type 0
+AtEnd rest = IfVisible rest (λ bytes. bytes ≡ [])
+
+-- a sink has these bytes too, after those that it had
+abbrev pub ExtendsBy : List ℕ → Option (List ℕ) → Option (List ℕ) → Type 0
+ExtendsBy bytes old new = new ≡ option_map (λ taken. taken ++ bytes) old
+
+-- The reads that found the end of the input: the last read of a run that ended there, and no other.
+-- So nothing is read after the end. A run whose last line failed may have ended there too.
+abbrev pub MeetsEnd : PipeEnd → ℕ → ℕ → Type 0
+MeetsEnd Peer old new = new ≡ next_count old
+MeetsEnd (Cut rest) old new = new ≡ next_count old
+MeetsEnd WriteFault old new = (new ≡ old) ⊎ (new ≡ next_count old)
+MeetsEnd NoMemory old new = (new ≡ old) ⊎ (new ≡ next_count old)
+MeetsEnd _ old new = new ≡ old
+
+-- The counts of an input: its reads never fall, and there were 2^40 of them where a run ended by
+-- their limit. A count of 2^64 - 1 holds no more.
+pub record CountsInput (end : PipeEnd) (old_reads new_reads old_ends new_ends : ℕ) : Type 0 where
+  pub reads : old_reads ≤ new_reads
+  pub limit : end ≡ ReadLimit → new_reads < 2 ^ 64 - 1 → old_reads + 2 ^ 40 ≤ new_reads
+  pub ends : MeetsEnd end old_ends new_ends

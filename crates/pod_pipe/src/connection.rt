@@ -1,0 +1,73 @@
+//! [`pipe`]: one connection over two streams, with its last line.
+ghost use Rattle.std.specs.Prelude.{◌≡◌, ◌≤◌, ◌⊎◌};
+ghost use Rattle.pod_base.specs.Counts.{CountIncreased};
+ghost use Rattle.pod_core.specs.History.{History};
+ghost use Rattle.pod_pipe.specs.Agents.{asking_of};
+ghost use Rattle.pod_pipe.specs.Served.{Leaves, WritesSession};
+ghost use Rattle.pod_pipe.specs.Statuses.{PipesAndTells};
+ghost use Rattle.pod_pipe.specs.Streams.{CountsInput};
+
+use crate::holder::PodHolder;
+use crate::options::PipeOptions;
+use crate::report_end::write_end_line;
+use crate::serve::serve;
+use crate::status::PipeEnd;
+use crate::talk::Talk;
+use pod_io::{Clock, Sink, Source};
+use std::alloc::Global;
+
+/// How a connection ended, and what holds its pod.
+#[derive(Drop)]
+pub struct Piped<H> {
+    pub end: PipeEnd,
+    pub holder: H,
+}
+
+/// Serves the input as connection 1 of the pod that is held, writes the responses to the output and
+/// the trail to the error sink, where one is wanted, and tells there by a last line how it ended.
+///
+/// Each piece is answered before the next one is read. For each history that the holder stood for,
+/// what was written is the output of a session from its end on, and the holder stands for that
+/// history with the entries of the session's items.
+pub fn pipe<H: PodHolder, S: Source, K: Sink, E: Sink, C: Clock>(
+    alloc: Global,
+    holder: H,
+    options: &PipeOptions,
+    input: &mut S,
+    output: &mut K,
+    errors: &mut E,
+    clock: &C,
+) -> Piped<H>
+    requires { (history : History) × H.stands holder history }
+
+    // For each history that it stood for.
+    ensures pipes { (history : History) → H.stands holder history
+        → PipesAndTells (C.may_give clock.now) (asking_of options.now.agents) options.now.trail
+        history (Leaves H.stands H.faults H.follows history holder result.holder) result.end
+        (S.rest input.old) (S.rest input.new) (K.taken output.old) (K.taken output.new)
+        (E.taken errors.old) (E.taken errors.new) (E.faults errors.old) (E.faults errors.new) }
+
+    // Whatever the end, what was written begins the output of a session over what was read.
+    ensures session { (history : History) → H.stands holder history
+        → WritesSession (C.may_give clock.now) (asking_of options.now.agents) options.now.trail
+        history (Leaves H.stands H.faults H.follows history holder result.holder)
+        (S.rest input.old) (S.rest input.new) (K.taken output.old) (K.taken output.new) }
+    ensures counts { CountsInput result.end (S.reads input.old) (S.reads input.new)
+        (S.ends input.old) (S.ends input.new) }
+
+    // A fault is answered only where a count rose.
+    ensures read_fault { result.end ≡ PipeEnd.ReadFault
+        → CountIncreased (S.faults input.old) (S.faults input.new) }
+    ensures write_fault { result.end ≡ PipeEnd.WriteFault
+        → CountIncreased (K.faults output.old) (K.faults output.new)
+        ⊎ CountIncreased (E.faults errors.old) (E.faults errors.new) }
+    ensures faults { S.faults input.old ≤ S.faults input.new }
+    ensures writes { K.faults output.old ≤ K.faults output.new }
+    ensures tells { E.faults errors.old ≤ E.faults errors.new }
+{
+    let mut talk = Talk { holder, number: 0 };
+    let end = serve(alloc, &mut talk, options, input, output, errors, clock);
+    let end = write_end_line(alloc, end, errors);
+    let Talk { holder, number: _ } = talk;
+    Piped { end, holder }
+}

@@ -1,0 +1,49 @@
+//! Statuses, and how connections end.
+ghost use Rattle.std.specs.Prelude.{◌≡◌};
+ghost use Rattle.pod_pipe.specs.Statuses.{status_of};
+
+/// The status of a program, as it ends.
+#[derive(Clone, Copy, Debug, PartialEq, Eq)]
+pub struct Status(pub u8);
+
+/// How a connection over two streams ended.
+#[derive(Clone, Copy, Debug, PartialEq, Eq)]
+pub enum PipeEnd {
+    /// The input ended between messages.
+    Peer,
+    /// The input ended inside a message, of which there were so many bytes.
+    Cut { rest: usize },
+    /// A request asked for it, or has a version whose connections don't persist.
+    Closed,
+    /// The last request was answered that a connection may have.
+    Limit,
+    /// A request was answered by a switch of protocols.
+    Upgraded,
+    /// Bytes that are no message were refused with that status.
+    Bad { status: u16 },
+    /// A read failed.
+    ReadFault,
+    /// A write failed.
+    WriteFault,
+    /// No memory was left to go on.
+    NoMemory,
+    /// The bound on reads was reached.
+    ReadLimit,
+}
+
+impl PipeEnd {
+    /// Its status.
+    pub fn status(self) -> Status
+        ensures { result.0 ≡ status_of self }
+    {
+        match self {
+            PipeEnd::Peer | PipeEnd::Closed | PipeEnd::Limit | PipeEnd::Upgraded => Status(0),
+            PipeEnd::ReadFault => Status(3),
+            PipeEnd::WriteFault => Status(4),
+            PipeEnd::NoMemory => Status(7),
+            PipeEnd::Cut { rest: _ } => Status(12),
+            PipeEnd::Bad { status: _ } => Status(13),
+            PipeEnd::ReadLimit => Status(14),
+        }
+    }
+}
