@@ -1,0 +1,26 @@
+use Rattle.std.proofs.Common.{Err, ap, refl, ◌∙◌}
+use Rattle.token_table.specs.Credentials.{asked_view}
+use Rattle.store_pipe.proofs.StoredLemmas.{committed, faulted, no_fault, one_fault, stays}
+use Rattle.store_pipe.proofs.stored.StoredPod.change.Goals as goal
+
+pub commit-requires-clause-stands : goal.commit-requires-clause-stands
+commit-requires-clause-stands g c =
+    let held = c.requires.stands in
+    (held.0, held.1.place, held.1.doubt, held.1.kept)
+
+pub returns-in-Ok-clause-answered : goal.returns-in-Ok-clause-answered
+returns-in-Ok-clause-answered g c = λ history stands.
+    let moments = c.change_moment-moment.ensures history stands in
+    committed g.D.Disk.image g.D.Disk.moment g.D.Disk.left_since c.args.self.now.keeper c.commit.new.self history c.args.request.now (asked_view c.args.asked.now) c.args.stamp
+    (λ place doubt kept. c.commit.ensures.pairs history place doubt kept) c.commit.ensures.sure c.commit.ensures.long c.requires.change stands _ c.change_moment-moment.result.0 refl moments
+    (c.in-Ok.ensures.done history stands.place stands.doubt stands.kept)
+
+pub returns-in-Err-NoMemory-clause-kept : goal.returns-in-Err-NoMemory-clause-kept
+returns-in-Err-NoMemory-clause-kept g c = λ history stands.
+    stays g.D.Disk.image g.D.Disk.moment g.D.Disk.left_since c.args.self.now.keeper c.commit.new.self history (c.commit.ensures.memory (c.in-Err-NoMemory.is ∙ ap Err c.in-Err-NoMemory.field-0-is)) stands
+
+pub returns-in-Err-DiskFault-clause-kept : goal.returns-in-Err-DiskFault-clause-kept
+returns-in-Err-DiskFault-clause-kept g c = λ history stands.
+    faulted g.D.Disk.image g.D.Disk.moment g.D.Disk.left_since c.args.self.now.keeper c.commit.new.self history c.args.request.now (asked_view c.args.asked.now) c.args.stamp
+    (λ place doubt kept. c.commit.ensures.pairs history place doubt kept) c.commit.ensures.sure c.commit.ensures.long stands
+    (c.commit.ensures.fault (c.in-Err-DiskFault.is ∙ ap Err c.in-Err-DiskFault.field-0-is) history stands.place stands.doubt stands.kept)

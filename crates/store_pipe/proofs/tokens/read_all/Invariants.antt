@@ -1,0 +1,10 @@
+use Rattle.std.proofs.Common.{◌≡◌, ◌+◌, ◌-◌, ◌^◌, ◌<◌, ◌≤◌}
+use Rattle.pod_pipe.specs.Streams.{Reads}
+use Rattle.store_pipe.proofs.tokens.read_all.Given as goal
+
+-- what was read so far preceded what is left, each read was counted, and no count of faults fell
+abbrev pub invariant-reads : goal.invariant-reads
+invariant-reads g l =
+    Reads l.text.items (g.T.Source.rest l.fn.source) (g.T.Source.rest l.source)
+    × (g.T.Source.faults l.fn.source ≤ g.T.Source.faults l.source)
+    × (g.T.Source.reads l.source < 2 ^ 64 - 1 → g.T.Source.reads l.fn.source + l.counter ≤ g.T.Source.reads l.source)

@@ -1,0 +1,6 @@
+-- What public clauses cite: the pod of a store, the token table, and how a run goes.
+pub mod StoredPods
+pub mod Tables
+pub mod StoreRuns
+-- internal: laws of the pods of stores
+pub mod StoredLaws

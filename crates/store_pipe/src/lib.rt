@@ -1,0 +1,28 @@
+//! `pipe` over a store: one connection of the pod on its two disks.
+//!
+//! ```ignore
+//! // agents by the token table of the place
+//! let status = pipe_store(
+//!     alloc, true, false, &mut input, &mut output, &mut errors, &mut place, &clock);
+//! ```
+//!
+//! Proved of [`pipe_store`], for every disk, stream and clock that meets its contract (`runs`): the
+//! store is opened, or it isn't and the refusal has its cause and its line; then the token table is
+//! read, where agents are known by it, or the fault of the table is told; then the connection is
+//! served as [`pod_pipe::pipe`] says, for each history that the opened keeper stood for. The keeper
+//! is left standing for that history with exactly the entries of the session's items, and came to it
+//! by commits: at each moment of each of them, each pair of crash images stands for the history
+//! before it, or for that with the entry in doubt or the one under way. A fault comes only where a
+//! count increased (`read_fault`, `write_fault`), and the disks are put back (`place`).
+//!
+//! It stands on `pod_live` for the store, on `pod_pipe` for the connection, on `token_table` for
+//! agents, and on `line_sink` for lines.
+#![tactic(auto)]
+
+mod lines;
+mod serving;
+mod stored;
+mod tokens;
+
+pub use serving::pipe_store;
+pub use tokens::TableFault;

@@ -1,0 +1,129 @@
+//! [`StoredPod`]: the pod of a store, held by its keeper.
+ghost use Rattle.std.specs.Prelude.{◌≡◌, IfOk, OnErr, IsErrOf, IsTrue, false, max};
+ghost use Rattle.pod_core.specs.History.{History, end_of, moment_before};
+ghost use Rattle.reply_laws.specs.Granted.{is_change};
+ghost use Rattle.reply_laws.specs.Sent.{IsSent};
+ghost use Rattle.token_table.specs.Credentials.{asked_view};
+ghost use Rattle.pod_pipe.specs.Holders.{CountsDiskFaults, Goes, IsAnswerAtEnd, faults_in};
+ghost use Rattle.store_pipe.specs.StoredPods.{Passes, StandsFor, disk_faults};
+
+use pod_base::{Mem, Moment, Request, Stamp};
+use pod_core::{Replied, answer, is_change};
+use pod_disk::Disk;
+use pod_live::{CommitFault, Done, Keeper};
+use pod_pipe::{Answer, AnswerFault, PodHolder, moment_after};
+use std::alloc::Global;
+use token_table::Asked;
+
+/// The pod of a store, held by its keeper.
+#[derive(Drop)]
+pub(crate) struct StoredPod<D: Disk> {
+    pub keeper: Keeper<D>,
+}
+
+impl<D: Disk> StoredPod<D> {
+    /// The moment of a change: no earlier than that of the last entry.
+    fn change_moment(&self, moment: Moment) -> Moment
+        ensures { (history : History) → StandsFor D.image self.now.keeper history
+            → result.0 ≡ max moment.0 (moment_before history (end_of history)) }
+    {
+        match self.keeper.last() {
+            Some(last) => moment_after(moment, true, last),
+            None => moment,
+        }
+    }
+
+    /// Answers a request that is no change, at the present version.
+    fn read(&self, alloc: Global, request: &Request, asked: &Asked<'_>, stamp: Stamp) -> Mem<Answer>
+        requires { is_change request.now.method ≡ false }
+        ensures answered { IfOk result (λ answer. (history : History)
+            → StandsFor D.image self.now.keeper history
+            → IsAnswerAtEnd (Goes (StandsFor D.image) (Passes D.image D.moment D.left_since)
+            self.now.keeper history self.now.keeper) history request.now (asked_view asked.now)
+            stamp answer) }
+        ensures sent { IfOk result (λ answer. IsSent answer.response) }
+    {
+        let place = self.keeper.seq();
+        let moment = stamp.moment;
+        let version = &**self.keeper.version();
+        let Replied { response, entry: _ } = answer(alloc, version, request, asked, place, stamp)?;
+        Ok(Answer {
+            response,
+            place,
+            moment,
+        })
+    }
+
+    /// Commits a change.
+    fn change(
+        &mut self,
+        alloc: Global,
+        request: &Request,
+        asked: &Asked<'_>,
+        stamp: Stamp,
+    ) -> Result<Answer, AnswerFault>
+        requires change { IsTrue (is_change request.now.method) }
+        requires stands { (history : History) × StandsFor D.image self.old.keeper history }
+        ensures answered { IfOk result (λ answer. (history : History)
+            → StandsFor D.image self.old.keeper history
+            → IsAnswerAtEnd (Goes (StandsFor D.image) (Passes D.image D.moment D.left_since)
+            self.old.keeper history self.new.keeper) history request.now (asked_view asked.now)
+            stamp answer) }
+        ensures sent { IfOk result (λ answer. IsSent answer.response) }
+        ensures kept { OnErr result ((history : History)
+            → StandsFor D.image self.old.keeper history
+            → Goes (StandsFor D.image) (Passes D.image D.moment D.left_since) self.old.keeper
+            history self.new.keeper history) }
+        ensures faults { CountsDiskFaults (faults_in result) (disk_faults D.faults self.old.keeper)
+            (disk_faults D.faults self.new.keeper) }
+    {
+        let moment = self.change_moment(stamp.moment);
+        match self.keeper.commit(alloc, request, asked, stamp) {
+            Ok(done) => {
+                let Done { response, place } = done;
+                Ok(Answer {
+                    response,
+                    place,
+                    moment,
+                })
+            }
+            Err(CommitFault::NoMemory) => Err(AnswerFault::NoMemory),
+            Err(CommitFault::DiskFault) => Err(AnswerFault::DiskFault),
+        }
+    }
+}
+
+impl<D: Disk> PodHolder for StoredPod<D> {
+    ghost use Rattle.store_pipe.specs.StoredPods.{Passes, StandsFor, disk_faults};
+    ghost use Rattle.store_pipe.specs.StoredLaws.{kept_history, no_commits, joined};
+
+    ghost stands = { λ pod history. StandsFor D.image pod.keeper history };
+
+    ghost follows = { λ old history new more.
+        Passes D.image D.moment D.left_since old.keeper history new.keeper more };
+
+    ghost faults = { λ pod. disk_faults D.faults pod.keeper };
+
+    fn answer(
+        &mut self,
+        alloc: Global,
+        request: &Request,
+        asked: &Asked<'_>,
+        stamp: Stamp,
+    ) -> Result<Answer, AnswerFault> {
+        if is_change(request.method) {
+            self.change(alloc, request, asked, stamp)
+        } else {
+            match self.read(alloc, request, asked, stamp) {
+                Ok(answer) => Ok(answer),
+                Err(_none) => Err(AnswerFault::NoMemory),
+            }
+        }
+    }
+
+    ghost legal = { λ pod history stands. kept_history D.image pod.keeper history stands };
+
+    ghost still = { λ pod history. no_commits D.image D.moment D.left_since pod.keeper history };
+
+    ghost joins = { λ a b c h i j. joined D.image D.moment D.left_since a.keeper b.keeper c.keeper h i j };
+}
