@@ -1,9 +1,9 @@
 //! Runs cases of stored forms: reads one from each line of standard input, and prints it with the
-//! value of the form as one more field. The first field of a case is the call, and each of the others
-//! a piece of the form: its bytes as hexadecimal digits, and after a space what they are.
+//! value of the form as one more field. The first field of a case is the call, and each of the
+//! others a piece of the form: its bytes as hexadecimal digits, and after a space what they are.
 //!
-//! What is shown is a copy of the value. After it come `=`, for an entry the size of its form in format
-//! 2, and `same` where encoding the value gives the bytes again.
+//! What is shown is a copy of the value. After it come `=`, for an entry the size of its form in
+//! format 2, and `same` where encoding the value gives the bytes again.
 #![tactic(auto)]
 
 mod show;

@@ -1,5 +1,6 @@
 -- The precondition fields of a request.
-use Rattle.std.specs.Prelude.{◌≡◌, ℕ, Bool, not, ◌||◌, if◌then◌else◌, List, [], ◌∷◌, ◌++◌, filter, find, Option, codes, bytes_eq}
+use Rattle.std.specs.Prelude.{◌≡◌, ℕ, Bool, not, ◌||◌, if◌then◌else◌, List, [], ◌∷◌, ◌++◌, filter}
+use Rattle.std.specs.Prelude.{find, Option, codes, bytes_eq}
 use Rattle.std.specs.List.{list_any}
 use Rattle.std.specs.Option.{option_map, option_and_then}
 use Rattle.httpdate.specs.Date.{parse_secs}
@@ -28,8 +29,8 @@ matching fields = joined_value (codes "if-match") fields
 abbrev pub none_matching : List Field → Option (List ℕ)
 none_matching fields = joined_value (codes "if-none-match") fields
 
--- The date of the first field of a name, in seconds since the beginning of 1970; none where it can't
--- be read.
+-- The date of the first field of a name, in seconds since the beginning of 1970; none where it
+-- can't be read.
 abbrev pub date_of : List ℕ → List Field → Option ℕ
 date_of name fields = option_and_then parse_secs (option_map (λ f. f.value) (find (is_named name) fields))
 

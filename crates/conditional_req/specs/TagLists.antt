@@ -3,7 +3,8 @@ use Rattle.std.specs.Prelude.{ℕ, Bool, List, codes, bytes_eq}
 use Rattle.std.specs.List.{list_all, list_any}
 use Rattle.field_list.specs.Elements.{elements}
 use Rattle.field_list.specs.declared.quoting.Quoting.TheVariants.{Tags}
-use Rattle.conditional_req.specs.EntityTags.{entity_tag, is_entity_tag, is_strong_match, is_weak_match}
+use Rattle.conditional_req.specs.EntityTags.{entity_tag, is_entity_tag, is_strong_match}
+use Rattle.conditional_req.specs.EntityTags.{is_weak_match}
 use Rattle.conditional_req.specs.declared.tag.Tag.{Tag}
 
 -- `*`: any representation

@@ -1,15 +1,19 @@
 -- The verdict on a request's preconditions (RFC 9110, section 13.2.2).
-use Rattle.std.specs.Prelude.{◌≡◌, ℕ, Bool, true, false, not, ◌&&◌, ◌||◌, nat_lt, nat_le, min, if◌then◌else◌, List, [], Option, Some, None, is_some}
+use Rattle.std.specs.Prelude.{◌≡◌, ℕ, Bool, true, false, not, ◌&&◌, ◌||◌, nat_lt, nat_le, min}
+use Rattle.std.specs.Prelude.{if◌then◌else◌, List, [], Option, Some, None, is_some}
 use Rattle.pod_base.specs.declared.field.Field.{Field}
 use Rattle.pod_base.specs.declared.moment.TheConstants.{LAST_SECOND}
 use Rattle.pod_base.specs.declared.method.Method.{Method}
-use Rattle.pod_base.specs.declared.method.Method.TheVariants.{Get, Head, Options, Post, Put, Patch, Delete, Other}
+use Rattle.pod_base.specs.declared.method.Method.TheVariants.{Get, Head, Options, Post, Put, Patch}
+use Rattle.pod_base.specs.declared.method.Method.TheVariants.{Delete, Other}
 use Rattle.conditional_req.specs.declared.preconditions.Current.{Current}
 use Rattle.conditional_req.specs.declared.preconditions.Verdict.{Verdict}
-use Rattle.conditional_req.specs.declared.preconditions.Verdict.TheVariants.{Go, NotModified, Failed}
+use Rattle.conditional_req.specs.declared.preconditions.Verdict.TheVariants.{Go, NotModified}
+use Rattle.conditional_req.specs.declared.preconditions.Verdict.TheVariants.{Failed}
 use Rattle.conditional_req.specs.declared.tag.Tag.{Tag}
 use Rattle.conditional_req.specs.TagLists.{is_any, are_tags, has_strong_match, has_weak_match}
-use Rattle.conditional_req.specs.Conditions.{matching, none_matching, unmodified_since, modified_since}
+use Rattle.conditional_req.specs.Conditions.{matching, none_matching, unmodified_since}
+use Rattle.conditional_req.specs.Conditions.{modified_since}
 
 -- What preconditions compare with, where the resource exists: the tags of its representations, and
 -- the moment of its last change.
@@ -33,8 +37,8 @@ tags_of (Some current) = current.tags
 abbrev pub second_of : Validators → ℕ
 second_of current = min current.modified LAST_SECOND
 
--- Step 1. If-Match fails: `*` without a resource, a malformed value, a list without a strongly equal
--- tag.
+-- Step 1. If-Match fails: `*` without a resource, a malformed value, a list without a strongly
+-- equal tag.
 abbrev pub match_fails : Option (List ℕ) → Option Validators → Bool
 match_fails None current = false
 match_fails (Some value) current =

@@ -14,7 +14,8 @@ use pod_base::{Bytes, Method, Moment, moment_of};
 /// with, and the moment of the last change.
 #[derive(Clone, Copy, Debug)]
 pub struct Current<'a> {
-    /// The tag of the chosen representation for GET and HEAD, those of all offers for other methods.
+    /// The tag of the chosen representation for GET and HEAD, those of all offers for other
+    /// methods.
     pub tags: &'a [Tag],
     pub modified: Moment,
 }

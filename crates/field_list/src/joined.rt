@@ -26,8 +26,8 @@ fn has_field(fields: &[Field], name: &str) -> bool
     fields.iter().any(|field| field.is_named(name))
 }
 
-/// The first value, and after it a comma and the value of each further field of that name. One value
-/// alone is shared.
+/// The first value, and after it a comma and the value of each further field of that name. One
+/// value alone is shared.
 fn with_further(alloc: Global, first: &Bytes, rest: &[Field], name: &str) -> Mem<Bytes>
     ensures { IfOk result (λ value. value ≡ first.now ++ flat_map (spec.added name.now) rest.now) }
 {

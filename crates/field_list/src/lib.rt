@@ -8,9 +8,10 @@
 //! }
 //! ```
 //!
-//! Nothing is copied, and the walks take no memory. Proved: [`Elements`] and [`Parts`] yield exactly
-//! the lists that the definitions `elements` and `parts` have of the text, and [`joined_value`] is
-//! the joined value. [`laws`] says that the parts, with separators between them, are the text again.
+//! Nothing is copied, and the walks take no memory. Proved: [`Elements`] and [`Parts`] yield
+//! exactly the lists that the definitions `elements` and `parts` have of the text, and
+//! [`joined_value`] is the joined value. [`laws`] says that the parts, with separators between
+//! them, are the text again.
 //!
 //! It stands on `httparse`, whose optional white space the contracts cite, and on `pod_base`.
 #![tactic(auto)]

@@ -91,8 +91,8 @@ pub(crate) fn in_large_pieces(alloc: Global, field: &str) -> Result<String, Allo
     in_sizes(alloc, field, &[65_536])
 }
 
-/// The number of the bytes after the last complete message, where the run's error sink says that and
-/// its status is 12.
+/// The number of the bytes after the last complete message, where the run's error sink says that
+/// and its status is 12.
 fn cut_length(run: &Run) -> Option<usize> {
     let line = str::from_utf8(run.errors.taken()).ok()?;
     let rest = line
@@ -103,9 +103,9 @@ fn cut_length(run: &Run) -> Option<usize> {
     if run.status == 12 { Some(rest) } else { None }
 }
 
-/// Ends the input after each of its bytes: where a message ended, with the bytes of the output then.
-/// Everywhere else it ended inside a message, of which there were as many bytes as after the last
-/// such place.
+/// Ends the input after each of its bytes: where a message ended, with the bytes of the output
+/// then. Everywhere else it ended inside a message, of which there were as many bytes as after the
+/// last such place.
 pub(crate) fn ended_anywhere(alloc: Global, field: &str) -> Result<String, AllocError> {
     let input = bytes(alloc, field)?;
     let mut text = String::from_str(alloc, "ends at")?;

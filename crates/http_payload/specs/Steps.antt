@@ -8,7 +8,8 @@ use Rattle.http_payload.specs.declared.stage.Stage.TheVariants.{Trailers, Chunk}
 use Rattle.http_head.specs.declared.content_length.TheConstants.{BODY_LIMIT}
 use Rattle.http_payload.specs.Chunks.{Ending, Over}
 use Rattle.http_payload.specs.declared.stage.Stage.{Stage}
-use Rattle.http_payload.specs.PayloadState.{PayloadState, payload_state, Left, IsSoundPayload, IsSoundAt}
+use Rattle.http_payload.specs.PayloadState.{PayloadState, payload_state, Left, IsSoundPayload}
+use Rattle.http_payload.specs.PayloadState.{IsSoundAt}
 use Rattle.http_payload.specs.PayloadState.{fault_of, fault_at}
 
 -- Where the bytes were read, what is left is the same, whatever follows.

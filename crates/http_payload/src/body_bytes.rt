@@ -5,7 +5,8 @@ ghost use Rattle.std.specs.Prelude.{◌≡◌, ◌≢◌, ◌++◌, ◌≤◌, L
 ghost use Rattle.std.specs.Prelude.{IsOk, IfOk, IfErr, OnOk};
 ghost use Rattle.http_head.specs.declared.body_form.BodyForm.{BodyForm as Form};
 ghost use Rattle.http_payload.specs.Bodies.{IsFault};
-ghost use Rattle.http_payload.specs.PayloadState.{payload_state, IsSoundAt, RepresentsBody, fault_at};
+ghost use Rattle.http_payload.specs.PayloadState.{payload_state, IsSoundAt, RepresentsBody};
+ghost use Rattle.http_payload.specs.PayloadState.{fault_at};
 ghost use Rattle.http_payload.specs.BodyBytes.{bytes_of_body, IsKeptAt};
 
 use crate::feed_loop::{Step, feed_piece};

@@ -4,7 +4,8 @@ ghost use Rattle.std.specs.Prelude.{◌≡◌, ◌≢◌, ◌<◌, ◌≤◌, �
 ghost use Rattle.std.specs.Prelude.{IsOk, IfOk, IfErr};
 ghost use Rattle.http_head.specs.declared.body_form.BodyForm.{BodyForm as Form};
 ghost use Rattle.http_payload.specs.Bodies.{IsFault};
-ghost use Rattle.http_payload.specs.PayloadState.{payload_state, IsSoundAt, TakesBytes, RepresentsBody};
+ghost use Rattle.http_payload.specs.PayloadState.{payload_state, IsSoundAt, TakesBytes};
+ghost use Rattle.http_payload.specs.PayloadState.{RepresentsBody};
 ghost use Rattle.http_payload.specs.PayloadState.{fault_at};
 ghost use Rattle.http_payload.specs.Steps.{Advances, Blocks, AfterLine};
 

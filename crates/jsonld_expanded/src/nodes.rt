@@ -1,6 +1,7 @@
 //! Nodes: those that a document names, and those that it leaves unnamed.
 
-ghost use Rattle.std.specs.Prelude.{◌≡◌, ℕ, List, codes, string_bytes, IfOk, IfSome, IfNone, IsErrOf, OnOk};
+ghost use Rattle.std.specs.Prelude.{◌≡◌, ℕ, List, codes, string_bytes, IfOk, IfSome, IfNone};
+ghost use Rattle.std.specs.Prelude.{IsErrOf, OnOk};
 ghost use Rattle.std.specs.BTreeSet.{contains_text};
 ghost use Rattle.rdf_graph.specs.Term.{IsLiteral};
 ghost use Rattle.rdf_graph.specs.declared.term.Term.{Term};

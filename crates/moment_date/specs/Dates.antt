@@ -1,6 +1,7 @@
 -- The date of a moment: the day of the Gregorian calendar and the time of day in UTC, without leap
 -- seconds, as the preferred form of HTTP dates has it (RFC 9110, section 5.6.7).
-use Rattle.std.specs.Prelude.{ℕ, zero, suc, ◌+◌, ◌-◌, ◌/◌, ◌%◌, nat_le, min, if◌then◌else◌, List, ◌++◌, codes}
+use Rattle.std.specs.Prelude.{ℕ, zero, suc, ◌+◌, ◌-◌, ◌/◌, ◌%◌, nat_le, min, if◌then◌else◌, List}
+use Rattle.std.specs.Prelude.{◌++◌, codes}
 use Rattle.httpdate.specs.Calendar.{days_of_years, days_of_months, weekday}
 use Rattle.httpdate.specs.Text.{day_name, month_name, two_digits, four_digits}
 

@@ -1,6 +1,7 @@
 -- Why a text spells no patch, and which fault is told.
 --
--- A fault of syntax has an index: the number of tokens before it. The least index is the least position.
+-- A fault of syntax has an index: the number of tokens before it. The least index is the least
+-- position.
 use Rattle.std.specs.Prelude.{◌≡◌, ◌<◌, ◌≤◌, ◌⊎◌, ℕ, List, length, Result, Ok, Err}
 use Rattle.rdf_graph.specs.declared.patch.Patch.{Patch}
 use Rattle.rdf_graph.specs.declared.size.TheConstants.{TRIPLES_LIMIT}
@@ -13,7 +14,8 @@ use Rattle.turtle_reader.specs.Faults.{IsFaultAfter, rank}
 use Rattle.turtle_reader.specs.Lexemes.{lexemes_of, lexeme_answer}
 use Rattle.turtle_text.specs.Faults.{Answer, AreFirst}
 use Rattle.n3_patch.specs.declared.fault.N3Fault.{N3Fault}
-use Rattle.n3_patch.specs.declared.fault.N3Fault.TheVariants.{Syntax, Constraint, TooLarge, NoMemory}
+use Rattle.n3_patch.specs.declared.fault.N3Fault.TheVariants.{Syntax, Constraint, TooLarge}
+use Rattle.n3_patch.specs.declared.fault.N3Fault.TheVariants.{NoMemory}
 use Rattle.n3_patch.specs.declared.triples.PatchTriple.{PatchTriple}
 use Rattle.n3_patch.specs.Laws.{SamePatch}
 use Rattle.n3_patch.specs.Rules.{IsFirstBroken, KeepsRules}
@@ -52,7 +54,8 @@ pub record HasSyntax (base bytes : List ℕ) (triples : List PatchTriple) : Type
   pub spells : SpellsTriples base bytes triples
   pub sound : HasNoFault base bytes
 
--- Why the bytes spell no patch: the first fault of syntax, else the first broken rule, else their size.
+-- Why the bytes spell no patch: the first fault of syntax, else the first broken rule, else their
+-- size.
 abbrev pub IsN3Fault : List ℕ → List ℕ → N3Fault → Type 0
 IsN3Fault base bytes (Syntax at) =
     (fault : TurtleFault) × IsFirstFault base bytes fault × (told_as fault ≡ Syntax at)

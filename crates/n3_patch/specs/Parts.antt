@@ -8,7 +8,8 @@ use Rattle.rdf_graph.specs.declared.patch.Patch.{Patch}
 use Rattle.rdf_graph.specs.declared.pattern.Pattern.{Pattern}
 use Rattle.rdf_graph.specs.declared.vocabulary.TheConstants.{RDF_TYPE}
 use Rattle.n3_patch.specs.declared.vocabulary.TheConstants.{SOLID_INSERT_DELETE_PATCH}
-use Rattle.n3_patch.specs.declared.vocabulary.TheConstants.{SOLID_WHERE, SOLID_DELETES, SOLID_INSERTS}
+use Rattle.n3_patch.specs.declared.vocabulary.TheConstants.{SOLID_WHERE, SOLID_DELETES}
+use Rattle.n3_patch.specs.declared.vocabulary.TheConstants.{SOLID_INSERTS}
 use Rattle.n3_patch.specs.declared.vocabulary.Part.{Part}
 use Rattle.n3_patch.specs.declared.vocabulary.Part.TheVariants.{Where, Deletes, Inserts}
 use Rattle.n3_patch.specs.declared.triples.PatchNode.{PatchNode}
@@ -64,7 +65,8 @@ with_pattern patterns None = patterns
 with_pattern patterns (Some x) =
     if list_any (eq_by_cmp pattern_cmp x) patterns then patterns else patterns ++ x ∷ []
 
--- the patterns with those of the triples in this formula, each once, in the order in which they stand
+-- the patterns with those of the triples in this formula, each once, in the order in which they
+-- stand
 abbrev pub with_formula : ℕ → List PatchTriple → List Pattern → List Pattern
 with_formula i [] patterns = patterns
 with_formula i (t ∷ triples) patterns = with_formula i triples

@@ -39,7 +39,8 @@ Makes bytes symbolic reader triple =
 abbrev pub AreSound : List ℕ → Made → Type 0
 AreSound bytes made = IfSome made.labels (AreLabelsOf bytes)
 
--- Whatever was read and whatever had been produced before: with these productions the triples are those.
+-- Whatever was read and whatever had been produced before: with these productions the triples are
+-- those.
 abbrev pub Adds : List ℕ → Reader → List Production → List PatchTriple → List PatchTriple → Type 0
 Adds bytes reader produced old new =
     (start : Start) (base bytes' : List ℕ) (lexemes : List Lexeme) (productions : List Production)

@@ -1,5 +1,5 @@
--- What of a patch document counts for its size: the triples outside formulas whose object is a term,
--- and the patterns. A variable counts as a blank node of its name.
+-- What of a patch document counts for its size: the triples outside formulas whose object is a
+-- term, and the patterns. A variable counts as a blank node of its name.
 use Rattle.std.specs.Prelude.{ℕ, ◌+◌, List, map, sum, if◌then◌else◌}
 use Rattle.rdf_graph.specs.Size.{term_size}
 use Rattle.rdf_graph.specs.declared.term.Term.TheVariants.{Blank}

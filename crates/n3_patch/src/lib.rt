@@ -8,13 +8,14 @@
 //! }
 //! ```
 //!
-//! Proved: [`read`] returns the patch that the text spells (`PatchSpells` of `specs/Spells.antt`, clause
-//! `spells`), else the first fault of syntax, else the first broken rule, and `TooLarge` last (clause
-//! `fault`, `IsN3Fault` of `specs/Faults.antt`). [`judge`] does the same over triples (clauses `patch`,
-//! `fault`; `specs/Parts.antt`, `specs/Rules.antt`, `specs/Size.antt`). Each part is a set, in the order
-//! in which its patterns stand. Where the text spells a patch and no bracket is too deep, it is returned,
-//! or out of memory (clause `only`). What both return meets what `rdf_graph::instantiate` requires (clause
-//! `bound`). [`laws`] has what follows from the definitions.
+//! Proved: [`read`] returns the patch that the text spells (`PatchSpells` of `specs/Spells.antt`,
+//! clause `spells`), else the first fault of syntax, else the first broken rule, and `TooLarge`
+//! last (clause `fault`, `IsN3Fault` of `specs/Faults.antt`). [`judge`] does the same over triples
+//! (clauses `patch`, `fault`; `specs/Parts.antt`, `specs/Rules.antt`, `specs/Size.antt`). Each part
+//! is a set, in the order in which its patterns stand. Where the text spells a patch and no bracket
+//! is too deep, it is returned, or out of memory (clause `only`). What both return meets what
+//! `rdf_graph::instantiate` requires (clause `bound`). [`laws`] has what follows from the
+//! definitions.
 //!
 //! It depends on `turtle_reader` for what the tokens of a document mean, on `turtle_labels` for its
 //! unnamed nodes, and on `rdf_graph` for terms and patches.

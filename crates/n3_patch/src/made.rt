@@ -1,6 +1,7 @@
 //! The triples of a patch document as they are made.
 
-ghost use Rattle.std.specs.Prelude.{◌≡◌, ◌++◌, ◌∷◌, [], ℕ, List as ListOf, Some, IfOk, OnOk, IfSome};
+ghost use Rattle.std.specs.Prelude.{◌≡◌, ◌++◌, ◌∷◌, [], ℕ, List as ListOf, Some, IfOk, OnOk};
+ghost use Rattle.std.specs.Prelude.{IfSome};
 ghost use Rattle.turtle_reader.specs.Readings.{produced_last};
 ghost use Rattle.n3_patch.specs.Spells.{IsReferentNode, within_formula};
 ghost use Rattle.turtle_text.specs.Progress.{AreLabelsOf};

@@ -105,9 +105,9 @@ fn syntax(fault: TurtleFault) -> N3Fault
 ///
 /// # Errors
 ///
-/// `Syntax` with the position of the first fault of syntax, by the position and then in the order of
-/// `turtle_terms::TurtleKind`; else `Constraint` with the first rule that is broken; else `TooLarge`.
-/// There is one exactly where the bytes spell no patch, or brackets are too deep.
+/// `Syntax` with the position of the first fault of syntax, by the position and then in the order
+/// of `turtle_terms::TurtleKind`; else `Constraint` with the first rule that is broken; else
+/// `TooLarge`. There is one exactly where the bytes spell no patch, or brackets are too deep.
 pub fn read(alloc: Global, base: &Iri, bytes: &[u8]) -> Result<Patch, N3Fault>
     ensures spells { IfOk result (PatchSpells base.now bytes.now) }
     ensures sound { OnOk result (HasNoFault base.now bytes.now) }

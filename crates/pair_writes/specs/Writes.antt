@@ -1,5 +1,6 @@
 -- What a write leaves on two disks: of a record, after a repair and a checkpoint.
-use Rattle.std.specs.Prelude.{◌≡◌, ◌⊎◌, ◌+◌, ℕ, List, [], ◌∷◌, ◌++◌, Contains, Option, Some, None, IsSome}
+use Rattle.std.specs.Prelude.{◌≡◌, ◌⊎◌, ◌+◌, ℕ, List, [], ◌∷◌, ◌++◌, Contains, Option, Some, None}
+use Rattle.std.specs.Prelude.{IsSome}
 use Rattle.std.specs.Prelude.{Result, OnOk, OnErr}
 use Rattle.pod_disk.specs.Disk.{LeavesOnly}
 use Rattle.journal_log.specs.Classes.{HasClass}

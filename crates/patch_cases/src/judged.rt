@@ -1,5 +1,5 @@
-//! Cases of `n3_patch::judge`. Triples are separated by `;`: three words, before which `N|` says that
-//! the triple stands in the formula of that number.
+//! Cases of `n3_patch::judge`. Triples are separated by `;`: three words, before which `N|` says
+//! that the triple stands in the formula of that number.
 
 use crate::nodes::node;
 use crate::shown;

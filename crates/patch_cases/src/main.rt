@@ -1,5 +1,5 @@
-//! Runs cases of the two languages of patches: reads one from each line of standard input, and prints
-//! it with the result as one more field. The first field of a case is its topic.
+//! Runs cases of the two languages of patches: reads one from each line of standard input, and
+//! prints it with the result as one more field. The first field of a case is its topic.
 #![tactic(auto)]
 
 mod judged;

@@ -1,5 +1,5 @@
-//! Cases of `sparql_patch::spelled`. Namings are separated by `;`: `+` or `-`, and three words. So are
-//! the triples of the graph, without the sign.
+//! Cases of `sparql_patch::spelled`. Namings are separated by `;`: `+` or `-`, and three words. So
+//! are the triples of the graph, without the sign.
 
 use crate::nodes::term;
 use crate::shown;

@@ -1,6 +1,7 @@
-//! The terms and nodes of cases. A word begins with `<` for an IRI (`<a` is `http://e.example/a`, `<:`
-//! one of Solid's terms, `<ldp:` one of LDP's, `<a` alone stands for `rdf:type` where it is `<=`), `_` for a label, `'` for a
-//! plain string, `?` for a variable and `{` for a formula with its number.
+//! The terms and nodes of cases. A word begins with `<` for an IRI (`<a` is `http://e.example/a`,
+//! `<:` one of Solid's terms, `<ldp:` one of LDP's, `<a` alone stands for `rdf:type` where it is
+//! `<=`), `_` for a label, `'` for a plain string, `?` for a variable and `{` for a formula with
+//! its number.
 
 use iri_ref::{Iri, IriFault};
 use n3_patch::PatchNode;

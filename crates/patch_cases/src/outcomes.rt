@@ -1,6 +1,6 @@
-//! Cases of what a patch, and an update, make of a row's graph. The patch is that of its parts in N3,
-//! where `e:` is `http://e.example/`. What is removed is shown with `- ` before each triple, and what
-//! is added with `+ `.
+//! Cases of what a patch, and an update, make of a row's graph. The patch is that of its parts in
+//! N3, where `e:` is `http://e.example/`. What is removed is shown with `- ` before each triple,
+//! and what is added with `+ `.
 
 ghost use Rattle.std.specs.Prelude.{IfOk, IfSome};
 ghost use Rattle.rdf_graph.specs.Patch.{IsBound};

@@ -1,5 +1,5 @@
-//! Cases of `n3_patch::read` and `sparql_patch::read`: the patch of a text under a base, what an update
-//! names, or the fault.
+//! Cases of `n3_patch::read` and `sparql_patch::read`: the patch of a text under a base, what an
+//! update names, or the fault.
 
 use crate::shown;
 use case_lines::bytes;

@@ -1,5 +1,6 @@
 -- The value of `WAC-Allow` for a path.
-use Rattle.std.specs.Prelude.{ℕ, Bool, false, if◌then◌else◌, List, [], ◌∷◌, Option, Some, None, is_some}
+use Rattle.std.specs.Prelude.{ℕ, Bool, false, if◌then◌else◌, List, [], ◌∷◌, Option, Some, None}
+use Rattle.std.specs.Prelude.{is_some}
 use Rattle.pod_base.specs.declared.agent.Agent.{Agent}
 use Rattle.pod_base.specs.declared.agent.Agent.TheVariants.{Public}
 use Rattle.pod_base.specs.declared.agent.Mode.TheVariants.{Control}

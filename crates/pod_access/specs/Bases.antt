@@ -1,5 +1,5 @@
--- Why each need of a request is granted: the access list, the first rule that grants, and in it whom the
--- first subject that covers the agent names.
+-- Why each need of a request is granted: the access list, the first rule that grants, and in it
+-- whom the first subject that covers the agent names.
 use Rattle.std.specs.Prelude.{List, [], ◌∷◌, Option, Some, None, option_and_then}
 use Rattle.pod_base.specs.declared.agent.Agent.{Agent}
 use Rattle.pod_base.specs.declared.agent.Mode.{Mode}

@@ -1,4 +1,5 @@
--- Whom a pod grants what (Web Access Control): what the graph of the access list that governs a path grants.
+-- Whom a pod grants what (Web Access Control): what the graph of the access list that governs a
+-- path grants.
 use Rattle.std.specs.Prelude.{◌≡◌, ◌↔◌, ℕ, Bool, IsTrue, List, Option, Some, None}
 use Rattle.pod_base.specs.declared.agent.Agent.{Agent}
 use Rattle.pod_base.specs.declared.agent.Mode.{Mode}

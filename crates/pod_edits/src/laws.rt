@@ -87,8 +87,8 @@ pub fn ancestors_law()
         → ancestors path ≡ parent ∷ ancestors parent }
 {}
 
-/// Above a member of a container that is a row nothing is missing, and no twin is in the way but its
-/// own: a POST makes one row and touches the container.
+/// Above a member of a container that is a row nothing is missing, and no twin is in the way but
+/// its own: a POST makes one row and touches the container.
 pub fn member_law()
     ensures nearest { (pod : Pod) (path container : List ℕ) → WellFormed pod → IsPath path
         → parent_of path ≡ Some container → IsTrue (is_row pod.rows container)

@@ -17,8 +17,8 @@ next_call script = next_count script.made
 abbrev pub NextFails : Script → Type 0
 NextFails script = Contains script.failing (next_call script)
 
--- A call was the next one: it has the next number, the numbers of those that are to fail stay, and it
--- counts as a fault exactly where it failed.
+-- A call was the next one: it has the next number, the numbers of those that are to fail stay, and
+-- it counts as a fault exactly where it failed.
 pub record IsNextCall {T E : Type 0} (result : Result T E) (old new : Script) : Type 0 where
   pub made : new.made ≡ next_call old
   pub failing : new.failing ≡ old.failing

@@ -1,9 +1,11 @@
 -- The response to a GET or HEAD that no refusal holds of: the whole representation, a part of it,
 -- several parts, or none of it (RFC 9110, sections 14.2, 15.3.1, 15.3.7 and 15.5.17).
-use Rattle.std.specs.Prelude.{ℕ, ◌+◌, Bool, false, if◌then◌else◌, List, [], ◌∷◌, ◌++◌, Option, Some, None, length, slice_range, codes, decimal}
+use Rattle.std.specs.Prelude.{ℕ, ◌+◌, Bool, false, if◌then◌else◌, List, [], ◌∷◌, ◌++◌, Option, Some}
+use Rattle.std.specs.Prelude.{None, length, slice_range, codes, decimal}
 use Rattle.pod_base.specs.declared.field.Field.{Field}
 use Rattle.pod_base.specs.declared.method.Method.{Method}
-use Rattle.pod_base.specs.declared.method.Method.TheVariants.{Get, Head, Options, Post, Put, Patch, Delete, Other}
+use Rattle.pod_base.specs.declared.method.Method.TheVariants.{Get, Head, Options, Post, Put, Patch}
+use Rattle.pod_base.specs.declared.method.Method.TheVariants.{Delete, Other}
 use Rattle.pod_base.specs.declared.response.Body.{Body}
 use Rattle.pod_base.specs.declared.response.Body.TheVariants.{Whole, LengthOnly}
 use Rattle.pod_base.specs.declared.response.Response.{Response}

@@ -1,7 +1,8 @@
 //! What follows from the definitions: the contracts of these functions are laws, and they do
 //! nothing.
 
-ghost use Rattle.pod_representations.specs.Laws.{JudgeAlike, JudgeUnread, ShowsAlike, ShowsRowAlone};
+ghost use Rattle.pod_representations.specs.Laws.{JudgeAlike, JudgeUnread, ShowsAlike};
+ghost use Rattle.pod_representations.specs.Laws.{ShowsRowAlone};
 
 /// Which part of a pod is shown at a row: the row, and for a container its row and its children.
 pub fn shown_law()

@@ -1,7 +1,9 @@
 -- Which methods a path takes, and what may be sent to it. Both are told by the text of the path.
-use Rattle.std.specs.Prelude.{ℕ, Bool, true, false, not, ◌||◌, bytes_eq, if◌then◌else◌, List, [], ◌∷◌, ◌++◌, filter, codes}
+use Rattle.std.specs.Prelude.{ℕ, Bool, true, false, not, ◌||◌, bytes_eq, if◌then◌else◌, List, []}
+use Rattle.std.specs.Prelude.{◌∷◌, ◌++◌, filter, codes}
 use Rattle.pod_base.specs.declared.method.Method.{Method}
-use Rattle.pod_base.specs.declared.method.Method.TheVariants.{Get, Head, Options, Post, Put, Patch, Delete, Other}
+use Rattle.pod_base.specs.declared.method.Method.TheVariants.{Get, Head, Options, Post, Put, Patch}
+use Rattle.pod_base.specs.declared.method.Method.TheVariants.{Delete, Other}
 use Rattle.pod_path.specs.Hierarchy.{is_root, is_container, is_auxiliary}
 
 -- the access list of the root

@@ -1,7 +1,10 @@
--- The links of a resource (RFC 8288; Solid Protocol, sections 4.1 and 4.3; Web Access Control, section 3.2).
-use Rattle.std.specs.Prelude.{ℕ, Bool, if◌then◌else◌, List, [], ◌∷◌, ◌++◌, Option, Some, None, codes}
+-- The links of a resource (RFC 8288; Solid Protocol, sections 4.1 and 4.3; Web Access Control,
+-- section 3.2).
+use Rattle.std.specs.Prelude.{ℕ, Bool, if◌then◌else◌, List, [], ◌∷◌, ◌++◌, Option, Some, None}
+use Rattle.std.specs.Prelude.{codes}
 use Rattle.pod_base.specs.declared.field.Field.{Field}
-use Rattle.pod_path.specs.Hierarchy.{is_root, is_container, is_acl, acl_of, meta_of, subject_of, uri_of}
+use Rattle.pod_path.specs.Hierarchy.{is_root, is_container, is_acl, acl_of, meta_of, subject_of}
+use Rattle.pod_path.specs.Hierarchy.{uri_of}
 
 abbrev pub field : List ℕ → List ℕ → Field
 field name value = record { name = name; value = value }

@@ -1,5 +1,6 @@
 -- The access lists of a pod, each with the path whose list it is and its rules.
-use Rattle.std.specs.Prelude.{◌≡◌, ℕ, ◌≤◌, ◌^◌, Bool, if◌then◌else◌, List, [], ◌∷◌, Option, Some, None}
+use Rattle.std.specs.Prelude.{◌≡◌, ℕ, ◌≤◌, ◌^◌, Bool, if◌then◌else◌, List, [], ◌∷◌, Option, Some}
+use Rattle.std.specs.Prelude.{None}
 use Rattle.std.specs.Prelude.{bytes_eq, filter_map}
 use Rattle.std.specs.List.{find}
 use Rattle.acl_rules.specs.declared.rule.Rule.{Rule}

@@ -1,5 +1,6 @@
 -- The tree of a pod: the children and the ancestors of a path.
-use Rattle.std.specs.Prelude.{ℕ, zero, suc, Bool, false, not, ◌&&◌, List, [], ◌∷◌, Option, Some, None}
+use Rattle.std.specs.Prelude.{ℕ, zero, suc, Bool, false, not, ◌&&◌, List, [], ◌∷◌, Option, Some}
+use Rattle.std.specs.Prelude.{None}
 use Rattle.std.specs.Prelude.{bytes_eq, map, filter, length, take}
 use Rattle.pod_path.specs.Hierarchy.{is_auxiliary, is_container, parent_of}
 use Rattle.pod_command.specs.declared.row.Row.{Row}

@@ -1,5 +1,6 @@
 -- Which pods are well-formed.
-use Rattle.std.specs.Prelude.{ℕ, Bool, true, false, not, ◌&&◌, ◌||◌, ◌≤◌, ◌^◌, IsTrue, nat_le, List, length}
+use Rattle.std.specs.Prelude.{ℕ, Bool, true, false, not, ◌&&◌, ◌||◌, ◌≤◌, ◌^◌, IsTrue, nat_le, List}
+use Rattle.std.specs.Prelude.{length}
 use Rattle.std.specs.Prelude.{Option, Some, None, codes}
 use Rattle.std.specs.List.{list_all}
 use Rattle.acl_rules.specs.Documents.{is_parse}

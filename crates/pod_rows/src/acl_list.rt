@@ -4,7 +4,8 @@ ghost use Rattle.std.specs.Prelude.{option_to_list};
 ghost use Rattle.std.specs.List.{find};
 ghost use Rattle.pod_path.specs.Hierarchy.{subject_of};
 ghost use Rattle.pod_rows.specs.Access.{about, rules_in};
-ghost use Rattle.pod_rows.specs.AclLists.{list_of, lists_of, is_list_of, first_list, container_list};
+ghost use Rattle.pod_rows.specs.AclLists.{list_of, lists_of, is_list_of, first_list};
+ghost use Rattle.pod_rows.specs.AclLists.{container_list};
 ghost use Rattle.pod_rows.specs.Tree.{ancestors};
 
 use acl_rules::{Items, Rules, rules_of};

@@ -1,4 +1,5 @@
-//! What follows from the definitions: the contracts of these functions are laws, and they do nothing.
+//! What follows from the definitions: the contracts of these functions are laws, and they do
+//! nothing.
 ghost use Rattle.std.specs.Prelude.{◌≡◌, ◌↔◌, ℕ, List, All, Contains, IsSome, IsTrue, Some, false};
 ghost use Rattle.pod_command.specs.declared.entry.Entry.{Entry};
 ghost use Rattle.pod_command.specs.declared.row.Row.{Row};

@@ -11,12 +11,12 @@
 //! ```
 //!
 //! Proved, over one list of rows: a state's pod is well-formed (`PodState::is_well_formed`), and
-//! `of` refuses exactly the others (`well_formed`, `refused`); rows, children, access lists in force
-//! and members are those of the definitions (the clauses of [`PodState`]); a view is the graph of
-//! what a container shows; `fits` is true exactly where an entry applies (`sound`, `complete`), and
-//! `after` is what it makes of the pod (`pod`, `next`). [`laws`] says what follows from the
-//! definitions. The crate stands on `pod_command`, `acl_rules`, `rdf_graph`, `pod_path`, `iri_ref`
-//! and `pod_base`.
+//! `of` refuses exactly the others (`well_formed`, `refused`); rows, children, access lists in
+//! force and members are those of the definitions (the clauses of [`PodState`]); a view is the
+//! graph of what a container shows; `fits` is true exactly where an entry applies (`sound`,
+//! `complete`), and `after` is what it makes of the pod (`pod`, `next`). [`laws`] says what follows
+//! from the definitions. The crate stands on `pod_command`, `acl_rules`, `rdf_graph`, `pod_path`,
+//! `iri_ref` and `pod_base`.
 #![tactic(auto)]
 
 mod acl_list;

@@ -1,5 +1,6 @@
 //! [`PodState`]: what every state of a pod offers.
-ghost use Rattle.std.specs.Prelude.{◌≡◌, ◌+◌, ◌≤◌, ◌^◌, List, ℕ, Bool, IfOk, Some, option_copied, length};
+ghost use Rattle.std.specs.Prelude.{◌≡◌, ◌+◌, ◌≤◌, ◌^◌, List, ℕ, Bool, IfOk, Some, option_copied};
+ghost use Rattle.std.specs.Prelude.{length};
 ghost use Rattle.pod_rows.specs.Access.{effective_of, governed, rules_at};
 ghost use Rattle.pod_rows.specs.Apply.{Applies, applied};
 ghost use Rattle.pod_rows.specs.Members.{is_member_at};

@@ -1,5 +1,6 @@
 //! Whether rows are those of a well-formed pod, one function for each clause of the definition.
-ghost use Rattle.std.specs.Prelude.{◌≡◌, ◌↔◌, ◌&&◌, IsTrue, IfOk, nat_le, length, option_copied, List};
+ghost use Rattle.std.specs.Prelude.{◌≡◌, ◌↔◌, ◌&&◌, IsTrue, IfOk, nat_le, length, option_copied};
+ghost use Rattle.std.specs.Prelude.{List};
 ghost use Rattle.std.specs.List.{list_all};
 ghost use Rattle.pod_command.specs.Encodable.{AreInOrder};
 ghost use Rattle.pod_rows.specs.Apply.{is_before};

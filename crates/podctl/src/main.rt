@@ -11,7 +11,8 @@ use std::io::ErrorKind;
 use std::process::ExitCode;
 use std::{env, io};
 
-/// The moment at which the clock of a pod in memory stands, in seconds: the date in the examples of the HTTP standard.
+/// The moment at which the clock of a pod in memory stands, in seconds: the date in the examples of
+/// the HTTP standard.
 const STILL: u64 = 784_111_777;
 
 /// The words after the program's name.

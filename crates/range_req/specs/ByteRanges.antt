@@ -1,5 +1,6 @@
 -- The ranges of a Range field, and the parts of a body that they are (RFC 9110, section 14.1.2).
-use Rattle.std.specs.Prelude.{ℕ, ◌-◌, ◌==◌, min, nat_lt, nat_le, if◌then◌else◌, List, length, Option, Some, None}
+use Rattle.std.specs.Prelude.{ℕ, ◌-◌, ◌==◌, min, nat_lt, nat_le, if◌then◌else◌, List, length}
+use Rattle.std.specs.Prelude.{Option, Some, None}
 use Rattle.std.specs.Option.{option_map, option_and_then}
 use Rattle.field_list.specs.Pairs.{Pair, two_parts}
 use Rattle.field_list.specs.declared.quoting.Quoting.TheVariants.{Strings}

@@ -121,8 +121,8 @@ fn free_number(alloc: Global, body: &[u8]) -> Mem<u64>
     }
 }
 
-/// The first boundary whose delimiter isn't in a body. It takes memory for a note a byte of the body,
-/// but none where the first one is free.
+/// The first boundary whose delimiter isn't in a body. It takes memory for a note a byte of the
+/// body, but none where the first one is free.
 pub(crate) fn free_boundary(alloc: Global, body: &[u8]) -> Mem<String>
     ensures free { IfOk result (λ text. spec.IsFreeBoundary body.now (string_bytes text)) }
     ensures named { IfOk result (λ text. string_bytes text ≡ spec.free_boundary body.now) }

@@ -1,5 +1,5 @@
-//! Byte ranges (RFC 9110, section 14): the parts of a body that a Range field names, and the body of
-//! a response with several of them.
+//! Byte ranges (RFC 9110, section 14): the parts of a body that a Range field names, and the body
+//! of a response with several of them.
 //!
 //! ```ignore
 //! match ranges(alloc, b"bytes=0-0, -1", size)? {
@@ -9,9 +9,10 @@
 //! }
 //! ```
 //!
-//! Proved: [`ranges`] is the definition `range_set` of the field's value and the size, and its parts
-//! are inside of the body (`within`). [`multipart`] writes exactly the text `multipart_text`, with the
-//! first boundary that isn't in the body, which is a function of the body (`free_boundary`).
+//! Proved: [`ranges`] is the definition `range_set` of the field's value and the size, and its
+//! parts are inside of the body (`within`). [`multipart`] writes exactly the text `multipart_text`,
+//! with the first boundary that isn't in the body, which is a function of the body
+//! (`free_boundary`).
 //!
 //! It stands on `field_list`, which reads the list, on `memchr`, which searches the body, on `itoa`
 //! and on `pod_base`.

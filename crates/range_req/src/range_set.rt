@@ -138,9 +138,10 @@ fn parts_of(alloc: Global, list: &[u8], size: u64) -> Mem<Vec<Part>>
 
 /// What the value of a Range field asks for, of a body of that size.
 ///
-/// The value is `bytes=`, in any case, and a list of `a-b`, `a-` and `-n` (RFC 9110, section 14.1.2).
-/// The field is ignored where it is malformed, has no range or more than [`RANGE_LIMIT`], or a range
-/// ends before it begins. Blanks stand about commas alone. Ranges that begin past the body are dropped, and ends past it are cut.
+/// The value is `bytes=`, in any case, and a list of `a-b`, `a-` and `-n` (RFC 9110, section
+/// 14.1.2). The field is ignored where it is malformed, has no range or more than [`RANGE_LIMIT`],
+/// or a range ends before it begins. Blanks stand about commas alone. Ranges that begin past the
+/// body are dropped, and ends past it are cut.
 pub fn ranges(alloc: Global, value: &[u8], size: u64) -> Mem<RangeSet>
     ensures set { IfOk result (λ set. spec.set_view set ≡ spec.range_set value.now size) }
     ensures within { IfOk result (λ set. spec.are_within size (spec.set_view set) ≡ true) }

@@ -1,5 +1,6 @@
 -- The type of a request's body (RFC 9110, section 8.3).
-use Rattle.std.specs.Prelude.{ℕ, Bool, ◌&&◌, ◌==◌, nat_lt, nat_le, if◌then◌else◌, List, length, count_by, Option, Some, None, codes}
+use Rattle.std.specs.Prelude.{ℕ, Bool, ◌&&◌, ◌==◌, nat_lt, nat_le, if◌then◌else◌, List, length}
+use Rattle.std.specs.Prelude.{count_by, Option, Some, None, codes}
 use Rattle.std.specs.List.{list_all}
 use Rattle.std.specs.Option.{option_and_then}
 use Rattle.httparse.specs.Grammar.{trim_ows}

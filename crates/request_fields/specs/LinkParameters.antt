@@ -1,5 +1,6 @@
 -- The parameters of a link (RFC 8288, sections 3 and 3.3).
-use Rattle.std.specs.Prelude.{ℕ, Bool, false, ◌&&◌, ◌||◌, if◌then◌else◌, List, [], map, drop, slice_get, Option, Some, None, codes}
+use Rattle.std.specs.Prelude.{ℕ, Bool, false, ◌&&◌, ◌||◌, if◌then◌else◌, List, [], map, drop}
+use Rattle.std.specs.Prelude.{slice_get, Option, Some, None, codes}
 use Rattle.std.specs.List.{filter_map}
 use Rattle.std.specs.Option.{option_map_or}
 use Rattle.std.specs.Str.{str_eq_ignore_ascii_case}

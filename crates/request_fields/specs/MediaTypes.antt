@@ -4,7 +4,8 @@ use Rattle.std.specs.List.{before_first}
 use Rattle.std.specs.Str.{str_eq_ignore_ascii_case}
 use Rattle.httparse.specs.Grammar.{trim_ows}
 use Rattle.request_fields.specs.declared.media_types.MediaType.{MediaType}
-use Rattle.request_fields.specs.declared.media_types.MediaType.TheVariants.{Turtle, JsonLd, N3, SparqlUpdate, Other}
+use Rattle.request_fields.specs.declared.media_types.MediaType.TheVariants.{Turtle, JsonLd, N3}
+use Rattle.request_fields.specs.declared.media_types.MediaType.TheVariants.{SparqlUpdate, Other}
 
 -- the media type that a name without parameters is, in any case
 abbrev pub type_named : List ℕ → MediaType

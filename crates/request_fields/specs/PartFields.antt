@@ -1,5 +1,6 @@
 -- Slug, Range and If-Range (RFC 5023, section 9.7; RFC 9110, sections 13.1.5 and 14.2).
-use Rattle.std.specs.Prelude.{ℕ, Bool, true, false, ◌==◌, if◌then◌else◌, List, [], ◌∷◌, ◌++◌, find, count_by, Option, codes, bytes_eq}
+use Rattle.std.specs.Prelude.{ℕ, Bool, true, false, ◌==◌, if◌then◌else◌, List, [], ◌∷◌, ◌++◌, find}
+use Rattle.std.specs.Prelude.{count_by, Option, codes, bytes_eq}
 use Rattle.std.specs.Option.{option_map, option_map_or}
 use Rattle.pod_base.specs.Fields.{is_named}
 use Rattle.pod_base.specs.declared.field.Field.{Field}

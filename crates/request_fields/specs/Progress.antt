@@ -1,5 +1,6 @@
 -- How far a text has a word, byte by byte.
-use Rattle.std.specs.Prelude.{ℕ, Bool, true, false, ◌||◌, if◌then◌else◌, List, [], ◌∷◌, Option, Some, None}
+use Rattle.std.specs.Prelude.{ℕ, Bool, true, false, ◌||◌, if◌then◌else◌, List, [], ◌∷◌, Option}
+use Rattle.std.specs.Prelude.{Some, None}
 use Rattle.std.specs.Char.{eq_ignore_ascii_case}
 use Rattle.httparse.specs.Grammar.{is_ows}
 

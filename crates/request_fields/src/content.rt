@@ -56,8 +56,9 @@ fn content_bytes<'a>(fields: &'a Fields) -> Option<&'a [u8]>
     }
 }
 
-/// The content type of a request: the value of its only Content-Type field, without the blanks around
-/// it, where that has 1 to 256 bytes from space to `~`. It is the type that bytes are stored with.
+/// The content type of a request: the value of its only Content-Type field, without the blanks
+/// around it, where that has 1 to 256 bytes from space to `~`. It is the type that bytes are stored
+/// with.
 pub fn content_type<'a>(fields: &'a Fields) -> Option<&'a str>
     ensures { option_copied result ≡ spec.content_type fields.entry.now }
 {

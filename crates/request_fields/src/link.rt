@@ -76,11 +76,11 @@ fn any_link_to_container(fields: &[Field]) -> bool
     fields.iter().any(|field| is_link_to_container(field))
 }
 
-/// Whether some Link field has a link to `ldp:BasicContainer` or `ldp:Container` whose `rel` has the
-/// word `type`: the request is to make a container.
+/// Whether some Link field has a link to `ldp:BasicContainer` or `ldp:Container` whose `rel` has
+/// the word `type`: the request is to make a container.
 ///
-/// The words of `rel` are compared in any case, and of several `rel` the first counts. Malformed links
-/// and other targets are ignored.
+/// The words of `rel` are compared in any case, and of several `rel` the first counts. Malformed
+/// links and other targets are ignored.
 pub fn links_to_container(fields: &Fields) -> bool
     ensures { result ≡ spec.links_to_container fields.now }
 {

@@ -46,8 +46,8 @@ fn is_quoted(text: &[u8], tag: &[u8]) -> bool
 }
 
 /// Whether If-Range lets a Range field count, for a representation with that strong tag, which is
-/// given without quotes. It does where there is no If-Range field, or one alone, which is this tag in
-/// quotes. A weak tag and a date never are.
+/// given without quotes. It does where there is no If-Range field, or one alone, which is this tag
+/// in quotes. A weak tag and a date never are.
 pub fn allows_ranges(fields: &Fields, tag: &[u8]) -> bool
     ensures { result ≡ spec.allows_ranges tag.now fields.now }
 {

@@ -58,8 +58,8 @@ fn is_upgradable(request: &Request) -> bool
 
 /// The key of a request that is an upgrade to a WebSocket; none where the request isn't one.
 ///
-/// An upgrade is a GET of HTTP/1.1. Its Upgrade has the word `websocket`, and its Connection the word
-/// `upgrade` and not `close`, in any case. `Sec-WebSocket-Version` stands once and is 13.
+/// An upgrade is a GET of HTTP/1.1. Its Upgrade has the word `websocket`, and its Connection the
+/// word `upgrade` and not `close`, in any case. `Sec-WebSocket-Version` stands once and is 13.
 /// `Sec-WebSocket-Key` stands once and has 24 characters that are the base64 of 16 bytes.
 pub fn upgrade_key<'a>(request: &'a Request) -> Option<&'a [u8]>
     ensures { option_copied result ≡ spec.upgrade_key request.entry.now }

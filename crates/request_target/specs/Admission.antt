@@ -1,5 +1,6 @@
--- What is refused before anything of the pod is looked at: a target that is no path, a token that isn't
--- accepted, a method that isn't implemented or that the path doesn't take. The first refusal is told.
+-- What is refused before anything of the pod is looked at: a target that is no path, a token that
+-- isn't accepted, a method that isn't implemented or that the path doesn't take. The first refusal
+-- is told.
 use Rattle.std.specs.Prelude.{ℕ, if◌then◌else◌, List, Option, Some, None, Result, Ok, Err, codes}
 use Rattle.pod_base.specs.declared.method.Method.{Method}
 use Rattle.pod_base.specs.declared.method.Method.TheVariants.{Other}

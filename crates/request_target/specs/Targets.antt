@@ -1,5 +1,6 @@
 -- The target of a request: the server, or a path of the pod (RFC 9112, section 3.2).
-use Rattle.std.specs.Prelude.{ℕ, nat_eq, bytes_eq, if◌then◌else◌, List, length, drop, Result, Ok, Err, codes}
+use Rattle.std.specs.Prelude.{ℕ, nat_eq, bytes_eq, if◌then◌else◌, List, length, drop, Result, Ok}
+use Rattle.std.specs.Prelude.{Err, codes}
 use Rattle.std.specs.List.{starts_with}
 use Rattle.pod_base.specs.declared.method.Method.{Method}
 use Rattle.pod_base.specs.declared.method.Method.TheVariants.{Options}

@@ -65,8 +65,8 @@ fn admit_to(
     Ok(Ok(target))
 }
 
-/// What a request is about, or the first refusal, in this order: 400 `path` and 414 `path-size` of a
-/// target that is no path, or is `*` without OPTIONS; 401 `token` of a token that isn't accepted;
+/// What a request is about, or the first refusal, in this order: 400 `path` and 414 `path-size` of
+/// a target that is no path, or is `*` without OPTIONS; 401 `token` of a token that isn't accepted;
 /// 501 `method` of one that isn't implemented; 405 `not-allowed` of one that the path doesn't take.
 pub fn admit(
     alloc: Global,

@@ -1,6 +1,7 @@
 //! [`Target`]: what a request is about, by its target (RFC 9112, section 3.2).
 
-ghost use Rattle.std.specs.Prelude.{◌≡◌, ◌++◌, List, ℕ, IfSome, IfNone, option_copied, IfOk, IfErr, Ok, codes};
+ghost use Rattle.std.specs.Prelude.{◌≡◌, ◌++◌, List, ℕ, IfSome, IfNone, option_copied, IfOk, IfErr};
+ghost use Rattle.std.specs.Prelude.{Ok, codes};
 ghost use Rattle.pod_path.specs.Hierarchy.{without_last_slash};
 ghost use Rattle.pod_path.specs.Norm.{norm, FailsAs};
 ghost use Rattle.request_target.specs.Targets as spec;
@@ -51,8 +52,8 @@ fn origin_form<'a>(base: &str, target: &'a [u8]) -> &'a [u8]
     }
 }
 
-/// The path of a target other than `*`, in origin form, or in absolute form under the base. A query is
-/// dropped. The limits are those of [`Path::read`].
+/// The path of a target other than `*`, in origin form, or in absolute form under the base. A query
+/// is dropped. The limits are those of [`Path::read`].
 pub fn target_path(alloc: Global, base: &Iri, target: &[u8]) -> Result<Path, PathFault>
     ensures path { IfOk result (λ path. norm (spec.origin_form base.now target.now) ≡ Ok path) }
     ensures fault { IfErr result (λ fault. FailsAs fault (norm (spec.origin_form base.now target.now))) }

@@ -1,5 +1,5 @@
-//! Cases of what a request is about, by its method, its target and its agent: `-` for anybody, `!` for
-//! a token that isn't accepted, and else the agent's IRI.
+//! Cases of what a request is about, by its method, its target and its agent: `-` for anybody, `!`
+//! for a token that isn't accepted, and else the agent's IRI.
 
 use crate::print::{BASE, shown};
 use case_lines::bytes;

@@ -1,5 +1,6 @@
 //! [`Rows`]: items in byte order of their paths.
-ghost use Rattle.std.specs.Prelude.{◌≡◌, ◌+◌, ◌<◌, ◌≤◌, ◌^◌, [], ℕ, List, IfOk, length, option_copied};
+ghost use Rattle.std.specs.Prelude.{◌≡◌, ◌+◌, ◌<◌, ◌≤◌, ◌^◌, [], ℕ, List, IfOk, length};
+ghost use Rattle.std.specs.Prelude.{option_copied};
 ghost use Rattle.row_pages.specs.Items.{AreItemsInOrder, Placed, item_at, put_item, remove_item};
 ghost use Rattle.row_pages.specs.Items.{items_below};
 

@@ -46,8 +46,8 @@ last_named insert (x ∷ xs) = last_named insert xs ++ if_last insert x xs
 abbrev pub pattern_of : Triple → Pattern
 pattern_of t = record { s = Fixed t.s; p = Fixed t.p; o = Fixed t.o }
 
--- The patch that an update spells at a graph g: it deletes the triples of g whose last naming is with
--- DELETE, and inserts those whose last naming is with INSERT.
+-- The patch that an update spells at a graph g: it deletes the triples of g whose last naming is
+-- with DELETE, and inserts those whose last naming is with INSERT.
 pub record IsSpelledAt (g : List Triple) (named : List Named) (patch : Patch) : Type 0 where
   pub conditions : patch.conditions.items ≡ []
   pub deletions : patch.deletions.items

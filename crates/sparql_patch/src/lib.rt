@@ -10,8 +10,9 @@
 //! Proved of [`read`]: it returns the triples that the text names, in order (`Names` of
 //! `specs/UpdateSpells.antt`, clause `names`), which keep the limit on size (`fits`), of a text
 //! without a fault of syntax (`sound`); else the first fault of syntax, else `Blank`, and last
-//! `TooLarge` (`fault`, `IsSparqlFault` of `specs/UpdateFaults.antt`). Where the text names triples,
-//! no bracket is too deep and they keep the limit, they are returned, or out of memory (`only`).
+//! `TooLarge` (`fault`, `IsSparqlFault` of `specs/UpdateFaults.antt`). Where the text names
+//! triples, no bracket is too deep and they keep the limit, they are returned, or out of memory
+//! (`only`).
 //!
 //! Proved of [`spelled`]: the patch that an update spells at a graph has no conditions; it deletes
 //! the triples of the graph whose last naming is with DELETE, and inserts those whose last naming

@@ -1,5 +1,5 @@
-//! Runs cases of disks, journals and stores in memory: reads one from each line of standard input, and
-//! prints it with its outcome as one more field.
+//! Runs cases of disks, journals and stores in memory: reads one from each line of standard input,
+//! and prints it with its outcome as one more field.
 #![tactic(auto)]
 
 mod append;

@@ -1,5 +1,5 @@
-//! Steps of a store, a field each: `open` or `init BODY` first, and then `append BODY`, `repair` and
-//! `checkpoint BODY`.
+//! Steps of a store, a field each: `open` or `init BODY` first, and then `append BODY`, `repair`
+//! and `checkpoint BODY`.
 
 use crate::disks::letters;
 use crate::images::first_word;

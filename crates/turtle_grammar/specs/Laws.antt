@@ -4,7 +4,8 @@ use Rattle.turtle_grammar.specs.declared.symbol.Start.{Start}
 use Rattle.turtle_grammar.specs.declared.symbol.Symbol.{Symbol}
 use Rattle.turtle_grammar.specs.declared.production.Production.{Production}
 use Rattle.turtle_grammar.specs.declared.machine.Machine.{Machine}
-use Rattle.turtle_grammar.specs.Derivations.{Tree, tree_symbols, Derives, GoesOn, IsFault, IsShallow}
+use Rattle.turtle_grammar.specs.Derivations.{Tree, tree_symbols, Derives, GoesOn, IsFault}
+use Rattle.turtle_grammar.specs.Derivations.{IsShallow}
 use Rattle.turtle_grammar.specs.Readings.{HasRead, Produces, NamesNothing}
 
 -- Different trees have different symbols.

@@ -13,8 +13,8 @@ pub fn one_derivation()
     ensures produced { HasOneProduce }
 {}
 
-/// The grammar is unambiguous: a derivation has one tree, which has one list of symbols, and derives
-/// one list of productions.
+/// The grammar is unambiguous: a derivation has one tree, which has one list of symbols, and
+/// derives one list of productions.
 pub fn one_tree()
     ensures grammar { IsUnambiguous }
     ensures tree { HasOneTree }

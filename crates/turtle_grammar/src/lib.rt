@@ -1,6 +1,6 @@
 //! The grammar of three languages over tokens: Turtle (RDF 1.1 Turtle, section 6.5), N3 Patch, and
-//! SPARQL updates of `INSERT DATA` and `DELETE DATA`. It knows no prefix and no term: what a list of
-//! symbols produces names its tokens by index.
+//! SPARQL updates of `INSERT DATA` and `DELETE DATA`. It knows no prefix and no term: what a list
+//! of symbols produces names its tokens by index.
 //!
 //! ```text
 //! let mut machine = Machine::new(alloc, Start::Document);
@@ -11,14 +11,14 @@
 //! if machine.is_complete() { .. }
 //! ```
 //!
-//! Proved: a list of symbols is derived where a syntax tree has them as its symbols and produces what
-//! the tree does (`Derives` of `specs/Derivations.antt`). [`derivation`] returns that list exactly
-//! where there is one and no bracket is too deep, else the fault of the least index (clauses
-//! `answer`, `only`). [`Machine`] does the same symbol by symbol (clauses `read`, `refused`,
-//! `complete`, `unfinished`), says what a last String would add (`waits`, `string`), and which tokens
-//! can still be named (`names`). Its memory is its stack, at most a few goals for each open bracket,
-//! and what the last symbol produced. The grammar is unambiguous: no two trees have the same symbols
-//! ([`laws::one_tree`]). [`laws`] has what proofs of readers cite.
+//! Proved: a list of symbols is derived where a syntax tree has them as its symbols and produces
+//! what the tree does (`Derives` of `specs/Derivations.antt`). [`derivation`] returns that list
+//! exactly where there is one and no bracket is too deep, else the fault of the least index
+//! (clauses `answer`, `only`). [`Machine`] does the same symbol by symbol (clauses `read`,
+//! `refused`, `complete`, `unfinished`), says what a last String would add (`waits`, `string`), and
+//! which tokens can still be named (`names`). Its memory is its stack, at most a few goals for each
+//! open bracket, and what the last symbol produced. The grammar is unambiguous: no two trees have
+//! the same symbols ([`laws::one_tree`]). [`laws`] has what proofs of readers cite.
 //!
 //! It depends on `turtle_lex` for the kinds of tokens and on `pod_base` for `NoMemory`.
 #![tactic(auto)]

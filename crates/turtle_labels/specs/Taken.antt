@@ -1,5 +1,6 @@
 -- What the code keeps of labels.
-use Rattle.std.specs.Prelude.{◌≡◌, ◌≤◌, ◌<◌, ℕ, Bool, true, false, List, length, Option, Some, Result}
+use Rattle.std.specs.Prelude.{◌≡◌, ◌≤◌, ◌<◌, ℕ, Bool, true, false, List, length, Option, Some}
+use Rattle.std.specs.Prelude.{Result}
 use Rattle.std.specs.List.{slice_get}
 use Rattle.turtle_lex.specs.declared.token.Token.{Token}
 use Rattle.turtle_lex.specs.declared.token.LexFault.{LexFault}

@@ -1,5 +1,5 @@
--- The labels that the unnamed nodes of a document get: the k-th, from 0, in the order of tokens gets
--- the k-th of `g0`, `g1`, .. that is no label of the document.
+-- The labels that the unnamed nodes of a document get: the k-th, from 0, in the order of tokens
+-- gets the k-th of `g0`, `g1`, .. that is no label of the document.
 use Rattle.std.specs.Prelude.{◌≡◌, ◌<◌, ◌^◌, ℕ, zero, suc, codes, decimal, Bool, true, not, List}
 use Rattle.std.specs.Prelude.{[], ◌∷◌, ◌++◌, if◌then◌else◌}
 use Rattle.std.specs.List.{list_any}
@@ -36,8 +36,8 @@ free_below written zero = 0
 free_below written (suc n) =
     if is_free written n then suc (free_below written n) else free_below written n
 
--- The label of the unnamed node k: its number is free, and k numbers below it are. Numbers are below
--- 2 ^ 64.
+-- The label of the unnamed node k: its number is free, and k numbers below it are. Numbers are
+-- below 2 ^ 64.
 pub record IsUnnamed (written : List (List ℕ)) (k : ℕ) (label : List ℕ) : Type 0 where
   pub number : ℕ
   pub small : number < 2 ^ 64

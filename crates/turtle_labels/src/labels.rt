@@ -7,8 +7,8 @@ use std::alloc::Global;
 use std::collections::BTreeSet;
 use std::marker::Model;
 
-/// The labels of a document, and those of its unnamed nodes as far as they were asked for. Contracts
-/// see the set of the numbers n below 2 ^ 64 for which `g` n is a label of the document.
+/// The labels of a document, and those of its unnamed nodes as far as they were asked for.
+/// Contracts see the set of the numbers n below 2 ^ 64 for which `g` n is a label of the document.
 #[derive(Drop)]
 pub struct Labels {
     taken: BTreeSet<u64>,
@@ -52,8 +52,8 @@ impl Labels {
         Ok(Labels { taken, given })
     }
 
-    /// The label of the unnamed node k, counted from 0 in the order of tokens. Calls for the nodes 0
-    /// to k cost together no more than k and the number of written labels, in any order; a later
+    /// The label of the unnamed node k, counted from 0 in the order of tokens. Calls for the nodes
+    /// 0 to k cost together no more than k and the number of written labels, in any order; a later
     /// call shares the label's memory.
     pub fn label(&mut self, alloc: Global, k: usize) -> Mem<Text>
         ensures label { IfOk result (IsUnnamedBeside (set.contains self.old) k) }

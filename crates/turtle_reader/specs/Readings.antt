@@ -1,4 +1,5 @@
--- A reader as its caller sees it: which lexemes it has read, what they mean, and what they produced.
+-- A reader as its caller sees it: which lexemes it has read, what they mean, and what they
+-- produced.
 use Rattle.std.specs.Prelude.{◌≡◌, ◌≤◌, ℕ, List, [], ◌∷◌, ◌++◌, length, drop, Ok, Some}
 use Rattle.turtle_grammar.specs.declared.production.Production.{Production}
 use Rattle.turtle_grammar.specs.declared.production.SymbolicTriple.{SymbolicTriple}

@@ -15,16 +15,17 @@
 //! ```
 //!
 //! Proved: the base and the prefixes in force change with the directives before a lexeme
-//! (`specs/Contexts.antt`), and under them a lexeme means a term, a tag, a variable or nothing, or has
-//! the fault `Prefix` or `BadIri` (`IsMeaning` of `specs/Meanings.antt`). [`Reader::step`] reads a lexeme
-//! exactly where it has no fault (clause `read`), else it returns the fault of the least rank there
-//! (`refused`, by `IsFaultAfter` of `specs/Faults.antt`). [`Reader::triple`] returns what the nodes of
-//! a triple refer to (`Resolves`): terms, variables, unnamed nodes by their number, and formulas by
-//! the index of their `{`. [`laws`] has what the proofs of the languages above cite.
+//! (`specs/Contexts.antt`), and under them a lexeme means a term, a tag, a variable or nothing, or
+//! has the fault `Prefix` or `BadIri` (`IsMeaning` of `specs/Meanings.antt`). [`Reader::step`]
+//! reads a lexeme exactly where it has no fault (clause `read`), else it returns the fault of the
+//! least rank there (`refused`, by `IsFaultAfter` of `specs/Faults.antt`). [`Reader::triple`]
+//! returns what the nodes of a triple refer to (`Resolves`): terms, variables, unnamed nodes by
+//! their number, and formulas by the index of their `{`. [`laws`] has what the proofs of the
+//! languages above cite.
 //!
 //! A reader keeps the meanings of the lexemes since the last complete statement. Terms share the
-//! memory of the lexemes that mean them. The crate stands on `turtle_grammar` for productions and on
-//! `turtle_terms` for the terms of tokens. A word of an update is a [`Lexeme`] too.
+//! memory of the lexemes that mean them. The crate stands on `turtle_grammar` for productions and
+//! on `turtle_terms` for the terms of tokens. A word of an update is a [`Lexeme`] too.
 #![tactic(auto)]
 
 mod context;

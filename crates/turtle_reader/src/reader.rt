@@ -74,8 +74,8 @@ impl Reader {
     ///
     /// # Errors
     ///
-    /// The fault of the lexeme, at its start: `Grammar` where nothing goes on with it, else `Prefix`
-    /// or `BadIri` where its IRI is none, else `Depth` where it opens a bracket too many.
+    /// The fault of the lexeme, at its start: `Grammar` where nothing goes on with it, else
+    /// `Prefix` or `BadIri` where its IRI is none, else `Depth` where it opens a bracket too many.
     pub fn step(&mut self, alloc: Global, bytes: &[u8], lexeme: Lexeme) -> Result<(), TurtleFault>
         requires { IsLexemeOf bytes.now lexeme }
         ensures read { OnOk result (ReadsOn bytes.now lexeme self.old self.new) }
@@ -139,8 +139,8 @@ impl Reader {
         self.machine.is_complete()
     }
 
-    /// What the nodes of a triple refer to that the last lexeme produced, or that waits. It is out of
-    /// memory where a node names a lexeme without such a meaning, which no node of these does.
+    /// What the nodes of a triple refer to that the last lexeme produced, or that waits. It is out
+    /// of memory where a node names a lexeme without such a meaning, which no node of these does.
     pub fn triple(&self, alloc: Global, triple: &SymbolicTriple) -> Mem<ResolvedTriple>
         ensures { IfOk result (λ resolved. Resolves triple.now self.now resolved) }
     {

@@ -1,5 +1,5 @@
--- The escapes of Strings and IRIREFs (RDF 1.1 Turtle, section 6.4), decoded in one pass from left to
--- right.
+-- The escapes of Strings and IRIREFs (RDF 1.1 Turtle, section 6.4), decoded in one pass from left
+-- to right.
 use Rattle.std.specs.Prelude.{ℕ, ◌+◌, ◌-◌, ◌*◌, ◌||◌, ◌==◌, if◌then◌else◌, List, [], ◌∷◌, ◌++◌}
 use Rattle.std.specs.Char.{encode_utf8, digit_value}
 use lib.Utf8.{scalar}

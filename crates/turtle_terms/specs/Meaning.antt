@@ -1,5 +1,6 @@
 -- The terms that tokens mean, under a base and the prefixes that are declared.
-use Rattle.std.specs.Prelude.{◌≡◌, ℕ, Bool, true, false, ◌++◌, List, Option, Some, None, Result, Ok, Err}
+use Rattle.std.specs.Prelude.{◌≡◌, ℕ, Bool, true, false, ◌++◌, List, Option, Some, None, Result, Ok}
+use Rattle.std.specs.Prelude.{Err}
 use Rattle.std.specs.Option.{option_map}
 use Rattle.std.specs.FinMap as map
 use Rattle.iri_ref.specs.Characters.{AllAllowed}
@@ -26,8 +27,8 @@ IsReferenceMeaning base reference (Ok iri) = AllAllowed reference × IsResolved 
 IsReferenceMeaning base reference (Err Why.BadIri) = AllAllowed reference → ⊥
 IsReferenceMeaning base reference (Err kind) = ⊥
 
--- A name means the IRI of its prefix with its local name appended, or nothing where the prefix has no
--- IRI or the local name a forbidden character.
+-- A name means the IRI of its prefix with its local name appended, or nothing where the prefix has
+-- no IRI or the local name a forbidden character.
 abbrev pub IsNameMeaning : Option (List ℕ) → List ℕ → Result (List ℕ) TurtleKind → Type 0
 IsNameMeaning (Some prefix) local (Ok iri) = AllAllowed local × (iri ≡ prefix ++ local)
 IsNameMeaning (Some prefix) local (Err Why.BadIri) = AllAllowed local → ⊥
@@ -55,7 +56,8 @@ datatype_of Kind.True = Some (word_text Word.XsdBoolean)
 datatype_of Kind.False = Some (word_text Word.XsdBoolean)
 datatype_of kind = None
 
--- the term that a token of this kind and text means whatever the base and the prefixes, if it means one
+-- the term that a token of this kind and text means whatever the base and the prefixes, if it means
+-- one
 abbrev pub plain_term : TokenKind → List ℕ → Option Term
 plain_term Kind.BlankLabel text = Some (Blank (label_value text))
 plain_term Kind.Quoted text = Some (Literal (string_value text) (word_text Word.XsdString))

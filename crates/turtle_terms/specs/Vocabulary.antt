@@ -6,7 +6,8 @@ use Rattle.rdf_graph.specs.declared.vocabulary.TheConstants.{XSD_DECIMAL, XSD_DO
 use Rattle.turtle_terms.specs.declared.vocabulary.Word.{Word}
 use Rattle.turtle_terms.specs.declared.vocabulary.Word.TheVariants.{RdfType, RdfNil, RdfFirst}
 use Rattle.turtle_terms.specs.declared.vocabulary.Word.TheVariants.{RdfRest, XsdString, XsdInteger}
-use Rattle.turtle_terms.specs.declared.vocabulary.Word.TheVariants.{XsdDecimal, XsdDouble, XsdBoolean}
+use Rattle.turtle_terms.specs.declared.vocabulary.Word.TheVariants.{XsdDecimal, XsdDouble}
+use Rattle.turtle_terms.specs.declared.vocabulary.Word.TheVariants.{XsdBoolean}
 
 abbrev pub word_text : Word → List ℕ
 word_text RdfType = RDF_TYPE.now

@@ -25,8 +25,8 @@ pub(crate) enum Escape {
     Number { more: u8, number: u64 },
 }
 
-/// The value of a hexadecimal digit. Other letters continue the row up to 35, and any other byte has
-/// 36.
+/// The value of a hexadecimal digit. Other letters continue the row up to 35, and any other byte
+/// has 36.
 fn digit_value(byte: u8) -> u64
     ensures value { result ≡ digit_value byte }
     ensures small { result ≤ 36 }

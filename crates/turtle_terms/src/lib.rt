@@ -9,11 +9,12 @@
 //! }
 //! ```
 //!
-//! Proved: a token's value is a function of its text (`specs/Values.antt`), decoded in one pass from
-//! left to right, and its meaning under a base and the declared prefixes is that of
+//! Proved: a token's value is a function of its text (`specs/Values.antt`), decoded in one pass
+//! from left to right, and its meaning under a base and the declared prefixes is that of
 //! `specs/Meaning.antt`: [`term`] returns it, or the fault that it has (clauses `term`, `fault`,
 //! `only`, `only_fault`). A later declaration of a prefix replaces an earlier one
-//! ([`Scope::declare`], clause `declared`). [`laws`] has what the proofs of readers and writers cite.
+//! ([`Scope::declare`], clause `declared`). [`laws`] has what the proofs of readers and writers
+//! cite.
 //!
 //! A [`Vocabulary`] has the IRIs of RDF and XML Schema that a document means without writing them;
 //! its [`Vocabulary::term`] shares them. The crate depends on `turtle_lex` for tokens, on `iri_ref`

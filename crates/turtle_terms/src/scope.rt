@@ -40,8 +40,8 @@ impl Scope {
         }
     }
 
-    /// Declares a prefix, without its `:`. It replaces an earlier declaration. Out of memory, nothing
-    /// changes.
+    /// Declares a prefix, without its `:`. It replaces an earlier declaration. Out of memory,
+    /// nothing changes.
     pub fn declare(&mut self, alloc: Global, prefix: &str, iri: Iri) -> Mem<()>
         ensures declared { OnOk result (self.new ≡ map.insert self.old prefix.now iri) }
         ensures unchanged { OnErr result (self.new ≡ self.old) }

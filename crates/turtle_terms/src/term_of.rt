@@ -7,7 +7,8 @@ ghost use Rattle.rdf_graph.specs.declared.term.Term.TheVariants.{Literal as Lite
 ghost use Rattle.turtle_lex.specs.declared.token.TokenKind.TheVariants as Kind;
 ghost use Rattle.turtle_lex.specs.Tokens.{IsTokenOf};
 ghost use Rattle.turtle_lex.specs.Laws.{text_of};
-ghost use Rattle.turtle_terms.specs.Meaning.{IsTermOf, IsIriOf, is_iri_kind, plain_term, datatype_of};
+ghost use Rattle.turtle_terms.specs.Meaning.{IsTermOf, IsIriOf, is_iri_kind, plain_term};
+ghost use Rattle.turtle_terms.specs.Meaning.{datatype_of};
 ghost use Rattle.turtle_terms.specs.Values.{string_value};
 ghost use Rattle.turtle_terms.specs.declared.vocabulary.Word.TheVariants.{XsdString};
 ghost use Rattle.turtle_terms.specs.Vocabulary.{word_text};
@@ -112,9 +113,9 @@ fn meaning(
     Ok(Some(Term::Iri(iri)))
 }
 
-/// The term that a token means by itself, under a base and the declared prefixes: that of an IRIREF,
-/// a name, a label, `a`, a number, a truth value, and of a String the plain string, whatever follows
-/// it. None is the answer exactly for tokens of other kinds.
+/// The term that a token means by itself, under a base and the declared prefixes: that of an
+/// IRIREF, a name, a label, `a`, a number, a truth value, and of a String the plain string,
+/// whatever follows it. None is the answer exactly for tokens of other kinds.
 ///
 /// # Errors
 ///

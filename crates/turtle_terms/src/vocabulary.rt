@@ -2,7 +2,8 @@
 
 ghost use Rattle.std.specs.Prelude.{◌≡◌, IfOk};
 ghost use Rattle.turtle_terms.specs.Vocabulary.{word_text};
-ghost use Rattle.turtle_terms.specs.declared.vocabulary.Word.TheVariants.{RdfType, RdfNil, RdfFirst};
+ghost use Rattle.turtle_terms.specs.declared.vocabulary.Word.TheVariants.{RdfType, RdfNil};
+ghost use Rattle.turtle_terms.specs.declared.vocabulary.Word.TheVariants.{RdfFirst};
 ghost use Rattle.turtle_terms.specs.declared.vocabulary.Word.TheVariants.{RdfRest, XsdString};
 ghost use Rattle.turtle_terms.specs.declared.vocabulary.Word.TheVariants.{XsdInteger, XsdDecimal};
 ghost use Rattle.turtle_terms.specs.declared.vocabulary.Word.TheVariants.{XsdDouble, XsdBoolean};

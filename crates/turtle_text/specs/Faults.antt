@@ -1,7 +1,7 @@
 -- Why a text has no graph, or too large a one, and which fault is told.
 --
--- A fault has an index: the number of tokens before it. Faults of a lesser index have a lesser position
--- (`PlacesAscend` of `Laws`).
+-- A fault has an index: the number of tokens before it. Faults of a lesser index have a lesser
+-- position (`PlacesAscend` of `Laws`).
 use Rattle.std.specs.Prelude.{◌≡◌, ◌<◌, ◌≤◌, ◌⊎◌, ℕ, Bool, true, false, List, [], ◌∷◌, ◌++◌, length}
 use Rattle.std.specs.Prelude.{Option, Some, Result, Ok, Err}
 use Rattle.rdf_graph.specs.declared.size.TheConstants.{TRIPLES_LIMIT}

@@ -1,5 +1,6 @@
 -- What the reader of a document keeps.
-use Rattle.std.specs.Prelude.{◌≡◌, ◌+◌, ◌<◌, ◌&&◌, ℕ, Bool, true, false, cond, List, [], ◌∷◌, ◌++◌, length}
+use Rattle.std.specs.Prelude.{◌≡◌, ◌+◌, ◌<◌, ◌&&◌, ℕ, Bool, true, false, cond, List, [], ◌∷◌, ◌++◌}
+use Rattle.std.specs.Prelude.{length}
 use Rattle.std.specs.Prelude.{Option, Some, Ok, IfSome, nat_lt}
 use Rattle.std.specs.List.{All}
 use Rattle.std.specs.FinSet as set
@@ -67,7 +68,8 @@ IsSoundAnywhere triples = (bytes : List ℕ) → AreSound bytes triples
 abbrev pub StaysSound : Triples → Triples → Type 0
 StaysSound old new = (bytes : List ℕ) → AreSound bytes old → AreSound bytes new
 
--- Whatever was read and whatever had been produced before: with these productions the triples are those.
+-- Whatever was read and whatever had been produced before: with these productions the triples are
+-- those.
 abbrev pub Adds : List ℕ → Reader → List Production → List RdfTriple → List RdfTriple → Type 0
 Adds bytes reader produced old new =
     (start : Start) (base bytes' : List ℕ) (lexemes : List Lexeme) (productions : List Production)

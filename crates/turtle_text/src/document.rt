@@ -20,8 +20,8 @@ use turtle_lex::{LexFault, Token, TokenKind};
 use turtle_reader::{Lexeme, Reader};
 use turtle_terms::TurtleFault;
 
-/// What was read of a document so far. A String's own triple is complete only where neither a tag nor
-/// a datatype follows: so its size is judged when the next token is known.
+/// What was read of a document so far. A String's own triple is complete only where neither a tag
+/// nor a datatype follows: so its size is judged when the next token is known.
 #[derive(Drop)]
 pub(crate) struct Document {
     pub(crate) reader: Reader,

@@ -1,5 +1,5 @@
-//! Laws of documents, for the proofs of readers and writers. Each is the contract of a function that
-//! does nothing.
+//! Laws of documents, for the proofs of readers and writers. Each is the contract of a function
+//! that does nothing.
 
 ghost use Rattle.turtle_text.specs.Laws.{HasOneGraph, HasOneDerivation, HasOneFirstFault};
 ghost use Rattle.turtle_text.specs.Laws.{PlacesAscend};

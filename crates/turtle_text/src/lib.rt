@@ -10,10 +10,10 @@
 //!
 //! Proved of [`read`]: it returns the graph that the bytes spell (clause `spells`, by `Spells` of
 //! `specs/Spells.antt`), and they then have no fault (`sound`); else the first fault over all kinds
-//! (`fault`, by `IsFirstFault` of `specs/Faults.antt`). Where the bytes spell a graph, no bracket is too
-//! deep and the triples aren't too large, that graph is the answer, or out of memory (`only`). By
-//! [`laws`] a text spells one graph, by one list of tokens and one tree, and has one first fault, at the
-//! least position of all its faults.
+//! (`fault`, by `IsFirstFault` of `specs/Faults.antt`). Where the bytes spell a graph, no bracket
+//! is too deep and the triples aren't too large, that graph is the answer, or out of memory
+//! (`only`). By [`laws`] a text spells one graph, by one list of tokens and one tree, and has one
+//! first fault, at the least position of all its faults.
 //!
 //! It reads the tokens once, by the reader of `turtle_reader`, and once more for the labels of
 //! `turtle_labels` where the document has an unnamed node. Triples share the memory of their terms.

@@ -98,8 +98,8 @@ fn read_triples(alloc: Global, base: &Iri, bytes: &[u8]) -> Result<List<Triple>,
 /// # Errors
 ///
 /// The first fault of the bytes, by the position and then in the order `NotText`, `BadToken`,
-/// `Grammar`, `Prefix`, `BadIri`, `Depth`, `TooLarge`. There is one exactly where the bytes spell no
-/// graph, or brackets are too deep or the triples too large.
+/// `Grammar`, `Prefix`, `BadIri`, `Depth`, `TooLarge`. There is one exactly where the bytes spell
+/// no graph, or brackets are too deep or the triples too large.
 pub fn read(alloc: Global, base: &Iri, bytes: &[u8]) -> Result<Graph, TurtleFault>
     ensures spells { IfOk result (Spells base.now bytes.now) }
     ensures sound { OnOk result (HasNoFault base.now bytes.now) }

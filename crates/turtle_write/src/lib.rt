@@ -5,9 +5,9 @@
 //! let size = len(&graph);                  // text.len(), without writing it
 //! ```
 //!
-//! Proved: [`write()`] returns `graph_text` of `rdf_graph`, subject, predicate, object and ` .` LF for
-//! each triple in the order of the lines (clause `text`), and [`len()`] its length (clause `length`),
-//! as [`term_len`] does of a term's text.
+//! Proved: [`write()`] returns `graph_text` of `rdf_graph`, subject, predicate, object and ` .` LF
+//! for each triple in the order of the lines (clause `text`), and [`len()`] its length (clause
+//! `length`), as [`term_len`] does of a term's text.
 //! The text is written once, into memory of its length.
 #![tactic(auto)]
 

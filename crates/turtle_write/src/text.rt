@@ -55,9 +55,9 @@ fn append_runs(alloc: Global, into: &mut Vec<u8>, triples: &[Triple]) -> Mem<()>
     Ok(())
 }
 
-/// The text of a graph: a line for each triple, in byte order of the lines. A line is subject, space,
-/// predicate, space, object, space, `.` and LF. In a literal `\`, `"`, LF and CR are written as `\\`,
-/// `\"`, `\n` and `\r`, and all else as it is.
+/// The text of a graph: a line for each triple, in byte order of the lines. A line is subject,
+/// space, predicate, space, object, space, `.` and LF. In a literal `\`, `"`, LF and CR are written
+/// as `\\`, `\"`, `\n` and `\r`, and all else as it is.
 pub fn write(alloc: Global, graph: &Graph) -> Mem<Bytes>
     ensures { IfOk result (λ bytes. bytes ≡ graph_text graph.now) }
 {
