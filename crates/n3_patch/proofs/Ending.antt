@@ -1,5 +1,7 @@
 -- The end of a document.
 use Rattle.std.proofs.Common.{◌≡◌, ℕ, ◌<◌, ◌-◌, List, [], ◌∷◌, ◌++◌, length, Option, Some, None, Ok, sym, ap, ◌∙◌, subst, arith}
+use Rattle.turtle_reader.proofs.Firsts.{ends_with, token_with}
+use Rattle.turtle_reader.specs.FirstTokens.{Answer, AreFirst, IsListedAnswer}
 use Rattle.n3_patch.specs.declared.triples.PatchTriple.{PatchTriple}
 use Rattle.turtle_lex.specs.declared.token.Token.{Token}
 use Rattle.turtle_lex.specs.Tokens.{IsNext, listed_token}
@@ -12,11 +14,9 @@ use Rattle.turtle_terms.specs.declared.fault.TurtleFault.TheVariants.{Bad}
 use Rattle.turtle_reader.specs.Lexemes.{lexemes_of, symbols_of}
 use Rattle.n3_patch.specs.declared.document.Document.{Document}
 use Rattle.n3_patch.specs.Spells.{AreTriplesOf, SpellsTriples}
-use Rattle.turtle_text.specs.Faults.{Answer, AreFirst}
 use Rattle.n3_patch.specs.Faults.{HasNoFault, IsFirstFault}
-use Rattle.turtle_text.specs.Progress.{IsListedAnswer}
 use Rattle.n3_patch.specs.Reading.{IsSoFar, TakesOn, IsRefusedAfter}
-use Rattle.n3_patch.proofs.Telling.{first_of, complete, unfinished, ends_with, token_with}
+use Rattle.n3_patch.proofs.Telling.{first_of, complete, unfinished}
 
 module _ (base bytes : List ℕ) (tokens : List Token) (at : ℕ) (d : Document) (h : IsSoFar base bytes tokens at d) (next : Answer)
     (listed : IsListedAnswer bytes at d.after_string next) (is : next ≡ Ok None) where

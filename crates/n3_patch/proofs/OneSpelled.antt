@@ -24,8 +24,8 @@ use Rattle.turtle_reader.specs.Faults.{Next, HasNoIri}
 use Rattle.turtle_reader.specs.Lexemes.{lexeme_of, lexemes_of, symbols_of}
 use Rattle.turtle_reader.specs.Meanings.{AreMeanings}
 use Rattle.turtle_reader.proofs.Sequences.{one_means, no_iri_fault}
-use Rattle.turtle_text.specs.Faults.{Answer, AreFirst}
-use Rattle.turtle_text.proofs.Firsts.{firsts_agree, first_shorter}
+use Rattle.turtle_reader.proofs.Firsts.{firsts_agree, first_shorter, lexemes_more, ended}
+use Rattle.turtle_reader.specs.FirstTokens.{Answer, AreFirst}
 use Rattle.n3_patch.specs.declared.fault.N3Fault.TheVariants as told
 use Rattle.n3_patch.specs.declared.fault.PatchRule.{PatchRule}
 use Rattle.n3_patch.specs.declared.triples.PatchTriple.{PatchTriple}
@@ -36,7 +36,7 @@ use Rattle.n3_patch.specs.Size.{patch_size}
 use Rattle.n3_patch.specs.Spells.{AreTriplesOf, SpellsTriples, PatchSpells}
 use Rattle.n3_patch.proofs.Meant.{one_triples}
 use Rattle.n3_patch.proofs.RuleLemmas.{one_patch, patch_breaks_none}
-use Rattle.n3_patch.proofs.Telling.{lexemes_more, fault_along, least_end, ended}
+use Rattle.n3_patch.proofs.Telling.{fault_along, least_end}
 
 -- the triples of a text are one list
 one_spelled : (base bytes : List ℕ) (ts us : List PatchTriple) → SpellsTriples base bytes ts → SpellsTriples base bytes us → ts ≡ us

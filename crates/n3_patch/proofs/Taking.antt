@@ -14,11 +14,12 @@ use Rattle.turtle_reader.specs.declared.lexeme.Lexeme.{Lexeme}
 use Rattle.turtle_reader.specs.declared.meaning.Meaning.{Meaning}
 use Rattle.turtle_reader.specs.Lexemes.{lexeme_of, lexemes_of}
 use Rattle.turtle_reader.specs.Readings.{IsReading, ReadsOn, IsRefused, produced_last}
+use Rattle.turtle_reader.proofs.Firsts.{lexemes_more}
 use Rattle.n3_patch.specs.declared.document.Document.{Document}
 use Rattle.n3_patch.specs.Spells.{AreTriplesOf}
 use Rattle.n3_patch.specs.Reading.{AreSound, Adds, IsSoFar, TakesOn, IsRefusedAfter}
 use Rattle.n3_patch.proofs.Meant.{triples_still}
-use Rattle.n3_patch.proofs.Telling.{lexemes_more, first_of, told_here, least_of}
+use Rattle.n3_patch.proofs.Telling.{first_of, told_here, least_of}
 
 string_same : (s : Bool) (kind : TokenKind) → is_string kind ≡ is_string (kind_after s kind)
 string_same true Kind.AtPrefix = refl

@@ -1,13 +1,10 @@
 -- Which fault is told, by what was read.
-use Rattle.std.proofs.Common.{◌≡◌, ◌≢◌, ◌⊎◌, ℕ, ◌<◌, ◌≤◌, lit≤, Bool, List, ◌∷◌, ◌++◌, length, Option, Some, None, Result, Ok, Err, IfErr}
-use Rattle.std.specs.Result.{IsErrAnd}
+use Rattle.std.proofs.Common.{◌≡◌, ◌≢◌, ◌⊎◌, ℕ, ◌<◌, ◌≤◌, lit≤, List, ◌∷◌, ◌++◌, length, Option, Some, None, Result, Ok, Err}
 use Rattle.std.proofs.Common.{inl, inr, refl, sym, ap, ◌∙◌, subst, arith}
 use Rattle.std.proofs.lemmas.Bool.{cases_lt}
-use Rattle.std.proofs.lemmas.List.{map-append}
 use Rattle.turtle_lex.specs.declared.token.Token.{Token}
 use Rattle.turtle_lex.specs.declared.token.LexFault.{LexFault}
 use Rattle.turtle_lex.specs.declared.token.LexFault.TheVariants as lex
-use Rattle.turtle_lex.specs.Tokens.{IsAnswer, IsNext, listed_token}
 use Rattle.turtle_grammar.specs.declared.production.Production.{Production}
 use Rattle.turtle_grammar.specs.declared.symbol.Start.TheVariants as start_of
 use Rattle.turtle_grammar.specs.Derivations.{Derives}
@@ -21,15 +18,11 @@ use Rattle.turtle_reader.specs.Faults.{IsLeastAfter, rank}
 use Rattle.turtle_reader.specs.Lexemes.{lexeme_of, lexemes_of, lexeme_answer, symbols_of}
 use Rattle.turtle_reader.specs.Readings.{IsReading}
 use Rattle.turtle_reader.proofs.Stepping.{no_fault_before}
+use Rattle.turtle_reader.proofs.Firsts.{firsts_agree, first_shorter, lexemes_more, ended}
+use Rattle.turtle_reader.specs.FirstTokens.{Answer, AreFirst, IsListedAnswer, document_fault}
 use Rattle.n3_patch.specs.declared.document.Document.{Document}
-use Rattle.turtle_text.specs.Faults.{Answer, AreFirst}
 use Rattle.n3_patch.specs.Faults.{IsFaultAt, HasFaultAt, HasNoFault, IsFirstFault}
-use Rattle.turtle_text.specs.Progress.{IsListedAnswer, fault_of}
 use Rattle.n3_patch.specs.Reading.{IsSoFar}
-use Rattle.turtle_text.proofs.Firsts.{firsts_agree, first_shorter}
-
-pub lexemes_more : (ts us : List Token) → lexemes_of (ts ++ us) ≡ lexemes_of ts ++ lexemes_of us
-lexemes_more ts us = map-append lexeme_of ts us
 
 -- the first tokens and what a lexer says after them
 pub first_of : (bytes : List ℕ) (base : List ℕ) (tokens : List Token) (at : ℕ) (d : Document) (next : Answer) → IsSoFar base bytes tokens at d
@@ -40,18 +33,6 @@ first_of bytes base tokens at d next h (answer, answers, is) =
 pub fault_along : (base bytes : List ℕ) (before : List Token) (next other : Answer) (f : TurtleFault) → next ≡ other
     → IsFaultAt base bytes before next f → IsFaultAt base bytes before other f
 fault_along base bytes before next other f e h = subst (λ (z : Answer). IsFaultAt base bytes before z f) e h
-
-pub ended : (t : Token) (next : Answer) → next ≡ Ok None → next ≡ Ok (Some t) → ⊥
-ended t next e f = cc
-
-no_end : (f : LexFault) (next : Answer) → next ≡ Ok None → next ≡ Err f → ⊥
-no_end f next e g = cc
-
-no_token : (f : LexFault) (t : Token) (next : Answer) → next ≡ Ok (Some t) → next ≡ Err f → ⊥
-no_token f t next e g = cc
-
-same_some : (t u : Token) (next : Answer) → next ≡ Ok (Some t) → next ≡ Ok (Some u) → t ≡ u
-same_some t u next e g = cc
 
 module _ (base bytes : List ℕ) (tokens : List Token) (at : ℕ) (d : Document) (h : IsSoFar base bytes tokens at d) where
   module _ (next : Answer) (first : AreFirst bytes tokens next) where
@@ -170,7 +151,7 @@ module _ (base bytes : List ℕ) (tokens : List Token) (at : ℕ) (d : Document)
       (λ g has. least_bad_token base bytes tokens place g (fault_along base bytes tokens next (Err (lex.BadToken place)) g is has))
       (ap lexeme_answer is)
 
-  pub lexer_fault : (f : LexFault) → next ≡ Err f → fault_of f ≢ NoMemory → IsFirstFault base bytes (fault_of f)
+  pub lexer_fault : (f : LexFault) → next ≡ Err f → document_fault f ≢ NoMemory → IsFirstFault base bytes (document_fault f)
   lexer_fault (lex.NotText place) is other = not_text place is
   lexer_fault (lex.BadToken place) is other = bad_token place is
   lexer_fault lex.NoMemory is other = absurd (other refl)
@@ -189,21 +170,3 @@ module _ (base bytes : List ℕ) (tokens : List Token) (at : ℕ) (d : Document)
   pub complete : next ≡ Ok None → Derives start_of.Patch (symbols_of (lexemes_of tokens)) h.productions → HasNoFault base bytes
   complete is derives = none_at_all base bytes tokens at d h next first is
       (λ g has. (least_end base bytes tokens g (fault_along base bytes tokens next (Ok None) g is has)).1 h.productions derives)
-
--- what a list has next is the end where the lexer says so
-pub ends_with : (bytes : List ℕ) (from : ℕ) (s : Bool) (next : Answer) → IsListedAnswer bytes from s next → next ≡ Ok None → IsAnswer bytes from (Ok None)
-ends_with bytes from s next (Ok (Some t), answers, is) e = absurd (ended (listed_token s t) next e is)
-ends_with bytes from s next (Ok None, answers, is) e = answers
-ends_with bytes from s next (Err f, answers, is) e = absurd (no_end f next e is)
-
--- and a token where it says that
-pub token_with : (bytes : List ℕ) (from : ℕ) (s : Bool) (next : Answer) (t : Token) → IsListedAnswer bytes from s next → next ≡ Ok (Some t)
-    → (raw : Token) × IsNext bytes from raw × (t ≡ listed_token s raw)
-token_with bytes from s next t (Ok (Some raw), answers, is) e = (raw, answers, same_some t (listed_token s raw) next e is)
-token_with bytes from s next t (Ok None, answers, is) e = absurd (ended t next is e)
-token_with bytes from s next t (Err f, answers, is) e = absurd (no_token f t next e is)
-
--- a fault that `?` hands on is the callee's
-pub handed : {T : Type 0} (r : Result T TurtleFault) (e : TurtleFault) (P : TurtleFault → Type 0) → IsErrAnd r (λ x. x ≡ e) → P e → IfErr r P
-handed (Ok x) e P h k = absurd h
-handed (Err x) e P h k = subst P (sym h) k

@@ -12,7 +12,7 @@ use Rattle.turtle_terms.specs.declared.fault.TurtleFault.{TurtleFault}
 use Rattle.turtle_terms.specs.declared.fault.TurtleFault.TheVariants as turtle
 use Rattle.turtle_reader.specs.Faults.{IsFaultAfter, rank}
 use Rattle.turtle_reader.specs.Lexemes.{lexemes_of, lexeme_answer}
-use Rattle.turtle_text.specs.Faults.{Answer, AreFirst}
+use Rattle.turtle_reader.specs.FirstTokens.{Answer, AreFirst}
 use Rattle.n3_patch.specs.declared.fault.N3Fault.{N3Fault}
 use Rattle.n3_patch.specs.declared.fault.N3Fault.TheVariants.{Syntax, Constraint, TooLarge}
 use Rattle.n3_patch.specs.declared.fault.N3Fault.TheVariants.{NoMemory}

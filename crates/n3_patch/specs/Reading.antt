@@ -1,5 +1,5 @@
 -- What the reader of a patch document keeps.
-use Rattle.std.specs.Prelude.{◌≡◌, ℕ, false, List, [], ◌∷◌, ◌++◌, Some, IfSome}
+use Rattle.std.specs.Prelude.{◌≡◌, ℕ, false, List, [], ◌∷◌, ◌++◌, Some}
 use Rattle.turtle_lex.specs.declared.token.Token.{Token}
 use Rattle.turtle_lex.specs.Tokens.{AreTokensTo, IsNext, listed_token}
 use Rattle.turtle_grammar.specs.declared.production.Production.{Production}
@@ -13,7 +13,7 @@ use Rattle.turtle_reader.specs.declared.reader.Reader.{Reader}
 use Rattle.turtle_reader.specs.declared.referent.ResolvedTriple.{ResolvedTriple}
 use Rattle.turtle_reader.specs.Lexemes.{lexemes_of}
 use Rattle.turtle_reader.specs.Readings.{IsReading}
-use Rattle.turtle_text.specs.Progress.{AreLabelsOf}
+use Rattle.turtle_labels.specs.Documents.{AreLazyLabelsOf}
 use Rattle.n3_patch.specs.declared.document.Document.{Document}
 use Rattle.n3_patch.specs.declared.made.Made.{Made}
 use Rattle.n3_patch.specs.declared.triples.PatchTriple.{PatchTriple}
@@ -37,7 +37,7 @@ Makes bytes symbolic reader triple =
 
 -- the labels are those of the bytes
 abbrev pub AreSound : List ℕ → Made → Type 0
-AreSound bytes made = IfSome made.labels (AreLabelsOf bytes)
+AreSound bytes made = AreLazyLabelsOf bytes made.labels
 
 -- Whatever was read and whatever had been produced before: with these productions the triples are
 -- those.

@@ -19,7 +19,7 @@ use Rattle.turtle_reader.specs.Contexts.{at_start}
 use Rattle.turtle_reader.specs.Lexemes.{lexemes_of, symbols_of}
 use Rattle.turtle_reader.specs.Meanings.{AreMeanings}
 use Rattle.turtle_reader.specs.Referents.{referent}
-use Rattle.turtle_text.specs.Triples.{IsLabelOf}
+use Rattle.turtle_labels.specs.Documents.{IsLabelOf}
 use Rattle.n3_patch.specs.declared.triples.PatchNode.{PatchNode}
 use Rattle.n3_patch.specs.declared.triples.PatchNode.TheVariants as patch_node
 use Rattle.n3_patch.specs.declared.triples.PatchTriple.{PatchTriple}

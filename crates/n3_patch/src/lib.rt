@@ -31,7 +31,6 @@ mod reading;
 mod rules;
 mod size;
 mod triples;
-mod unnamed;
 mod vocabulary;
 
 pub use fault::{CONDITIONS_LIMIT, Judgement, N3Fault, PatchRule};

@@ -1,44 +1,42 @@
 //! The triples of a patch document as they are made.
 
 ghost use Rattle.std.specs.Prelude.{◌≡◌, ◌++◌, ◌∷◌, [], ℕ, List as ListOf, Some, IfOk, OnOk};
-ghost use Rattle.std.specs.Prelude.{IfSome};
 ghost use Rattle.turtle_reader.specs.Readings.{produced_last};
+ghost use Rattle.turtle_labels.specs.Documents.{AreLazyLabelsOf};
 ghost use Rattle.n3_patch.specs.Spells.{IsReferentNode, within_formula};
-ghost use Rattle.turtle_text.specs.Progress.{AreLabelsOf};
 ghost use Rattle.n3_patch.specs.Reading.{IsReferentTriple, Makes, Adds, AreSound};
 
 use crate::triples::{PatchNode, PatchTriple};
-use crate::unnamed::label;
 use pod_base::{List, Mem, NoMemory};
 use rdf_graph::Term;
 use std::alloc::Global;
 use turtle_grammar::{Production, SymbolicTriple, Within};
-use turtle_labels::Labels;
+use turtle_labels::LazyLabels;
 use turtle_reader::{Reader, Referent, ResolvedTriple};
 
 /// The triples so far, and the labels of unnamed nodes as soon as there is one.
 #[derive(Drop)]
 pub(crate) struct Made {
     pub(crate) list: List<PatchTriple>,
-    pub(crate) labels: Option<Labels>,
+    pub(crate) labels: LazyLabels,
 }
 
 /// The node of a patch document that a node refers to.
 fn node_of(
     alloc: Global,
     bytes: &[u8],
-    labels: &mut Option<Labels>,
+    labels: &mut LazyLabels,
     referent: Referent,
 ) -> Mem<PatchNode>
-    requires { IfSome labels.old (AreLabelsOf bytes.now) }
-    ensures labels { IfSome labels.new (AreLabelsOf bytes.now) }
+    requires { AreLazyLabelsOf bytes.now labels.old }
+    ensures labels { AreLazyLabelsOf bytes.now labels.new }
     ensures node { IfOk result (IsReferentNode bytes.now (Some referent)) }
 {
     match referent {
         Referent::Term(term) => Ok(PatchNode::Term(term)),
         Referent::Variable(name) => Ok(PatchNode::Variable(name)),
         Referent::Formula(index) => Ok(PatchNode::Formula(index)),
-        Referent::Unnamed(number) => match label(alloc, bytes, labels, number) {
+        Referent::Unnamed(number) => match labels.label(alloc, bytes, number) {
             Ok(label) => Ok(PatchNode::Term(Term::Blank(label))),
             Err(full) => Err(full),
         },
@@ -59,11 +57,11 @@ fn within_formula(within: Within) -> Option<usize>
 fn triple_of(
     alloc: Global,
     bytes: &[u8],
-    labels: &mut Option<Labels>,
+    labels: &mut LazyLabels,
     resolved: ResolvedTriple,
 ) -> Mem<PatchTriple>
-    requires { IfSome labels.old (AreLabelsOf bytes.now) }
-    ensures labels { IfSome labels.new (AreLabelsOf bytes.now) }
+    requires { AreLazyLabelsOf bytes.now labels.old }
+    ensures labels { AreLazyLabelsOf bytes.now labels.new }
     ensures triple { IfOk result (IsReferentTriple bytes.now resolved) }
 {
     let formula = within_formula(resolved.within);
@@ -82,12 +80,12 @@ fn triple_of(
 fn make_triple(
     alloc: Global,
     bytes: &[u8],
-    labels: &mut Option<Labels>,
+    labels: &mut LazyLabels,
     reader: &Reader,
     symbolic: &SymbolicTriple,
 ) -> Mem<PatchTriple>
-    requires { IfSome labels.old (AreLabelsOf bytes.now) }
-    ensures labels { IfSome labels.new (AreLabelsOf bytes.now) }
+    requires { AreLazyLabelsOf bytes.now labels.old }
+    ensures labels { AreLazyLabelsOf bytes.now labels.new }
     ensures triple { IfOk result (Makes bytes.now symbolic.now reader.now) }
 {
     match reader.triple(alloc, symbolic) {
@@ -103,7 +101,7 @@ impl Made {
     {
         Made {
             list: List::new(alloc),
-            labels: None,
+            labels: LazyLabels::new(),
         }
     }
 

@@ -4,10 +4,10 @@ ghost use Rattle.std.specs.Prelude.{◌≡◌, ◌≢◌, Ok, IfOk, IfErr, IfSom
 ghost use Rattle.rdf_graph.specs.Patch.{IsBound};
 ghost use Rattle.turtle_lex.specs.Tokens.{IsTokenOf};
 ghost use Rattle.turtle_terms.specs.declared.fault.TurtleFault.TheVariants.{NoMemory as NoMemoryFault};
+ghost use Rattle.turtle_reader.specs.FirstTokens.{IsListedAnswer};
 ghost use Rattle.n3_patch.specs.Faults.{HasNoFault, HasOnlyPatch, IsFirstFault, IsN3Fault};
 ghost use Rattle.n3_patch.specs.Faults.{told_as};
 ghost use Rattle.n3_patch.specs.Spells.{PatchSpells, SpellsTriples};
-ghost use Rattle.turtle_text.specs.Progress.{IsListedAnswer, fault_of};
 ghost use Rattle.n3_patch.specs.Reading.{IsRefusedNext};
 
 use crate::document::Document;
@@ -18,39 +18,9 @@ use iri_ref::Iri;
 use pod_base::List;
 use rdf_graph::Patch;
 use std::alloc::Global;
-use turtle_lex::{LexFault, Lexer, Token, listed_token};
+use turtle_lex::{Lexer, Token};
+use turtle_reader::{document_fault, next_listed};
 use turtle_terms::{TurtleFault, TurtleKind};
-
-/// What comes next, as a list has it after a String or after another token.
-fn next_listed(lexer: &mut Lexer<'_>, after_string: bool) -> Result<Option<Token>, LexFault>
-    ensures answer { IsListedAnswer lexer.old.bytes lexer.old.from after_string result }
-    ensures of_bytes { IfOk result (λ o. IfSome o (IsTokenOf lexer.old.bytes)) }
-    ensures from { IfOk result (λ o. IfSome o (λ token. lexer.new.from ≡ token.to)) }
-    ensures bytes { lexer.new.bytes ≡ lexer.old.bytes }
-{
-    match lexer.next_token() {
-        Ok(Some(token)) => Ok(Some(listed_token(after_string, token))),
-        Ok(None) => Ok(None),
-        Err(fault) => Err(fault),
-    }
-}
-
-/// The fault of a lexer as that of a document.
-fn fault_of(fault: LexFault) -> TurtleFault
-    ensures { result ≡ fault_of fault }
-{
-    match fault {
-        LexFault::NotText { at } => TurtleFault::Bad {
-            at,
-            kind: TurtleKind::NotText,
-        },
-        LexFault::BadToken { at } => TurtleFault::Bad {
-            at,
-            kind: TurtleKind::BadToken,
-        },
-        LexFault::NoMemory => TurtleFault::NoMemory,
-    }
-}
 
 /// The next token of a document.
 fn next(lexer: &mut Lexer<'_>, document: &Document) -> Result<Option<Token>, TurtleFault>
@@ -64,7 +34,7 @@ fn next(lexer: &mut Lexer<'_>, document: &Document) -> Result<Option<Token>, Tur
 {
     match next_listed(lexer, document.after_string) {
         Ok(token) => Ok(token),
-        Err(fault) => Err(fault_of(fault)),
+        Err(fault) => Err(document_fault(fault)),
     }
 }
 

@@ -16,8 +16,7 @@ use Rattle.turtle_reader.specs.Faults.{rank}
 use Rattle.turtle_reader.specs.Lexemes.{lexemes_of, lexeme_answer, symbols_of}
 use Rattle.turtle_reader.specs.Meanings.{AreMeanings}
 use Rattle.turtle_reader.proofs.Sequences.{one_means}
-use Rattle.turtle_text.specs.Faults.{Answer, place_of}
-use Rattle.turtle_text.proofs.Firsts.{firsts_agree}
+use Rattle.turtle_text.specs.Faults.{place_of}
 use Rattle.turtle_text.proofs.OneFault.{places}
 use Rattle.n3_patch.specs.declared.fault.N3Fault.{N3Fault}
 use Rattle.n3_patch.specs.declared.fault.N3Fault.TheVariants as fault_of
@@ -28,6 +27,8 @@ use Rattle.n3_patch.specs.Spells.{AreTriplesOf, PatchSpells, SpellsTriples}
 use Rattle.n3_patch.proofs.Meant.{one_triples}
 use Rattle.n3_patch.proofs.OneSpelled.{one_spelled_patch}
 use Rattle.n3_patch.proofs.RuleLemmas.{one_rule, patch_breaks_none}
+use Rattle.turtle_reader.proofs.Firsts.{firsts_agree}
+use Rattle.turtle_reader.specs.FirstTokens.{Answer}
 use Rattle.request_body.specs.declared.body.RequestBody.TheVariants.{Nothing, Content, Patch, Update}
 use Rattle.request_body.specs.declared.fault.BodyFault.TheVariants.{NoType, UnsupportedType, Syntax, Json, Rule, GraphSize}
 use Rattle.request_body.specs.Bodies.{Outcome, IsPatchBody}

@@ -1,6 +1,5 @@
 -- Which fault is told, by what was read.
-use Rattle.std.proofs.Common.{◌≡◌, ◌≢◌, ◌⊎◌, ℕ, ◌<◌, ◌≤◌, lit≤, List, ◌∷◌, ◌++◌, length, Some, None, Result, Ok, Err, IfErr}
-use Rattle.std.specs.Result.{IsErrAnd}
+use Rattle.std.proofs.Common.{◌≡◌, ◌≢◌, ◌⊎◌, ℕ, ◌<◌, ◌≤◌, lit≤, List, ◌∷◌, ◌++◌, length, Some, None, Ok, Err}
 use Rattle.std.proofs.Common.{inl, inr, refl, sym, subst, arith}
 use Rattle.std.proofs.lemmas.Bool.{cases_lt}
 use Rattle.turtle_lex.specs.declared.token.LexFault.{LexFault}
@@ -20,7 +19,8 @@ use Rattle.turtle_reader.proofs.Stepping.{no_fault_before}
 use Rattle.sparql_patch.specs.declared.document.Document.{Document}
 use Rattle.sparql_patch.specs.UpdateFaults.{IsFaultAt, HasFaultAt, HasNoFault, IsFirstFault}
 use Rattle.sparql_patch.specs.UpdateLexemes.{IsLexemeAnswer, AreFirst}
-use Rattle.sparql_patch.specs.Reading.{IsSoFar, fault_of}
+use Rattle.turtle_reader.specs.FirstTokens.{document_fault}
+use Rattle.sparql_patch.specs.Reading.{IsSoFar}
 use Rattle.sparql_patch.proofs.Firsts.{firsts_agree, first_shorter}
 
 -- the first lexemes and what comes after them
@@ -132,7 +132,7 @@ module _ (base bytes : List ℕ) (ls : List Lexeme) (at : ℕ) (d : Document) (h
   bad_token place is = told_here base bytes ls at d h next first (Bad place Why.BadToken)
       (λ g has. least_bad_token base bytes ls place g (fault_along base bytes ls next (Err (lex.BadToken place)) g is has)) is
 
-  pub lexer_fault : (f : LexFault) → next ≡ Err f → fault_of f ≢ NoMemory → IsFirstFault base bytes (fault_of f)
+  pub lexer_fault : (f : LexFault) → next ≡ Err f → document_fault f ≢ NoMemory → IsFirstFault base bytes (document_fault f)
   lexer_fault (lex.NotText place) is other = not_text place is
   lexer_fault (lex.BadToken place) is other = bad_token place is
   lexer_fault lex.NoMemory is other = absurd (other refl)
@@ -151,8 +151,3 @@ module _ (base bytes : List ℕ) (ls : List Lexeme) (at : ℕ) (d : Document) (h
   pub complete : next ≡ Ok None → Derives Update (symbols_of ls) h.productions → HasNoFault base bytes
   complete is derives = none_at_all base bytes ls at d h next first is
       (λ g has. (least_end base bytes ls g (fault_along base bytes ls next (Ok None) g is has)).1 h.productions derives)
-
--- a fault that `?` hands on is the callee's
-pub handed : {T : Type 0} (r : Result T TurtleFault) (e : TurtleFault) (P : TurtleFault → Type 0) → IsErrAnd r (λ x. x ≡ e) → P e → IfErr r P
-handed (Ok x) e P h k = absurd h
-handed (Err x) e P h k = subst P (sym h) k

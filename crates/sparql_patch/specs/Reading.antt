@@ -3,16 +3,13 @@ use Rattle.std.specs.Prelude.{◌≡◌, ◌||◌, ℕ, false, not, List, [], �
 use Rattle.std.specs.Prelude.{IfSome, is_some, drop, Ok, Err}
 use Rattle.rdf_graph.specs.declared.term.Term.{Term}
 use Rattle.rdf_graph.specs.declared.triple.Triple.{Triple as RdfTriple}
-use Rattle.turtle_lex.specs.declared.token.LexFault.{LexFault}
 use Rattle.turtle_lex.specs.declared.token.LexFault.TheVariants as lex
 use Rattle.turtle_grammar.specs.declared.production.Production.{Production}
 use Rattle.turtle_grammar.specs.declared.production.Production.TheVariants.{Prefix, Base, Triple}
 use Rattle.turtle_grammar.specs.declared.production.SymbolicTriple.{SymbolicTriple}
 use Rattle.turtle_grammar.specs.declared.symbol.Start.{Start}
 use Rattle.turtle_grammar.specs.declared.symbol.Start.TheVariants.{Update}
-use Rattle.turtle_terms.specs.declared.fault.TurtleKind.TheVariants as Why
 use Rattle.turtle_terms.specs.declared.fault.TurtleFault.{TurtleFault}
-use Rattle.turtle_terms.specs.declared.fault.TurtleFault.TheVariants.{Bad, NoMemory}
 use Rattle.turtle_reader.specs.declared.lexeme.Lexeme.{Lexeme}
 use Rattle.turtle_reader.specs.declared.meaning.Meaning.{Meaning}
 use Rattle.turtle_reader.specs.declared.reader.Reader.{Reader}
@@ -35,12 +32,6 @@ abbrev pub IsWordAnswer : List ℕ → ℕ → Next → Type 0
 IsWordAnswer bytes at (Ok (Some lexeme)) = (lexeme.from ≡ at) × IsWordOf bytes lexeme
 IsWordAnswer bytes at (Ok None) = ⊥
 IsWordAnswer bytes at (Err fault) = (fault ≡ lex.BadToken at) × HasNoWord (drop at bytes)
-
--- the fault of a lexer as that of an update
-abbrev pub fault_of : LexFault → TurtleFault
-fault_of (lex.NotText at) = Bad at Why.NotText
-fault_of (lex.BadToken at) = Bad at Why.BadToken
-fault_of lex.NoMemory = NoMemory
 
 -- The referent is this term, or a blank node where there is none.
 pub record IsTermOrBlank (referent : Referent) (term : Option Term) : Type 0 where

@@ -8,7 +8,7 @@ ghost use Rattle.sparql_patch.specs.UpdateLexemes.{IsLexemeAnswer};
 ghost use Rattle.sparql_patch.specs.UpdateSpells.{Names, named_size};
 ghost use Rattle.sparql_patch.specs.UpdateFaults.{HasNoFault, IsFirstFault, told_as};
 ghost use Rattle.sparql_patch.specs.UpdateFaults.{IsSparqlFault, HasOnlyNamed};
-ghost use Rattle.sparql_patch.specs.Reading.{fault_of, IsRefusedNext, HasCollected};
+ghost use Rattle.sparql_patch.specs.Reading.{IsRefusedNext, HasCollected};
 
 use crate::collected::Collected;
 use crate::document::Document;
@@ -19,26 +19,9 @@ use crate::size::is_too_large;
 use iri_ref::Iri;
 use pod_base::List;
 use std::alloc::Global;
-use turtle_lex::{LexFault, Lexer};
-use turtle_reader::Lexeme;
+use turtle_lex::Lexer;
+use turtle_reader::{Lexeme, document_fault};
 use turtle_terms::{TurtleFault, TurtleKind};
-
-/// The fault of a lexer as that of an update.
-fn fault_of(fault: LexFault) -> TurtleFault
-    ensures { result ≡ fault_of fault }
-{
-    match fault {
-        LexFault::NotText { at } => TurtleFault::Bad {
-            at,
-            kind: TurtleKind::NotText,
-        },
-        LexFault::BadToken { at } => TurtleFault::Bad {
-            at,
-            kind: TurtleKind::BadToken,
-        },
-        LexFault::NoMemory => TurtleFault::NoMemory,
-    }
-}
 
 /// The next lexeme of an update.
 fn next<'a>(
@@ -57,7 +40,7 @@ fn next<'a>(
 {
     match next_lexeme(lexer, bytes, document.after_string) {
         Ok(lexeme) => Ok(lexeme),
-        Err(fault) => Err(fault_of(fault)),
+        Err(fault) => Err(document_fault(fault)),
     }
 }
 

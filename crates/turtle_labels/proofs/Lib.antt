@@ -1,3 +1,4 @@
 -- kept for the crates above
 pub mod BeforeLemmas
 pub mod UnnamedLemmas
+pub mod DocumentLemmas

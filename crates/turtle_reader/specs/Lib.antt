@@ -1,3 +1,4 @@
+pub mod FirstTokens
 pub mod Lexemes
 pub mod Contexts
 pub mod Meanings

@@ -3,8 +3,9 @@
 //!
 //! ```text
 //! let mut reader = Reader::new(alloc, Start::Document, &base)?;
-//! while let Some(token) = lexer.next_token()? {
+//! while let Ok(Some(token)) = next_listed(&mut lexer, after_string) {
 //!     reader.step(alloc, bytes, Lexeme::of(token))?;
+//!     after_string = token.kind.is_string();
 //!     for production in reader.produced() {
 //!         if let Production::Triple(triple) = production {
 //!             let resolved = reader.triple(alloc, triple)?;
@@ -20,8 +21,9 @@
 //! reads a lexeme exactly where it has no fault (clause `read`), else it returns the fault of the
 //! least rank there (`refused`, by `IsFaultAfter` of `specs/Faults.antt`). [`Reader::triple`]
 //! returns what the nodes of a triple refer to (`Resolves`): terms, variables, unnamed nodes by
-//! their number, and formulas by the index of their `{`. [`laws`] has what the proofs of the
-//! languages above cite.
+//! their number, and formulas by the index of their `{`. [`next_listed`] has what comes next in a
+//! text as its list of tokens has it (clause `answer`, by `IsListedAnswer` of
+//! `specs/FirstTokens.antt`). [`laws`] has what the proofs of the languages above cite.
 //!
 //! A reader keeps the meanings of the lexemes since the last complete statement. Terms share the
 //! memory of the lexemes that mean them. The crate stands on `turtle_grammar` for productions and
@@ -32,11 +34,13 @@ mod context;
 pub mod laws;
 mod lexeme;
 mod meaning;
+mod next_token;
 mod reader;
 mod referent;
 
 pub use context::{Context, Directive};
 pub use lexeme::Lexeme;
 pub use meaning::Meaning;
+pub use next_token::{document_fault, next_listed};
 pub use reader::Reader;
 pub use referent::{Referent, ResolvedTriple};

@@ -10,12 +10,14 @@ use Rattle.turtle_terms.specs.declared.fault.TurtleKind.TheVariants as Why
 use Rattle.turtle_terms.specs.declared.fault.TurtleFault.{TurtleFault}
 use Rattle.turtle_terms.specs.declared.fault.TurtleFault.TheVariants.{Bad}
 use Rattle.turtle_reader.specs.Lexemes.{lexemes_of, symbols_of}
+use Rattle.turtle_reader.proofs.Firsts.{ends_with, token_with}
+use Rattle.turtle_reader.specs.FirstTokens.{Answer, AreFirst, IsListedAnswer}
 use Rattle.turtle_text.specs.declared.document.Document.{Document}
 use Rattle.turtle_text.specs.Triples.{AreTriplesOf}
 use Rattle.turtle_text.specs.Spells.{SpellsTriples}
-use Rattle.turtle_text.specs.Faults.{Answer, AreFirst, HasNoFault, IsFirstFault}
-use Rattle.turtle_text.specs.Progress.{IsSoFar, TakesOn, IsRefusedAfter, is_large, IsListedAnswer}
-use Rattle.turtle_text.proofs.Telling.{first_of, complete, unfinished, ends_with, token_with}
+use Rattle.turtle_text.specs.Faults.{HasNoFault, IsFirstFault}
+use Rattle.turtle_text.specs.Progress.{IsSoFar, TakesOn, IsRefusedAfter, is_large}
+use Rattle.turtle_text.proofs.Telling.{first_of, complete, unfinished}
 
 module _ (base bytes : List ℕ) (tokens : List Token) (at : ℕ) (d : Document) (h : IsSoFar base bytes tokens at d) (next : Answer)
     (listed : IsListedAnswer bytes at d.after_string next) (small : is_large d next ≡ false) (is : next ≡ Ok None) where

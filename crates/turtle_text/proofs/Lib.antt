@@ -1,4 +1,3 @@
-pub mod Firsts
 pub mod Sums
 pub mod Telling
 pub mod Weighing

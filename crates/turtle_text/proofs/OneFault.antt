@@ -15,8 +15,9 @@ use Rattle.turtle_reader.specs.Faults.{Next, IsStop, HasNoIri, IsDeep, rank}
 use Rattle.turtle_reader.specs.Lexemes.{lexemes_of, lexeme_answer}
 use Rattle.turtle_reader.specs.Meanings.{IsMeaning}
 use Rattle.turtle_reader.proofs.Sequences.{one_means, faults_agree}
-use Rattle.turtle_text.specs.Faults.{Answer, IsLargeAt, IsFaultAt, HasFaultAt, IsFirstFault, place_of}
-use Rattle.turtle_text.proofs.Firsts.{firsts_agree}
+use Rattle.turtle_reader.proofs.Firsts.{firsts_agree}
+use Rattle.turtle_reader.specs.FirstTokens.{Answer}
+use Rattle.turtle_text.specs.Faults.{IsLargeAt, IsFaultAt, HasFaultAt, IsFirstFault, place_of}
 
 -- the fault of a rank at a position
 abbrev fault_of : ℕ → ℕ → TurtleFault

@@ -20,8 +20,9 @@ use Rattle.turtle_reader.specs.Contexts.{at_start, context_from}
 use Rattle.turtle_reader.specs.Faults.{Next, HasNoIri}
 use Rattle.turtle_reader.specs.Lexemes.{lexemes_of, lexeme_answer, token_at}
 use Rattle.turtle_reader.specs.Meanings.{special_meaning, IsPlainMeaning, IsTokenMeaning, IsMeaningBy}
-use Rattle.turtle_text.specs.Faults.{Answer, listed_answer, IsFaultAt, HasFaultAt, place_of}
-use Rattle.turtle_text.proofs.Firsts.{first_shorter}
+use Rattle.turtle_reader.proofs.Firsts.{first_shorter}
+use Rattle.turtle_reader.specs.FirstTokens.{Answer, listed_answer}
+use Rattle.turtle_text.specs.Faults.{IsFaultAt, HasFaultAt, place_of}
 use Rattle.turtle_text.proofs.OneFault.{places, Placed, OfIri, sort_of}
 
 -- The position of an IRI's fault

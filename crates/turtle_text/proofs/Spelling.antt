@@ -27,12 +27,13 @@ use Rattle.turtle_reader.specs.Faults.{HasNoIri}
 use Rattle.turtle_reader.specs.Lexemes.{lexeme_of, lexemes_of, symbols_of}
 use Rattle.turtle_reader.specs.Meanings.{AreMeanings}
 use Rattle.turtle_reader.proofs.Sequences.{one_means, no_iri_fault}
+use Rattle.turtle_reader.proofs.Firsts.{firsts_agree, first_shorter, lexemes_more, ended}
+use Rattle.turtle_reader.specs.FirstTokens.{Answer, AreFirst}
 use Rattle.turtle_text.specs.Triples.{AreTriplesOf}
 use Rattle.turtle_text.specs.Spells.{SpellsTriples, Spells}
-use Rattle.turtle_text.specs.Faults.{Answer, AreFirst, IsFaultAt, HasFaultAt, HasNoFault, IsFirstFault, IsWithinLimits, HasOnlyGraph}
-use Rattle.turtle_text.proofs.Firsts.{firsts_agree, first_shorter}
+use Rattle.turtle_text.specs.Faults.{IsFaultAt, HasFaultAt, HasNoFault, IsFirstFault, IsWithinLimits, HasOnlyGraph}
 use Rattle.turtle_text.proofs.Sums.{one_triples}
-use Rattle.turtle_text.proofs.Telling.{lexemes_more, fault_along, least_end, ended}
+use Rattle.turtle_text.proofs.Telling.{fault_along, least_end}
 
 -- the triples of a text are one list
 one_spelled : (base bytes : List ℕ) (ts us : List RdfTriple) → SpellsTriples base bytes ts → SpellsTriples base bytes us → ts ≡ us

@@ -1,16 +1,12 @@
 -- Triples one more at a time: their sizes, and their meaning.
-use Rattle.std.proofs.Common.{◌≡◌, ℕ, Bool, true, ◌+◌, List, [], ◌∷◌, ◌++◌, Option, Some, None, IfSome, slice_get, map, sum}
+use Rattle.std.proofs.Common.{◌≡◌, ℕ, Bool, true, ◌+◌, List, [], ◌∷◌, ◌++◌, Option, Some, None, map, sum}
 use Rattle.std.proofs.Common.{refl, sym, ap, ◌∙◌, subst, arith, append_assoc}
 use Rattle.std.proofs.lemmas.List.{append-nil}
 use Rattle.std.proofs.lemmas.List.Sums.{sum_by-cons}
 use Rattle.std.proofs.lemmas.List.Elements.{All-nil, All-push}
-use Rattle.std.proofs.lemmas.Option.{slice_get_within}
-use Rattle.std.specs.FinSet as set
 use Rattle.std.specs.List.{All}
-use Rattle.std.specs.Ordering.{nat_cmp}
-use Rattle.rdf_graph.proofs.Components.{slice_get-push_before}
 use Rattle.rdf_graph.specs.declared.term.Term.{Term}
-use Rattle.rdf_graph.specs.declared.term.Term.TheVariants.{Iri, Blank, Literal, Tagged as TaggedTerm}
+use Rattle.rdf_graph.specs.declared.term.Term.TheVariants.{Blank}
 use Rattle.rdf_graph.specs.declared.triple.Triple.{Triple as RdfTriple}
 use Rattle.rdf_graph.specs.Triple.{IsRdf}
 use Rattle.rdf_graph.specs.Size.{saturated, triple_size, triples_size}
@@ -20,20 +16,19 @@ use Rattle.turtle_grammar.specs.declared.production.SymbolicTriple.{SymbolicTrip
 use Rattle.turtle_grammar.specs.declared.production.Production.{Production}
 use Rattle.turtle_grammar.specs.declared.production.Production.TheVariants.{Prefix, Base, Triple}
 use Rattle.turtle_grammar.specs.Readings.{Waits, IsTriple}
-use Rattle.turtle_labels.proofs.BeforeLemmas.{one_list_before}
-use Rattle.turtle_labels.proofs.UnnamedLemmas.{one_label}
-use Rattle.turtle_labels.specs.Unnamed.{IsUnnamed, written_labels}
-use Rattle.turtle_lex.specs.declared.token.Token.{Token}
+use Rattle.turtle_labels.proofs.DocumentLemmas.{one_label_of}
 use Rattle.turtle_reader.specs.declared.meaning.Meaning.{Meaning}
 use Rattle.turtle_reader.specs.declared.meaning.Meaning.TheVariants as meaning_of
 use Rattle.turtle_reader.specs.declared.referent.Referent.{Referent}
 use Rattle.turtle_reader.specs.declared.referent.Referent.TheVariants as referent_of
 use Rattle.turtle_reader.specs.declared.reader.Reader.{Reader}
 use Rattle.turtle_reader.specs.declared.referent.ResolvedTriple.{ResolvedTriple}
-use Rattle.turtle_reader.specs.Referents.{term_referent, tagged, typed, referent, IsResolved}
+use Rattle.turtle_reader.specs.Referents.{referent, IsResolved}
+use Rattle.turtle_labels.specs.Documents.{AreLazyLabelsOf}
+use Rattle.turtle_reader.proofs.MoreMeanings.{referent_still}
 use Rattle.turtle_text.specs.declared.triples.Triples.{Triples}
-use Rattle.turtle_text.specs.Triples.{IsLabelOf, IsReferentTerm, IsNodeTerm, IsTripleOf, AreTriplesOf}
-use Rattle.turtle_text.specs.Progress.{IsReferentTriple, Makes, Adds, Weighs, AreLabelsOf, StaysSound}
+use Rattle.turtle_text.specs.Triples.{IsReferentTerm, IsNodeTerm, IsTripleOf, AreTriplesOf}
+use Rattle.turtle_text.specs.Progress.{IsReferentTriple, Makes, Adds, Weighs, StaysSound}
 
 sum_first : (x : ℕ) (xs : List ℕ) → sum (x ∷ xs) ≡ x + sum xs
 sum_first x xs = sum_by-cons (λ n. n) x xs
@@ -41,53 +36,6 @@ sum_first x xs = sum_by-cons (λ n. n) x xs
 pub size_more : (ts : List RdfTriple) (t : RdfTriple) → triples_size (ts ++ t ∷ []) ≡ triples_size ts + triple_size t
 size_more [] t = omega (arith, sum_first (triple_size t) [])
 size_more (x ∷ ts) t = omega (arith, size_more ts t, sum_first (triple_size x) (map triple_size ts), sum_first (triple_size x) (map triple_size (ts ++ t ∷ [])))
-
--- the meanings of more lexemes
-still_there : (ms : List Meaning) (more : Meaning) (i : ℕ) (m : Meaning) → slice_get ms i ≡ Some m → slice_get (ms ++ more ∷ []) i ≡ Some m
-still_there ms more i m h = slice_get-push_before ms more i (slice_get_within ms i m h) ∙ h
-
-abbrev got : Referent → Option Referent
-got r = Some r
-
-term_still : (a b : Option Meaning) (r : Referent) → ((m : Meaning) → a ≡ Some m → b ≡ Some m) → term_referent a ≡ Some r → term_referent b ≡ Some r
-term_still None b r f h = absurd (let no : ⊥ = cc in no)
-term_still (Some m) b r f h = subst (λ (z : Option Meaning). term_referent z ≡ got r) (sym (f m refl)) h
-
-no_tag : (m : Meaning) (r : Referent) → tagged (Some m) None ≡ Some r → ⊥
-no_tag (meaning_of.Term (Literal l d)) r h = cc
-no_tag (meaning_of.Term (Iri l)) r h = cc
-no_tag (meaning_of.Term (Blank l)) r h = cc
-no_tag (meaning_of.Term (TaggedTerm l d)) r h = cc
-no_tag _ r h = cc
-
-no_type : (m : Meaning) (r : Referent) → typed (Some m) None ≡ Some r → ⊥
-no_type (meaning_of.Term (Literal l d)) r h = cc
-no_type (meaning_of.Term (Iri l)) r h = cc
-no_type (meaning_of.Term (Blank l)) r h = cc
-no_type (meaning_of.Term (TaggedTerm l d)) r h = cc
-no_type _ r h = cc
-
-tagged_still : (a b c d : Option Meaning) (r : Referent) → ((m : Meaning) → a ≡ Some m → b ≡ Some m) → ((m : Meaning) → c ≡ Some m → d ≡ Some m)
-    → tagged a c ≡ Some r → tagged b d ≡ Some r
-tagged_still None b c d r f g h = absurd (let no : ⊥ = cc in no)
-tagged_still (Some m) b None d r f g h = absurd (no_tag m r h)
-tagged_still (Some m) b (Some n) d r f g h =
-    subst (λ (z : Option Meaning). tagged z d ≡ got r) (sym (f m refl)) (subst (λ (z : Option Meaning). tagged (Some m) z ≡ got r) (sym (g n refl)) h)
-
-typed_still : (a b c d : Option Meaning) (r : Referent) → ((m : Meaning) → a ≡ Some m → b ≡ Some m) → ((m : Meaning) → c ≡ Some m → d ≡ Some m)
-    → typed a c ≡ Some r → typed b d ≡ Some r
-typed_still None b c d r f g h = absurd (let no : ⊥ = cc in no)
-typed_still (Some m) b None d r f g h = absurd (no_type m r h)
-typed_still (Some m) b (Some n) d r f g h =
-    subst (λ (z : Option Meaning). typed z d ≡ got r) (sym (f m refl)) (subst (λ (z : Option Meaning). typed (Some m) z ≡ got r) (sym (g n refl)) h)
-
-referent_still : (ms : List Meaning) (more : Meaning) (n : Node) (r : Referent) → referent ms n ≡ Some r → referent (ms ++ more ∷ []) n ≡ Some r
-referent_still ms more (node.Token i) r h = term_still (slice_get ms i) (slice_get (ms ++ more ∷ []) i) r (still_there ms more i) h
-referent_still ms more (node.Tagged i k) r h =
-    tagged_still (slice_get ms i) (slice_get (ms ++ more ∷ []) i) (slice_get ms k) (slice_get (ms ++ more ∷ []) k) r (still_there ms more i) (still_there ms more k) h
-referent_still ms more (node.Typed i k) r h =
-    typed_still (slice_get ms i) (slice_get (ms ++ more ∷ []) i) (slice_get ms k) (slice_get (ms ++ more ∷ []) k) r (still_there ms more i) (still_there ms more k) h
-referent_still ms more _ r h = h
 
 -- what some referent of a node has, the same referent has with more meanings
 node_by : (bytes : List ℕ) (o p : Option Referent) (t : Term) → ((r : Referent) → o ≡ Some r → p ≡ Some r) → IsReferentTerm bytes o t → IsReferentTerm bytes p t
@@ -123,12 +71,6 @@ resolved_triple bytes ms s r t h k = record {
   predicate = subst (λ (z : Option Referent). IsReferentTerm bytes z t.p) (sym h.predicate) k.predicate;
   object = subst (λ (z : Option Referent). IsReferentTerm bytes z t.o) (sym h.object) k.object;
 }
-
--- a label is one
-one_label_of : (bytes : List ℕ) (k : ℕ) (a b : List ℕ) → IsLabelOf bytes k a → IsLabelOf bytes k b → a ≡ b
-one_label_of bytes k a b (ts, before, is) (us, before', is') =
-    let same : us ≡ ts = one_list_before bytes us ts before' before in
-    one_label (written_labels bytes ts) k a b is (subst (λ (z : List Token). IsUnnamed (written_labels bytes z) k b) same is')
 
 one_referent_term : (bytes : List ℕ) (o : Option Referent) (a b : Term) → IsReferentTerm bytes o a → IsReferentTerm bytes o b → a ≡ b
 one_referent_term bytes (Some (referent_of.Term t)) a b h k = h ∙ sym k
@@ -239,7 +181,7 @@ stays_sound old new t rdf items size labels = λ bytes h. record {
   size_is = size (triples_size old.list.items) h.size_is ∙ ap saturated (sym (size_more old.list.items t))
       ∙ ap (λ (z : List RdfTriple). saturated (triples_size z)) (sym items);
   rdf = subst (All IsRdf) (sym items) (All-push IsRdf old.list.items t h.rdf rdf);
-  labels = subst (λ (z : Option (set.FinSet nat_cmp)). IfSome z (AreLabelsOf bytes)) (sym labels) h.labels;
+  labels = subst (AreLazyLabelsOf bytes) (sym labels) h.labels;
 }
 
 nothing_saturated : 0 ≡ saturated 0

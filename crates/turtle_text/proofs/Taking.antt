@@ -20,13 +20,14 @@ use Rattle.turtle_reader.specs.declared.lexeme.Lexeme.{Lexeme}
 use Rattle.turtle_reader.specs.declared.meaning.Meaning.{Meaning}
 use Rattle.turtle_reader.specs.Lexemes.{lexeme_of, lexemes_of, symbols_of}
 use Rattle.turtle_reader.specs.Readings.{IsReading, ReadsOn, IsRefused, produced_last}
+use Rattle.turtle_reader.proofs.Firsts.{ends_agree, lexemes_more}
+use Rattle.turtle_reader.specs.FirstTokens.{Answer, AreFirst}
 use Rattle.turtle_text.specs.declared.document.Document.{Document}
 use Rattle.turtle_text.specs.Triples.{AreTriplesOf}
-use Rattle.turtle_text.specs.Faults.{Answer, AreFirst, adds_to_string, AreCompleteWhere, HasSize}
+use Rattle.turtle_text.specs.Faults.{adds_to_string, AreCompleteWhere, HasSize}
 use Rattle.turtle_text.specs.Progress.{AreSound, Adds, IsWeighed, HasLarge, Judges, is_large, IsSoFar, TakesOn, IsRefusedAfter}
-use Rattle.turtle_text.proofs.Firsts.{ends_agree}
 use Rattle.turtle_text.proofs.Sums.{triples_still}
-use Rattle.turtle_text.proofs.Telling.{lexemes_more, first_of, no_large, told_here, least_of}
+use Rattle.turtle_text.proofs.Telling.{first_of, no_large, told_here, least_of}
 use Rattle.turtle_text.proofs.Weighing.{judged, saturated_large}
 
 string_same : (s : Bool) (kind : TokenKind) → is_string kind ≡ is_string (kind_after s kind)

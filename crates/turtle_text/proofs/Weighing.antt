@@ -16,10 +16,11 @@ use Rattle.turtle_reader.specs.Contexts.{at_start}
 use Rattle.turtle_reader.specs.Lexemes.{lexemes_of, symbols_of}
 use Rattle.turtle_reader.specs.Meanings.{AreMeanings}
 use Rattle.turtle_reader.proofs.Sequences.{one_means}
+use Rattle.turtle_reader.proofs.Firsts.{firsts_agree, strings_agree}
+use Rattle.turtle_reader.specs.FirstTokens.{Answer, AreFirst}
 use Rattle.turtle_text.specs.Triples.{AreTriplesOf}
-use Rattle.turtle_text.specs.Faults.{Answer, AreFirst, adds_to_string, AreCompleteWhere, HasSize, IsLargeAt}
+use Rattle.turtle_text.specs.Faults.{adds_to_string, AreCompleteWhere, HasSize, IsLargeAt}
 use Rattle.turtle_text.specs.Progress.{HasLarge, Judges}
-use Rattle.turtle_text.proofs.Firsts.{firsts_agree, strings_agree}
 use Rattle.turtle_text.proofs.Sums.{one_triples}
 
 low_high : (limit size : ℕ) → size ≤ limit → limit < size → ⊥

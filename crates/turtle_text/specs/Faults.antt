@@ -3,15 +3,13 @@
 -- A fault has an index: the number of tokens before it. Faults of a lesser index have a lesser
 -- position (`PlacesAscend` of `Laws`).
 use Rattle.std.specs.Prelude.{◌≡◌, ◌<◌, ◌≤◌, ◌⊎◌, ℕ, Bool, true, false, List, [], ◌∷◌, ◌++◌, length}
-use Rattle.std.specs.Prelude.{Option, Some, Result, Ok, Err}
+use Rattle.std.specs.Prelude.{Some, Result, Ok, Err}
 use Rattle.rdf_graph.specs.declared.size.TheConstants.{TRIPLES_LIMIT}
 use Rattle.rdf_graph.specs.declared.triple.Triple.{Triple as RdfTriple}
 use Rattle.rdf_graph.specs.Size.{triples_size}
 use Rattle.turtle_lex.specs.declared.token.TokenKind.{TokenKind}
 use Rattle.turtle_lex.specs.declared.token.TokenKind.TheVariants as Kind
 use Rattle.turtle_lex.specs.declared.token.Token.{Token}
-use Rattle.turtle_lex.specs.declared.token.LexFault.{LexFault}
-use Rattle.turtle_lex.specs.Tokens.{AreTokensTo, IsAnswer, listed_token}
 use Rattle.turtle_grammar.specs.declared.production.Production.{Production}
 use Rattle.turtle_grammar.specs.declared.symbol.Start.TheVariants.{Document}
 use Rattle.turtle_grammar.specs.Readings.{Produces}
@@ -21,28 +19,11 @@ use Rattle.turtle_terms.specs.declared.fault.TurtleFault.TheVariants.{Bad, TooLa
 use Rattle.turtle_reader.specs.declared.meaning.Meaning.{Meaning}
 use Rattle.turtle_reader.specs.Contexts.{at_start}
 use Rattle.turtle_reader.specs.Faults.{IsFaultAfter, rank}
+use Rattle.turtle_reader.specs.FirstTokens.{Answer, AreFirst}
 use Rattle.turtle_reader.specs.Lexemes.{lexemes_of, lexeme_answer, symbols_of}
 use Rattle.turtle_reader.specs.Meanings.{AreMeanings}
 use Rattle.turtle_text.specs.Triples.{AreTriplesOf}
 use Rattle.turtle_text.specs.Spells.{Spells}
-
--- what a text has next
-abbrev pub Answer : Type 0
-Answer = Result (Option Token) LexFault
-
--- the answer as a list of tokens has it, after a String or after another token
-abbrev pub listed_answer : Bool → Answer → Answer
-listed_answer after_string (Ok (Some token)) = Ok (Some (listed_token after_string token))
-listed_answer after_string other = other
-
--- These are the first tokens of the bytes, and this comes after them.
-pub record AreFirst (bytes : List ℕ) (tokens : List Token) (next : Answer) : Type 0 where
-  pub to : ℕ
-  pub string : Bool
-  pub answer : Answer
-  pub tokens_are : AreTokensTo bytes 0 false tokens to string
-  pub answers : IsAnswer bytes to answer
-  pub next_is : next ≡ listed_answer string answer
 
 -- whether what comes next adds a tag or a datatype to a String
 abbrev pub adds : TokenKind → Bool

@@ -1,45 +1,35 @@
 -- What the reader of a document keeps.
 use Rattle.std.specs.Prelude.{◌≡◌, ◌+◌, ◌<◌, ◌&&◌, ℕ, Bool, true, false, cond, List, [], ◌∷◌, ◌++◌}
 use Rattle.std.specs.Prelude.{length}
-use Rattle.std.specs.Prelude.{Option, Some, Ok, IfSome, nat_lt}
+use Rattle.std.specs.Prelude.{Option, Some, Ok, nat_lt}
 use Rattle.std.specs.List.{All}
-use Rattle.std.specs.FinSet as set
-use Rattle.std.specs.Ordering.{nat_cmp}
 use Rattle.rdf_graph.specs.declared.size.TheConstants.{TRIPLES_LIMIT}
 use Rattle.rdf_graph.specs.declared.triple.Triple.{Triple as RdfTriple}
 use Rattle.rdf_graph.specs.Size.{saturated, triples_size}
 use Rattle.rdf_graph.specs.Triple.{IsRdf}
 use Rattle.turtle_lex.specs.declared.token.Token.{Token}
-use Rattle.turtle_lex.specs.declared.token.LexFault.{LexFault}
-use Rattle.turtle_lex.specs.declared.token.LexFault.TheVariants as lex
-use Rattle.turtle_lex.specs.Tokens.{AreTokensTo, IsNext, IsAnswer, is_string}
+use Rattle.turtle_lex.specs.Tokens.{AreTokensTo, IsNext, is_string}
 use Rattle.turtle_lex.specs.Tokens.{listed_token}
 use Rattle.turtle_grammar.specs.declared.production.Production.{Production}
 use Rattle.turtle_grammar.specs.declared.production.SymbolicTriple.{SymbolicTriple}
 use Rattle.turtle_grammar.specs.declared.symbol.Start.{Start}
 use Rattle.turtle_grammar.specs.declared.symbol.Start.TheVariants as start_of
 use Rattle.turtle_grammar.specs.Readings.{Waits, waiting_productions}
-use Rattle.turtle_labels.specs.TokensBefore.{AreTokensBefore}
-use Rattle.turtle_labels.specs.Unnamed.{HasNumbersOf, written_labels}
+use Rattle.turtle_labels.specs.Documents.{AreLazyLabelsOf}
 use Rattle.turtle_terms.specs.declared.fault.TurtleFault.{TurtleFault}
-use Rattle.turtle_terms.specs.declared.fault.TurtleKind.TheVariants as Why
-use Rattle.turtle_terms.specs.declared.fault.TurtleFault.TheVariants.{Bad, TooLarge, NoMemory}
+use Rattle.turtle_terms.specs.declared.fault.TurtleFault.TheVariants.{TooLarge}
 use Rattle.turtle_reader.specs.declared.lexeme.Lexeme.{Lexeme}
 use Rattle.turtle_reader.specs.declared.meaning.Meaning.{Meaning}
 use Rattle.turtle_reader.specs.declared.reader.Reader.{Reader}
 use Rattle.turtle_reader.specs.declared.referent.ResolvedTriple.{ResolvedTriple}
 use Rattle.turtle_reader.specs.Lexemes.{lexemes_of}
 use Rattle.turtle_reader.specs.Readings.{IsReading}
+use Rattle.turtle_reader.specs.FirstTokens.{Answer, AreFirst}
 use Rattle.turtle_text.specs.declared.document.Document.{Document}
 use Rattle.turtle_text.specs.declared.triples.Triples.{Triples}
 use Rattle.turtle_text.specs.Triples.{IsReferentTerm, IsTripleOf, AreTriplesOf}
-use Rattle.turtle_text.specs.Faults.{Answer, AreFirst, adds_to_string, listed_answer, HasFaultAt}
+use Rattle.turtle_text.specs.Faults.{adds_to_string, HasFaultAt}
 use Rattle.turtle_text.specs.Faults.{IsFirstFault}
-
--- these are labels of the bytes
-abbrev pub AreLabelsOf : List ℕ → set.FinSet nat_cmp → Type 0
-AreLabelsOf bytes labels = (tokens : List Token) × AreTokensBefore bytes tokens
-    × HasNumbersOf (set.contains labels) (written_labels bytes tokens)
 
 -- the triple is that of these referents
 pub record IsReferentTriple (bytes : List ℕ) (resolved : ResolvedTriple) (triple : RdfTriple)
@@ -59,7 +49,7 @@ Makes bytes symbolic reader triple =
 pub record AreSound (bytes : List ℕ) (triples : Triples) : Type 0 where
   pub size_is : triples.size ≡ saturated (triples_size triples.list.items)
   pub rdf : All IsRdf triples.list.items
-  pub labels : IfSome triples.labels (AreLabelsOf bytes)
+  pub labels : AreLazyLabelsOf bytes triples.labels
 
 -- whatever the bytes
 abbrev pub IsSoundAnywhere : Triples → Type 0
@@ -145,19 +135,8 @@ IsRefusedAfter bytes token old fault =
     → token ≡ listed_token old.after_string next → is_large old (Ok (Some token)) ≡ false
     → IsFirstFault base bytes fault
 
--- what comes next in the bytes from a position on, as a list has it
-abbrev pub IsListedAnswer : List ℕ → ℕ → Bool → Answer → Type 0
-IsListedAnswer bytes from after_string next =
-    (answer : Answer) × IsAnswer bytes from answer × (next ≡ listed_answer after_string answer)
-
 -- Whatever was read before, this is the fault that is told where the next token was wanted.
 abbrev pub IsRefusedNext : List ℕ → ℕ → Document → TurtleFault → Type 0
 IsRefusedNext bytes from d fault =
     (base : List ℕ) (tokens : List Token) → IsSoFar base bytes tokens from d
     → IsFirstFault base bytes fault
-
--- the fault of a lexer as that of a document
-abbrev pub fault_of : LexFault → TurtleFault
-fault_of (lex.NotText at) = Bad at Why.NotText
-fault_of (lex.BadToken at) = Bad at Why.BadToken
-fault_of lex.NoMemory = NoMemory

@@ -3,22 +3,15 @@ use Rattle.std.specs.Prelude.{◌≡◌, ℕ, List, [], ◌∷◌, Option, Some}
 use Rattle.rdf_graph.specs.declared.term.Term.{Term}
 use Rattle.rdf_graph.specs.declared.term.Term.TheVariants.{Blank}
 use Rattle.rdf_graph.specs.declared.triple.Triple.{Triple as RdfTriple}
-use Rattle.turtle_lex.specs.declared.token.Token.{Token}
 use Rattle.turtle_grammar.specs.declared.production.Node.{Node}
 use Rattle.turtle_grammar.specs.declared.production.SymbolicTriple.{SymbolicTriple}
 use Rattle.turtle_grammar.specs.declared.production.Production.{Production}
 use Rattle.turtle_grammar.specs.declared.production.Production.TheVariants.{Prefix, Base, Triple}
-use Rattle.turtle_labels.specs.TokensBefore.{AreTokensBefore}
-use Rattle.turtle_labels.specs.Unnamed.{IsUnnamed, written_labels}
+use Rattle.turtle_labels.specs.Documents.{IsLabelOf}
 use Rattle.turtle_reader.specs.declared.meaning.Meaning.{Meaning}
 use Rattle.turtle_reader.specs.declared.referent.Referent.{Referent}
 use Rattle.turtle_reader.specs.declared.referent.Referent.TheVariants as referent_of
 use Rattle.turtle_reader.specs.Referents.{referent}
-
--- the label of the unnamed node of this number in a document of these bytes
-abbrev pub IsLabelOf : List ℕ → ℕ → List ℕ → Type 0
-IsLabelOf bytes number label = (tokens : List Token) × AreTokensBefore bytes tokens
-    × IsUnnamed (written_labels bytes tokens) number label
 
 -- The term of what a node refers to. A document has neither variables nor formulas.
 abbrev pub IsReferentTerm : List ℕ → Option Referent → Term → Type 0

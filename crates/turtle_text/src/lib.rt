@@ -23,7 +23,6 @@ mod document;
 pub mod laws;
 mod reading;
 mod triples;
-mod unnamed;
 
 pub use reading::read;
 pub use turtle_terms::{Scope, TurtleFault, TurtleKind, term};

@@ -5,49 +5,19 @@ ghost use Rattle.std.specs.List.{All};
 ghost use Rattle.rdf_graph.specs.Triple.{IsRdf};
 ghost use Rattle.turtle_lex.specs.Tokens.{IsTokenOf};
 ghost use Rattle.turtle_terms.specs.declared.fault.TurtleFault.TheVariants.{NoMemory as NoMemoryFault};
+ghost use Rattle.turtle_reader.specs.FirstTokens.{IsListedAnswer};
 ghost use Rattle.turtle_text.specs.Faults.{HasNoFault, IsFirstFault, HasOnlyGraph};
 ghost use Rattle.turtle_text.specs.Spells.{Spells, SpellsTriples};
-ghost use Rattle.turtle_text.specs.Progress.{is_large, IsListedAnswer, IsRefusedNext};
-ghost use Rattle.turtle_text.specs.Progress.{fault_of};
+ghost use Rattle.turtle_text.specs.Progress.{is_large, IsRefusedNext};
 
 use crate::document::Document;
 use iri_ref::Iri;
 use pod_base::List;
 use rdf_graph::{Graph, Triple};
 use std::alloc::Global;
-use turtle_lex::{LexFault, Lexer, Token, listed_token};
+use turtle_lex::{Lexer, Token};
+use turtle_reader::{document_fault, next_listed};
 use turtle_terms::{TurtleFault, TurtleKind};
-
-/// What comes next, as a list has it after a String or after another token.
-fn next_listed(lexer: &mut Lexer<'_>, after_string: bool) -> Result<Option<Token>, LexFault>
-    ensures answer { IsListedAnswer lexer.old.bytes lexer.old.from after_string result }
-    ensures of_bytes { IfOk result (λ o. IfSome o (IsTokenOf lexer.old.bytes)) }
-    ensures from { IfOk result (λ o. IfSome o (λ token. lexer.new.from ≡ token.to)) }
-    ensures bytes { lexer.new.bytes ≡ lexer.old.bytes }
-{
-    match lexer.next_token() {
-        Ok(Some(token)) => Ok(Some(listed_token(after_string, token))),
-        Ok(None) => Ok(None),
-        Err(fault) => Err(fault),
-    }
-}
-
-/// The fault of a lexer as that of a document.
-fn fault_of(fault: LexFault) -> TurtleFault
-    ensures { result ≡ fault_of fault }
-{
-    match fault {
-        LexFault::NotText { at } => TurtleFault::Bad {
-            at,
-            kind: TurtleKind::NotText,
-        },
-        LexFault::BadToken { at } => TurtleFault::Bad {
-            at,
-            kind: TurtleKind::BadToken,
-        },
-        LexFault::NoMemory => TurtleFault::NoMemory,
-    }
-}
 
 /// The next token of a document.
 fn next(lexer: &mut Lexer<'_>, document: &Document) -> Result<Option<Token>, TurtleFault>
@@ -66,7 +36,7 @@ fn next(lexer: &mut Lexer<'_>, document: &Document) -> Result<Option<Token>, Tur
     }
     match next {
         Ok(token) => Ok(token),
-        Err(fault) => Err(fault_of(fault)),
+        Err(fault) => Err(document_fault(fault)),
     }
 }
 

@@ -1,21 +1,21 @@
 //! The triples of a document.
 
-ghost use Rattle.std.specs.Prelude.{◌≡◌, ◌+◌, ◌++◌, ◌∷◌, [], ℕ, true, Some, IfOk, OnOk, IfSome};
+ghost use Rattle.std.specs.Prelude.{◌≡◌, ◌+◌, ◌++◌, ◌∷◌, [], ℕ, true, Some, IfOk, OnOk};
 ghost use Rattle.rdf_graph.specs.Size.{saturated};
 ghost use Rattle.rdf_graph.specs.Triple.{IsRdf};
 ghost use Rattle.turtle_grammar.specs.Readings.{HasString};
 ghost use Rattle.turtle_reader.specs.Readings.{produced_last};
+ghost use Rattle.turtle_labels.specs.Documents.{AreLazyLabelsOf};
 ghost use Rattle.turtle_text.specs.Triples.{IsReferentTerm};
-ghost use Rattle.turtle_text.specs.Progress.{AreLabelsOf, IsReferentTriple, Makes};
+ghost use Rattle.turtle_text.specs.Progress.{IsReferentTriple, Makes};
 ghost use Rattle.turtle_text.specs.Progress.{Adds, AreSound, IsSoundAnywhere, StaysSound};
 ghost use Rattle.turtle_text.specs.Progress.{Weighs};
 
-use crate::unnamed::label;
 use pod_base::{List, Mem, NoMemory};
 use rdf_graph::{Term, Triple};
 use std::alloc::Global;
 use turtle_grammar::{Production, SymbolicTriple};
-use turtle_labels::Labels;
+use turtle_labels::LazyLabels;
 use turtle_reader::{Reader, Referent, ResolvedTriple};
 
 /// The triples so far, the sum of their encoded sizes, and the labels of unnamed nodes as soon as
@@ -24,23 +24,18 @@ use turtle_reader::{Reader, Referent, ResolvedTriple};
 pub(crate) struct Triples {
     pub(crate) list: List<Triple>,
     pub(crate) size: u64,
-    pub(crate) labels: Option<Labels>,
+    pub(crate) labels: LazyLabels,
 }
 
 /// The term that a node refers to. A document has neither variables nor formulas.
-fn term_of(
-    alloc: Global,
-    bytes: &[u8],
-    labels: &mut Option<Labels>,
-    referent: Referent,
-) -> Mem<Term>
-    requires { IfSome labels.old (AreLabelsOf bytes.now) }
-    ensures labels { IfSome labels.new (AreLabelsOf bytes.now) }
+fn term_of(alloc: Global, bytes: &[u8], labels: &mut LazyLabels, referent: Referent) -> Mem<Term>
+    requires { AreLazyLabelsOf bytes.now labels.old }
+    ensures labels { AreLazyLabelsOf bytes.now labels.new }
     ensures term { IfOk result (IsReferentTerm bytes.now (Some referent)) }
 {
     match referent {
         Referent::Term(term) => Ok(term),
-        Referent::Unnamed(number) => match label(alloc, bytes, labels, number) {
+        Referent::Unnamed(number) => match labels.label(alloc, bytes, number) {
             Ok(label) => Ok(Term::Blank(label)),
             Err(full) => Err(full),
         },
@@ -52,11 +47,11 @@ fn term_of(
 fn triple_of(
     alloc: Global,
     bytes: &[u8],
-    labels: &mut Option<Labels>,
+    labels: &mut LazyLabels,
     resolved: ResolvedTriple,
 ) -> Mem<Triple>
-    requires { IfSome labels.old (AreLabelsOf bytes.now) }
-    ensures labels { IfSome labels.new (AreLabelsOf bytes.now) }
+    requires { AreLazyLabelsOf bytes.now labels.old }
+    ensures labels { AreLazyLabelsOf bytes.now labels.new }
     ensures triple { IfOk result (IsReferentTriple bytes.now resolved) }
 {
     let s = term_of(alloc, bytes, labels, resolved.subject)?;
@@ -81,11 +76,11 @@ fn sound(triple: Triple) -> Mem<Triple>
 fn sound_triple(
     alloc: Global,
     bytes: &[u8],
-    labels: &mut Option<Labels>,
+    labels: &mut LazyLabels,
     resolved: ResolvedTriple,
 ) -> Mem<Triple>
-    requires { IfSome labels.old (AreLabelsOf bytes.now) }
-    ensures labels { IfSome labels.new (AreLabelsOf bytes.now) }
+    requires { AreLazyLabelsOf bytes.now labels.old }
+    ensures labels { AreLazyLabelsOf bytes.now labels.new }
     ensures triple { IfOk result (IsReferentTriple bytes.now resolved) }
     ensures rdf { IfOk result IsRdf }
 {
@@ -97,12 +92,12 @@ fn sound_triple(
 fn made(
     alloc: Global,
     bytes: &[u8],
-    labels: &mut Option<Labels>,
+    labels: &mut LazyLabels,
     reader: &Reader,
     symbolic: &SymbolicTriple,
 ) -> Mem<Triple>
-    requires { IfSome labels.old (AreLabelsOf bytes.now) }
-    ensures labels { IfSome labels.new (AreLabelsOf bytes.now) }
+    requires { AreLazyLabelsOf bytes.now labels.old }
+    ensures labels { AreLazyLabelsOf bytes.now labels.new }
     ensures triple { IfOk result (Makes bytes.now symbolic.now reader.now) }
     ensures rdf { IfOk result IsRdf }
 {
@@ -137,7 +132,7 @@ impl Triples {
         Triples {
             list: List::new(alloc),
             size: 0,
-            labels: None,
+            labels: LazyLabels::new(),
         }
     }
 

@@ -9,6 +9,6 @@ pub returns-in-Err-clause-fault : goal.returns-in-Err-clause-fault
 returns-in-Err-clause-fault c =
     let bytes = c.args.lexer.now.bytes in let at = c.args.lexer.now.from in let d = c.args.document.now in
     let next = c.next_listed.result in
-    subst (λ (f : TurtleFault). f ≢ NoMemory → IsRefusedNext bytes at d f) (sym c.fault_of.ensures) (λ other base tokens h.
+    subst (λ (f : TurtleFault). f ≢ NoMemory → IsRefusedNext bytes at d f) (sym c.document_fault.ensures) (λ other base tokens h.
     lexer_fault base bytes tokens at d h next (first_of bytes base tokens at d next h c.next_listed.ensures.answer)
     c.in-Err.fault c.in-Err.is other)

@@ -2,11 +2,11 @@ use Rattle.std.proofs.Common.{◌≡◌, ◌≢◌, ℕ, List, [], Option, Ok, I
 use Rattle.std.proofs.lemmas.Bool.{OnFalse_at, OnTrue_at}
 use Rattle.turtle_lex.specs.declared.token.Token.{Token}
 use Rattle.turtle_terms.specs.declared.fault.TurtleFault.TheVariants.{NoMemory}
+use Rattle.turtle_reader.specs.FirstTokens.{IsListedAnswer}
 use Rattle.n3_patch.specs.Faults.{IsFirstFault}
-use Rattle.turtle_text.specs.Progress.{IsListedAnswer}
 use Rattle.n3_patch.specs.Reading.{IsSoFar, IsRefusedNext}
 use Rattle.n3_patch.proofs.Ending.{one_more, one_refused, shorter, spells_items, no_fault_left, early_end}
-use Rattle.n3_patch.proofs.Telling.{handed}
+use Rattle.turtle_reader.proofs.HandedFaults.{handed}
 use Rattle.n3_patch.proofs.reading.read_triples.Goals as goal
 
 pub loop-document-init : goal.loop-document-init

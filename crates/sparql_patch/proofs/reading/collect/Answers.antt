@@ -5,7 +5,7 @@ use Rattle.turtle_reader.specs.declared.lexeme.Lexeme.{Lexeme}
 use Rattle.sparql_patch.specs.UpdateFaults.{IsFirstFault}
 use Rattle.sparql_patch.specs.Reading.{IsSoFar}
 use Rattle.sparql_patch.proofs.Ending.{one_more, one_refused, shorter, all_collected, no_fault_left, early_end}
-use Rattle.sparql_patch.proofs.Telling.{handed}
+use Rattle.turtle_reader.proofs.HandedFaults.{handed}
 use Rattle.sparql_patch.proofs.reading.collect.Goals as goal
 
 pub loop-document-init : goal.loop-document-init

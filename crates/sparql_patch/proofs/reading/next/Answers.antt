@@ -10,6 +10,6 @@ pub returns-in-Err-clause-fault : goal.returns-in-Err-clause-fault
 returns-in-Err-clause-fault c =
     let bytes = c.args.bytes.now in let at = c.args.lexer.now.from in let d = c.args.document.now in
     let next : Next = c.next_lexeme.result in
-    subst (λ (f : TurtleFault). f ≢ NoMemory → IsRefusedNext bytes at d f) (sym c.fault_of.ensures) (λ other base ls h.
+    subst (λ (f : TurtleFault). f ≢ NoMemory → IsRefusedNext bytes at d f) (sym c.document_fault.ensures) (λ other base ls h.
     lexer_fault base bytes ls at d h next (first_of bytes base ls at d next h c.next_lexeme.ensures.answer)
     c.in-Err.fault c.in-Err.is other)

@@ -2,10 +2,11 @@ use Rattle.std.proofs.Common.{◌≡◌, ◌≢◌, ℕ, List, [], Option, Ok, I
 use Rattle.std.proofs.lemmas.Bool.{OnFalse_at, OnTrue_at}
 use Rattle.turtle_lex.specs.declared.token.Token.{Token}
 use Rattle.turtle_terms.specs.declared.fault.TurtleFault.TheVariants.{NoMemory}
+use Rattle.turtle_reader.specs.FirstTokens.{IsListedAnswer}
 use Rattle.turtle_text.specs.Faults.{IsFirstFault}
-use Rattle.turtle_text.specs.Progress.{IsSoFar, IsListedAnswer, IsRefusedNext}
+use Rattle.turtle_text.specs.Progress.{IsSoFar, IsRefusedNext}
 use Rattle.turtle_text.proofs.Ending.{one_more, one_refused, shorter, spells_items, no_fault_left, early_end}
-use Rattle.turtle_text.proofs.Telling.{handed}
+use Rattle.turtle_reader.proofs.HandedFaults.{handed}
 use Rattle.turtle_text.proofs.reading.read_triples.Goals as goal
 
 pub loop-document-init : goal.loop-document-init

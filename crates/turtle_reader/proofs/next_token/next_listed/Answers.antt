@@ -2,8 +2,8 @@ use Rattle.std.proofs.Common.{[], ◌∷◌, Ok, refl, sym, subst, ◌∙◌, ap
 use Rattle.std.proofs.lemmas.List.Elements.{All-head}
 use Rattle.turtle_lex.specs.Tokens.{IsTokenOf, IsAnswer, is_string, listed_token}
 use Rattle.turtle_lex.proofs.TextLemmas.{tokens_of}
-use Rattle.turtle_text.specs.Faults.{Answer}
-use Rattle.n3_patch.proofs.reading.next_listed.Goals as goal
+use Rattle.turtle_reader.specs.FirstTokens.{Answer}
+use Rattle.turtle_reader.proofs.next_token.next_listed.Goals as goal
 
 pub returns-in-Ok-Some-clause-of_bytes : goal.returns-in-Ok-Some-clause-of_bytes
 returns-in-Ok-Some-clause-of_bytes c =

@@ -1,10 +1,14 @@
--- The first tokens of some bytes: of two lists of them one is a prefix of the other.
-use Rattle.std.proofs.Common.{◌≡◌, ℕ, ◌<◌, Bool, false, List, [], ◌∷◌, ◌++◌, length, Some, Ok}
+-- The first tokens of some bytes: of two lists of them one is a prefix of the other. And what comes
+-- after them.
+use Rattle.std.proofs.Common.{◌≡◌, ℕ, ◌<◌, Bool, false, List, [], ◌∷◌, ◌++◌, length, Some, None, Ok, Err}
 use Rattle.std.proofs.Common.{refl, sym, ap, ◌∙◌, subst, arith}
+use Rattle.std.proofs.lemmas.List.{map-append}
 use Rattle.turtle_lex.specs.declared.token.Token.{Token}
+use Rattle.turtle_lex.specs.declared.token.LexFault.{LexFault}
 use Rattle.turtle_lex.specs.Tokens.{IsNext, IsAnswer, AreTokensTo, is_string, listed_token}
 use Rattle.turtle_lex.proofs.NextLemmas.{one_answer}
-use Rattle.turtle_text.specs.Faults.{Answer, AreFirst, listed_answer}
+use Rattle.turtle_reader.specs.FirstTokens.{Answer, AreFirst, IsListedAnswer, listed_answer}
+use Rattle.turtle_reader.specs.Lexemes.{lexeme_of, lexemes_of}
 
 abbrev found : Token → Answer
 found t = Ok (Some t)
@@ -77,3 +81,31 @@ module _ (bytes : List ℕ) where
   first_shorter xs ys a b h k lt =
       let (t, rest, is, split) = walk_shorter xs ys 0 false h.to k.to h.string k.string h.answer k.answer (h.tokens_are, h.answers) (k.tokens_are, k.answers) lt in
       (t, rest, h.next_is ∙ is, split)
+
+pub lexemes_more : (ts us : List Token) → lexemes_of (ts ++ us) ≡ lexemes_of ts ++ lexemes_of us
+lexemes_more ts us = map-append lexeme_of ts us
+
+pub ended : (t : Token) (next : Answer) → next ≡ Ok None → next ≡ Ok (Some t) → ⊥
+ended t next e f = cc
+
+no_end : (f : LexFault) (next : Answer) → next ≡ Ok None → next ≡ Err f → ⊥
+no_end f next e g = cc
+
+no_token : (f : LexFault) (t : Token) (next : Answer) → next ≡ Ok (Some t) → next ≡ Err f → ⊥
+no_token f t next e g = cc
+
+same_some : (t u : Token) (next : Answer) → next ≡ Ok (Some t) → next ≡ Ok (Some u) → t ≡ u
+same_some t u next e g = cc
+
+-- what a list has next is the end where the lexer says so
+pub ends_with : (bytes : List ℕ) (from : ℕ) (s : Bool) (next : Answer) → IsListedAnswer bytes from s next → next ≡ Ok None → IsAnswer bytes from (Ok None)
+ends_with bytes from s next (Ok (Some t), answers, is) e = absurd (ended (listed_token s t) next e is)
+ends_with bytes from s next (Ok None, answers, is) e = answers
+ends_with bytes from s next (Err f, answers, is) e = absurd (no_end f next e is)
+
+-- and a token where it says that
+pub token_with : (bytes : List ℕ) (from : ℕ) (s : Bool) (next : Answer) (t : Token) → IsListedAnswer bytes from s next → next ≡ Ok (Some t)
+    → (raw : Token) × IsNext bytes from raw × (t ≡ listed_token s raw)
+token_with bytes from s next t (Ok (Some raw), answers, is) e = (raw, answers, same_some t (listed_token s raw) next e is)
+token_with bytes from s next t (Ok None, answers, is) e = absurd (ended t next is e)
+token_with bytes from s next t (Err f, answers, is) e = absurd (no_token f t next e is)
