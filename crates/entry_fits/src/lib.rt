@@ -1,5 +1,5 @@
-//! Whether an entry applies to a pod, by what its edits touch: the rows at their paths, and the rows
-//! that these need or that need them.
+//! Whether an entry applies to a pod, by what its edits touch: the rows at their paths, and the
+//! rows that these need or that need them.
 //!
 //! ```ignore
 //! if fits(alloc, &state, &entry)? {
@@ -9,15 +9,15 @@
 //!
 //! Proved, for every state of a pod: [`fits`] is true exactly where the entry applies (`sound`,
 //! `complete`), by the definition in `pod_rows` (`specs/Apply.antt`). It looks rows up by path, and
-//! lists the children of a container that the entry removes; it reads no other rows. With n edits it
-//! makes at most 8n look-ups, and each goes through what the edits before it made. It stands on
-//! `pod_rows` for states, on `pod_edits` for what is found after an edit, and on `pod_command`,
-//! `rdf_graph`, `pod_path`, `iri_ref` and `pod_base`.
+//! lists the children of a container that the entry removes; it reads no other rows. It makes at
+//! most five look-ups for an edit, and one for each of these children; a look-up goes through what
+//! the edits made, and then asks the state. It stands on `pod_rows` for states, on `pod_edits` for
+//! what is found after an edit, and on `pod_command`, `rdf_graph`, `pod_path`, `iri_ref` and
+//! `pod_base`.
 #![tactic(auto)]
 
 mod fitting;
 mod made;
-mod row_right;
 mod touched;
 
 pub use fitting::fits;

@@ -2,14 +2,13 @@
 ghost use Rattle.std.specs.Prelude.{◌≡◌, IfOk, IfSome, Some, option_copied};
 ghost use Rattle.entry_fits.specs.Made.{HasMade, found_in, latest, made_by, path_of};
 ghost use Rattle.entry_fits.specs.Made.{made_by_change, made_by_touch, made_by_removal};
-ghost use Rattle.pod_rows.specs.Apply.{after_edits, changed_row, with_moment};
-ghost use Rattle.pod_rows.specs.GraphSets.{changed_graph};
+ghost use Rattle.pod_rows.specs.Apply.{after_edits};
 
 use pod_base::{Mem, Moment};
-use pod_command::{Content, Edit, Row};
+use pod_command::{Edit, Row};
 use pod_path::Path;
-use pod_rows::PodState;
-use rdf_graph::{Change, Graph, changed};
+use pod_rows::{PodState, changed_row, with_moment};
+use rdf_graph::Change;
 use std::alloc::Global;
 
 /// What an edit makes of a path: the row there after it, and whether there was one before.
@@ -52,53 +51,6 @@ fn path_of(edit: &Edit) -> &Path
         Edit::Touch { path, modified: _ } => path,
         Edit::Remove { path } => path,
     }
-}
-
-/// The graph after a change.
-fn changed_graph(alloc: Global, graph: &Graph, change: &Change) -> Mem<Graph>
-    ensures { IfOk result (λ new. new
-        ≡ changed_graph graph.now change.now.removed change.now.added) }
-{
-    let _old = graph.as_slice();
-    let _added = change.added.as_slice();
-    let new = changed(alloc, graph, change)?;
-    let _new = new.as_slice();
-    Ok(new)
-}
-
-/// The row with its graph changed; none where it has no graph, or lacks a removed triple.
-fn changed_row(alloc: Global, row: &Row, change: &Change, modified: Moment) -> Mem<Option<Row>>
-    ensures { IfOk result (λ new. new
-        ≡ changed_row change.now modified row.now row.now.content) }
-{
-    let Content::Graph(graph) = &row.content else {
-        return Ok(None);
-    };
-    if !change.fits(graph) {
-        return Ok(None);
-    }
-    let path = row.path.copy(alloc)?;
-    let graph = changed_graph(alloc, graph, change)?;
-    Ok(Some(Row {
-        path,
-        kind: row.kind,
-        content: Content::Graph(graph),
-        modified,
-    }))
-}
-
-/// The row with this moment.
-fn with_moment(alloc: Global, row: &Row, modified: Moment) -> Mem<Row>
-    ensures { IfOk result (λ new. new ≡ with_moment row.now modified) }
-{
-    let path = row.path.copy(alloc)?;
-    let content = row.content.copy(alloc)?;
-    Ok(Row {
-        path,
-        kind: row.kind,
-        content,
-        modified,
-    })
 }
 
 /// What a change makes of the path of a row.

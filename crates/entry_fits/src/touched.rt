@@ -3,18 +3,21 @@
 ghost use Rattle.std.specs.Prelude.{◌≡◌, ◌&&◌, IfOk, filter, length};
 ghost use Rattle.std.specs.List.{list_all};
 ghost use Rattle.entry_fits.specs.Made.{found_in, is_added, is_gone};
-ghost use Rattle.entry_fits.specs.Touched.{is_there, is_there_of, has_parent, lacks_twin, has_subject};
-ghost use Rattle.entry_fits.specs.Touched.{is_placed, none_there, lacks_children, lacks_auxiliaries};
-ghost use Rattle.entry_fits.specs.Touched.{is_free, is_kept, keeps_guard, is_row_fine, is_fine, has_room};
+ghost use Rattle.entry_fits.specs.Touched.{is_there, is_there_of, has_parent, lacks_twin};
+ghost use Rattle.entry_fits.specs.Touched.{has_subject, is_placed, none_there, lacks_children};
+ghost use Rattle.entry_fits.specs.Touched.{lacks_auxiliaries, is_free, is_kept, is_right};
+ghost use Rattle.entry_fits.specs.Touched.{keeps_guard, is_row_fine, is_fine, has_room};
 ghost use Rattle.pod_edits.specs.Refusals.{is_root_list};
 ghost use Rattle.pod_rows.specs.WellFormed.{guards_content};
 
 use crate::made::{Made, find};
-use crate::row_right::is_right;
 use pod_base::Mem;
 use pod_command::{Content, Row};
+use pod_edits::is_root_list;
 use pod_path::Path;
-use pod_rows::{PodState, ROWS_LIMIT, guards};
+use pod_rows::{
+    PodState, ROWS_LIMIT, guards, has_normal_path, has_right_kind, lacks_stored_containment,
+};
 use std::alloc::Global;
 
 /// Whether there is a row at a path.
@@ -36,7 +39,8 @@ fn is_there_of<S: PodState>(state: &S, made: &[Made], path: &Option<Path>) -> bo
 
 /// Whether the path is the root, or there is a row at its parent.
 fn has_parent<S: PodState>(alloc: Global, state: &S, made: &[Made], path: &Path) -> Mem<bool>
-    ensures { IfOk result (λ r. r ≡ has_parent (found_in (S.pod state.now).rows made.now) path.now) }
+    ensures { IfOk result (λ r. r
+        ≡ has_parent (found_in (S.pod state.now).rows made.now) path.now) }
 {
     if path.is_root() {
         return Ok(true);
@@ -47,7 +51,8 @@ fn has_parent<S: PodState>(alloc: Global, state: &S, made: &[Made], path: &Path)
 
 /// Whether there is no row at the path's twin.
 fn lacks_twin<S: PodState>(alloc: Global, state: &S, made: &[Made], path: &Path) -> Mem<bool>
-    ensures { IfOk result (λ r. r ≡ lacks_twin (found_in (S.pod state.now).rows made.now) path.now) }
+    ensures { IfOk result (λ r. r
+        ≡ lacks_twin (found_in (S.pod state.now).rows made.now) path.now) }
 {
     let twin = path.twin(alloc)?;
     Ok(!is_there_of(state, made, &twin))
@@ -55,7 +60,8 @@ fn lacks_twin<S: PodState>(alloc: Global, state: &S, made: &[Made], path: &Path)
 
 /// Whether the path is that of no access list and no description, or there is a row at its subject.
 fn has_subject<S: PodState>(alloc: Global, state: &S, made: &[Made], path: &Path) -> Mem<bool>
-    ensures { IfOk result (λ r. r ≡ has_subject (found_in (S.pod state.now).rows made.now) path.now) }
+    ensures { IfOk result (λ r. r
+        ≡ has_subject (found_in (S.pod state.now).rows made.now) path.now) }
 {
     match path.subject(alloc)? {
         Some(subject) => Ok(is_there(state, made, &subject)),
@@ -66,7 +72,8 @@ fn has_subject<S: PodState>(alloc: Global, state: &S, made: &[Made], path: &Path
 /// Whether the rows that a row at the path needs are there, and no twin.
 #[tactic(auto, unfolding(crate::specs::Touched::is_placed))]
 fn is_placed<S: PodState>(alloc: Global, state: &S, made: &[Made], path: &Path) -> Mem<bool>
-    ensures { IfOk result (λ r. r ≡ is_placed (found_in (S.pod state.now).rows made.now) path.now) }
+    ensures { IfOk result (λ r. r
+        ≡ is_placed (found_in (S.pod state.now).rows made.now) path.now) }
 {
     Ok(
         has_parent(alloc, state, made, path)?
@@ -110,13 +117,6 @@ fn lacks_auxiliaries<S: PodState>(alloc: Global, state: &S, made: &[Made], path:
     Ok(!is_there_of(state, made, &meta))
 }
 
-/// Whether the path is that of the root's access list.
-fn is_root_list(path: &Path) -> bool
-    ensures { result ≡ is_root_list path.now }
-{
-    path.as_str() == "/.acl"
-}
-
 /// Whether the path is that of a row which every pod has: the root, or its access list.
 fn is_kept(path: &Path) -> bool
     ensures { result ≡ is_kept path.now }
@@ -156,6 +156,14 @@ fn keeps_guard<S: PodState>(state: &S, path: &Path, content: &Content) -> bool
     ensures { result ≡ keeps_guard (S.pod state.now) path.now content.now }
 {
     !is_root_list(path) || guards_content(state, content)
+}
+
+/// Whether the row has a normal path, a kind of its path and a content of its kind.
+#[tactic(auto, unfolding(crate::specs::Touched::is_right))]
+fn is_right(row: &Row) -> bool
+    ensures { result ≡ is_right row.now }
+{
+    has_normal_path(row) && has_right_kind(row) && lacks_stored_containment(row)
 }
 
 /// Whether a row is right at the path.

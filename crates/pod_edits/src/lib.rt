@@ -27,7 +27,7 @@ mod row_kind;
 pub use edit_lists::{change, creation, deletion, removal, replacement};
 pub use place::{Place, find_place, member_place};
 pub use refusals::{
-    breaks_guard, exceeds_rows, has_children, is_bytes, lacks_number, lacks_subject, meets_twin,
-    states_containment,
+    breaks_guard, exceeds_rows, has_children, is_bytes, is_root_list, lacks_number, lacks_subject,
+    meets_twin, states_containment,
 };
 pub use row_kind::kind_of;

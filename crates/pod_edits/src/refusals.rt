@@ -139,7 +139,7 @@ pub fn states_containment(path: &Path, triples: &[Triple]) -> bool
 }
 
 /// Whether the path is that of the root's access list.
-fn is_root_list(path: &Path) -> bool
+pub fn is_root_list(path: &Path) -> bool
     ensures { result ≡ is_root_list path.now }
 {
     path.as_str() == "/.acl"

@@ -1,4 +1,4 @@
-//! The form of a pod's base.
+//! [`is_base`]: the form of a pod's base.
 ghost use Rattle.std.specs.Prelude.{◌≡◌};
 ghost use Rattle.std.specs.List.{list_all};
 ghost use Rattle.pod_rows.specs.Base.{is_base, is_base_of, is_authority_and_slash};
@@ -8,7 +8,7 @@ use crate::limits::BASE_BYTES_LIMIT;
 
 /// Whether the text is `http://` or `https://`, an authority and a slash, of at most
 /// [`BASE_BYTES_LIMIT`] bytes.
-pub(crate) fn is_base(base: &str) -> bool
+pub fn is_base(base: &str) -> bool
     ensures { result ≡ is_base base.now }
 {
     base.len() <= BASE_BYTES_LIMIT && (is_base_of(base, "http://") || is_base_of(base, "https://"))

@@ -88,13 +88,9 @@ fn changed_graph(alloc: Global, graph: &Graph, change: &Change) -> Mem<Graph>
     Ok(new)
 }
 
-/// The row with its graph changed; none where it has no graph, or lacks a removed triple.
-pub(crate) fn changed_row(
-    alloc: Global,
-    row: &Row,
-    change: &Change,
-    modified: Moment,
-) -> Mem<Option<Row>>
+/// The row with its graph changed, at another moment; none where it has no graph, or its graph lacks
+/// a removed triple.
+pub fn changed_row(alloc: Global, row: &Row, change: &Change, modified: Moment) -> Mem<Option<Row>>
     ensures { IfOk result (λ new. new
         ≡ changed_row change.now modified row.now row.now.content) }
 {
@@ -114,8 +110,8 @@ pub(crate) fn changed_row(
     }))
 }
 
-/// The row with this moment.
-pub(crate) fn with_moment(alloc: Global, row: &Row, modified: Moment) -> Mem<Row>
+/// The row at another moment.
+pub fn with_moment(alloc: Global, row: &Row, modified: Moment) -> Mem<Row>
     ensures { IfOk result (λ new. new ≡ with_moment row.now modified) }
 {
     let path = row.path.copy(alloc)?;

@@ -33,10 +33,14 @@ mod view;
 pub mod vocabulary;
 mod well_formed;
 
+pub use base::is_base;
+pub use edits::{changed_row, with_moment};
 pub use fitting::{fits, snapshot};
 pub use guard::guards;
 pub use limits::{BASE_BYTES_LIMIT, CONTENT_TYPE_BYTES_LIMIT, ROWS_LIMIT};
 pub use plain::{PlainRows, StateFault};
 pub use state::{Effective, PodState};
 pub use view::container_view;
-pub use well_formed::{is_well_formed, lacks_containment};
+pub use well_formed::{
+    has_normal_path, has_right_kind, is_well_formed, lacks_containment, lacks_stored_containment,
+};

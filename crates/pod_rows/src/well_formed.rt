@@ -63,8 +63,8 @@ pub(crate) fn have_normal_paths(rows: &[Row]) -> bool
     rows.iter().all(|row| has_normal_path(row))
 }
 
-/// Whether the row's path is normal.
-fn has_normal_path(row: &Row) -> bool
+/// Whether the row's path is normal: within the limits of paths.
+pub fn has_normal_path(row: &Row) -> bool
     ensures { result ≡ has_normal_path row.now }
 {
     row.path.is_within_limits()
@@ -78,7 +78,7 @@ pub(crate) fn have_right_kinds(rows: &[Row]) -> bool
 }
 
 /// Whether the row has a kind of its path, and a content of its kind.
-pub(crate) fn has_right_kind(row: &Row) -> bool
+pub fn has_right_kind(row: &Row) -> bool
     ensures { result ≡ has_right_kind row.now }
 {
     fits_kind(&row.path, row.kind, &row.content)
@@ -270,7 +270,7 @@ pub(crate) fn lack_stored_containment(rows: &[Row]) -> bool
 }
 
 /// Whether the row is no container, or has no triple with the predicate `ldp:contains`.
-pub(crate) fn lacks_stored_containment(row: &Row) -> bool
+pub fn lacks_stored_containment(row: &Row) -> bool
     ensures { result ≡ lacks_stored_containment row.now }
 {
     !is_container_kind(row.kind) || lacks_contained(&row.content)

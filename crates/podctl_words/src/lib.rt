@@ -19,7 +19,6 @@
 //! on `pod_base`.
 #![tactic(auto)]
 
-mod base;
 mod command;
 mod given;
 pub mod laws;

@@ -6,13 +6,13 @@ ghost use Rattle.podctl_words.specs.Givens.{given_of};
 ghost use Rattle.podctl_words.specs.Readings.{IsSound, reading};
 ghost use Rattle.podctl_words.specs.Readings as spec;
 
-use crate::base::is_base;
 use crate::command::{Asking, Command};
 use crate::given::{Given, Mode, given_by};
 use crate::number::requests_of;
 use crate::subcommand::Subcommand;
 use iri_ref::{Iri, IriFault};
 use pod_base::{Mem, NoMemory};
+use pod_rows::is_base;
 use std::alloc::Global;
 use token_table::laws::agents_are_absolute;
 
