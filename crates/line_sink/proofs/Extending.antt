@@ -1,9 +1,9 @@
 -- Texts that are written one after the other.
-use Rattle.std.proofs.Common.{◌≡◌, ℕ, ◌+◌, ◌-◌, List, [], ◌++◌, length, take, drop, Option, Some, None, Result, Ok, Err, IsErr, refl, sym, ap, subst, append_assoc, append-nil, ◌∙◌, rules}
+use Rattle.std.proofs.Common.{◌≡◌, ◌<◌, ℕ, ◌+◌, ◌-◌, List, [], ◌++◌, length, length-append, take, drop, Option, Some, None, Result, Ok, Err, IsErr, refl, sym, ap, subst, append_assoc, append-nil, ◌∙◌, rules, arith}
 use Rattle.std.specs.Option.{option_map}
-use Rattle.std.proofs.Math.Seq.{take-add, take-append_seam}
+use Rattle.std.proofs.Math.Seq.{length-take-le, take-add, take-append_seam}
 use Rattle.std.proofs.lemmas.List.{take_rest, take-append-drop}
-use Rattle.line_sink.specs.Writing.{ExtendsBy, Writes}
+use Rattle.line_sink.specs.Writing.{ExtendsBy, ExtendsByPart, Writes}
 
 -- what follows a prefix of the text, and the prefix
 pub written_more : (old : Option (List ℕ)) (text : List ℕ) (at count : ℕ) → option_map (λ bytes. bytes ++ take count (take (length text - at) (drop at text))) (option_map (λ bytes. bytes ++ take at text) old) ≡ option_map (λ bytes. bytes ++ take (at + count) text) old
@@ -34,15 +34,21 @@ prefix_after xs ys count =
     let rest : front ++ drop count ys ≡ xs ++ ys = append_assoc xs (take count ys) (drop count ys) ∙ ap (λ l. xs ++ l) (take-append-drop count ys) in
     sym (take-append_seam front (drop count ys)) ∙ ap (take (length front)) rest
 
--- the part of a text that a sink has
-abbrev pub HasPart : List ℕ → Option (List ℕ) → Option (List ℕ) → Type 0
-HasPart text old new = (count : ℕ) × ExtendsBy (take count text) old new
+-- a part of a text is one of a longer text
+pub part_before : (old new : Option (List ℕ)) (xs ys : List ℕ) → ExtendsByPart xs old new → ExtendsByPart (xs ++ ys) old new
+part_before old new xs ys h = (
+  length (take h.0 xs),
+  omega (arith, h.1, length-take-le h.0 xs (omega (arith, h.1)), length-append xs ys),
+  subst (λ text. ExtendsBy text old new) (prefix_is xs ys h.0) h.2,
+)
 
-pub part_before : (old new : Option (List ℕ)) (xs ys : List ℕ) → HasPart xs old new → HasPart (xs ++ ys) old new
-part_before old new xs ys h = (length (take h.0 xs), subst (λ text. ExtendsBy text old new) (prefix_is xs ys h.0) h.1)
-
-pub part_after : (old middle new : Option (List ℕ)) (xs ys : List ℕ) → ExtendsBy xs old middle → HasPart ys middle new → HasPart (xs ++ ys) old new
-part_after old middle new xs ys h k = (length (xs ++ take k.0 ys), subst (λ text. ExtendsBy text old new) (prefix_after xs ys k.0) (extends_more old middle new xs (take k.0 ys) h k.1))
+-- a text, and a part of what follows it
+pub part_after : (old middle new : Option (List ℕ)) (xs ys : List ℕ) → ExtendsBy xs old middle → ExtendsByPart ys middle new → ExtendsByPart (xs ++ ys) old new
+part_after old middle new xs ys h k = (
+  length (xs ++ take k.0 ys),
+  omega (arith, k.1, length-take-le k.0 ys (omega (arith, k.1)), length-append xs (take k.0 ys), length-append xs ys),
+  subst (λ text. ExtendsBy text old new) (prefix_after xs ys k.0) (extends_more old middle new xs (take k.0 ys) h k.2),
+)
 
 -- A second text after a first one.
 pub writes_after : {T E : Type 0} (result : Result T E) (old middle new : Option (List ℕ)) (xs ys : List ℕ) → ExtendsBy xs old middle → Writes result ys middle new → Writes result (xs ++ ys) old new
@@ -50,15 +56,15 @@ writes_after (Ok done) old middle new xs ys h k = record { whole = extends_more 
 writes_after (Err fault) old middle new xs ys h k = record { whole = tt; part = part_after old middle new xs ys h k.part }
 
 -- a first text of which a part was written, and no more
-pub writes_part : {T E : Type 0} (result : Result T E) (old new : Option (List ℕ)) (xs ys : List ℕ) → IsErr result → HasPart xs old new → Writes result (xs ++ ys) old new
+pub writes_part : {T E : Type 0} (result : Result T E) (old new : Option (List ℕ)) (xs ys : List ℕ) → IsErr result → ExtendsByPart xs old new → Writes result (xs ++ ys) old new
 writes_part (Ok done) old new xs ys is h = search (rules, is)
 writes_part (Err fault) old new xs ys is h = record { whole = tt; part = part_before old new xs ys h }
 
 -- a text of which a part was written
-pub writes_failed : {T E : Type 0} (result : Result T E) (old new : Option (List ℕ)) (text : List ℕ) → IsErr result → HasPart text old new → Writes result text old new
+pub writes_failed : {T E : Type 0} (result : Result T E) (old new : Option (List ℕ)) (text : List ℕ) → IsErr result → ExtendsByPart text old new → Writes result text old new
 writes_failed (Ok done) old new text is h = search (rules, is)
 writes_failed (Err fault) old new text is h = record { whole = tt; part = h }
 
 -- a text of which nothing was written
-pub nothing_written : {T E : Type 0} (result : Result T E) (old : Option (List ℕ)) (text : List ℕ) → IsErr result → Writes result text old old
-nothing_written result old text is = writes_failed result old old text is (0, nothing_added old)
+pub nothing_written : {T E : Type 0} (result : Result T E) (old : Option (List ℕ)) (text : List ℕ) → 0 < length text → IsErr result → Writes result text old old
+nothing_written result old text some is = writes_failed result old old text is (0, some, nothing_added old)

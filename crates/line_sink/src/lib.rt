@@ -5,8 +5,9 @@
 //! write_number_line(&mut errors, b"damaged first ", 16)?;      // damaged first 16
 //! ```
 //!
-//! Proved of each call: after Ok the sink has the whole text, after a fault a prefix of it
-//! (`writes`), and a fault comes only where the sink's count of faults increased (`faults`).
+//! Proved of each call: after Ok the sink has the whole text, after a fault a prefix of it that
+//! isn't all of it (`writes`), and a fault comes only where the sink's count of faults increased
+//! (`faults`).
 #![tactic(auto)]
 
 mod numbers;

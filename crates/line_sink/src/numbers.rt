@@ -7,7 +7,7 @@ use crate::whole::write_all;
 use itoa::Buffer;
 use pod_io::{Failed, Sink};
 
-/// Writes a text and a number in decimal after it, or a prefix of both where a write fails.
+/// Writes a text and a number in decimal after it, or not all of them where a write fails.
 pub fn write_number<K: Sink>(output: &mut K, text: &[u8], number: u64) -> Result<(), Failed>
     ensures writes { Writes result (text.now ++ decimal number)
         (K.taken output.old) (K.taken output.new) }
@@ -17,7 +17,7 @@ pub fn write_number<K: Sink>(output: &mut K, text: &[u8], number: u64) -> Result
     write_all(output, Buffer::new().format(number).as_bytes())
 }
 
-/// Writes a text, a number in decimal and LF, or a prefix of them where a write fails.
+/// Writes a text, a number in decimal and LF, or not all of them where a write fails.
 pub fn write_number_line<K: Sink>(output: &mut K, text: &[u8], number: u64) -> Result<(), Failed>
     ensures writes { Writes result (number_line text.now number)
         (K.taken output.old) (K.taken output.new) }

@@ -4,7 +4,7 @@ ghost use Rattle.line_sink.specs.Writing.{Writes};
 
 use pod_io::{Failed, Sink};
 
-/// Writes the whole text, or a prefix of it where a write fails.
+/// Writes the whole text, or not all of it where a write fails.
 pub fn write_all<K: Sink>(output: &mut K, text: &[u8]) -> Result<(), Failed>
     ensures writes { Writes result text.now (K.taken output.old) (K.taken output.new) }
     ensures faults { CountsFaults result (K.faults output.old) (K.faults output.new) }

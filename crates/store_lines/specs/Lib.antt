@@ -1,0 +1,2 @@
+-- what is told of a store that isn't opened
+pub mod Refusals
