@@ -5,3 +5,7 @@ pub mod Session
 pub mod Output
 pub mod Answers
 pub mod Laws
+-- connections and one keeper, event by event
+pub mod KeeperSteps
+pub mod WorldImages
+pub mod World

@@ -11,9 +11,12 @@
 //! succeeded (`complete`), and pods that are alike for the agent have the same reply (`alike`).
 //! `specs/History.antt`, `specs/Session.antt` and `specs/Output.antt` say what a history is, what a
 //! session of one connection is, and which bytes it writes; [`laws`] says what follows from them.
+//! `specs/World.antt` says what many connections and one keeper may do, event by event, and
+//! `specs/KeeperSteps.antt` which of these are the keeper's.
 //!
 //! It stands on `pod_reply` for the reply, on `pod_rows` for states, on `http_conn` and `http_out`
-//! for messages, on `moment_date` for dates, and on `request_target` for targets.
+//! for messages, on `moment_date` for dates, on `request_target` for targets, and on `journal_log`
+//! for the bytes of a journal.
 #![tactic(auto)]
 
 mod answering;

@@ -1,0 +1,4 @@
+-- internal
+mod WorldLists
+mod WorldSessions
+mod WorldLaw

@@ -1,0 +1,14 @@
+use Rattle.world_laws.proofs.WorldLaw.{wrote_session, only_grows}
+use Rattle.world_laws.proofs.one_legal_history.Goals as goal
+
+pub returns-clause-sessions : goal.returns-clause-sessions
+returns-clause-sessions g c = λ asking history numbers events world run conn connection there heard rest m.
+    wrote_session (g.C.Clock.may_give c.args.clock.now) asking
+    (record { once = λ text one other rest left p q. (c.one_parse.ensures text one other rest left p q).0; stay = c.events_stay.ensures; ends = c.nothing_after_an_end.ensures })
+    c.complete.ensures.reads history numbers events world run conn connection there heard rest m
+
+pub returns-clause-grows : goal.returns-clause-grows
+returns-clause-grows g c = λ asking history numbers events world run.
+    only_grows (g.C.Clock.may_give c.args.clock.now) asking
+    (record { once = λ text one other rest left p q. (c.one_parse.ensures text one other rest left p q).0; stay = c.events_stay.ensures; ends = c.nothing_after_an_end.ensures })
+    c.complete.ensures.reads history numbers events world run

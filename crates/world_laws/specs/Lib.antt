@@ -1,0 +1,2 @@
+-- what holds of a world after any list of events
+pub mod OneHistory
