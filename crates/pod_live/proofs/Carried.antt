@@ -9,7 +9,8 @@ use Rattle.pod_base.specs.declared.response.Response.{Response}
 use Rattle.pod_command.specs.Bare.{bare_entry}
 use Rattle.pod_command.specs.declared.entry.Entry.{Entry}
 use Rattle.pod_core.specs.History.{History, end_of, longer}
-use Rattle.pod_live.specs.Commits.{later, stamp_at_end, IsReplyAtEnd, IsEntryAtEnd, IsGrown, IsLeftFaulted, IsLeftByEntry, FollowsReply, IsCommitted, IsCommitFaulted, LeavesPodsOf, LeavesPods}
+use Rattle.pod_core.specs.KeeperSteps.{stamp_at_end, IsReplyAtEnd}
+use Rattle.pod_live.specs.Commits.{later, IsEntryAtEnd, IsGrown, IsLeftFaulted, IsLeftByEntry, FollowsReply, IsCommitted, IsCommitFaulted, LeavesPodsOf, LeavesPods}
 use Rattle.pod_live.specs.Kept.{Doubt, certain, entries_in, IsKept, StandsForSome}
 use Rattle.pod_live.specs.KeeperState.{KeeperState}
 use Rattle.pod_live.specs.declared.fault.CommitFault.{CommitFault}

@@ -11,4 +11,5 @@ mod EnteredEntries
 mod Mended
 mod Standing
 mod Carried
+mod EventRuns
 mod Checkpoints

@@ -6,7 +6,8 @@ use Rattle.pod_base.specs.declared.moment.Moment.{Moment}
 use Rattle.pod_base.specs.declared.moment.Stamp.{Stamp}
 use Rattle.pod_command.specs.declared.entry.Entry.{Entry}
 use Rattle.pod_core.specs.History.{History, end_of, moment_before, seconds_of}
-use Rattle.pod_live.specs.Commits.{later, stamp_at_end}
+use Rattle.pod_core.specs.KeeperSteps.{stamp_at_end}
+use Rattle.pod_live.specs.Commits.{later}
 use Rattle.pod_records.specs.Records.{last_after}
 
 -- the last of some entries

@@ -10,12 +10,12 @@ use Rattle.pod_base.specs.declared.moment.Stamp.{Stamp}
 use Rattle.pod_base.specs.declared.request.Request.{Request}
 use Rattle.pod_base.specs.declared.response.Response.{Response}
 use Rattle.pod_command.specs.declared.entry.Entry.{Entry}
-use Rattle.pod_core.specs.History.{History, end_of, pod_at, moment_before, longer}
+use Rattle.pod_core.specs.History.{History, end_of, longer}
+use Rattle.pod_core.specs.KeeperSteps.{IsReplyAtEnd}
 use Rattle.pod_live.specs.CrashedPods.{StandsForOneOf}
 use Rattle.pod_live.specs.Kept.{Doubt, certain, entered, checkpointed, entries_in, IsKept}
 use Rattle.pod_live.specs.KeeperState.{KeeperState, IsCheckpointDue}
 use Rattle.pod_reply.specs.Replies.{Reply}
-use Rattle.pod_reply.specs.Reply.{IsReply}
 use Rattle.token_table.specs.Credentials.{AskedAgent}
 
 -- the stamp with the greater of its moment and this one, where there is one
@@ -23,17 +23,6 @@ abbrev pub later : Stamp → Option Moment → Stamp
 later stamp None = stamp
 later stamp (Some last) =
     record stamp { moment = record { 0 = max stamp.moment.0 last.0 } }
-
--- the stamp with the greater of its moment and that of the last entry
-abbrev pub stamp_at_end : History → Stamp → Stamp
-stamp_at_end history stamp = record stamp {
-  moment = record { 0 = max stamp.moment.0 (moment_before history (end_of history)) };
-}
-
--- the reply at the end of the history, at that moment
-abbrev pub IsReplyAtEnd : History → Request → AskedAgent → Stamp → Reply → Type 0
-IsReplyAtEnd history request asked stamp reply = IsReply (pod_at history (end_of history)) request
-    asked (end_of history) (stamp_at_end history stamp) reply
 
 -- the entry of that reply
 pub record IsEntryAtEnd (history : History) (request : Request) (asked : AskedAgent) (stamp : Stamp)

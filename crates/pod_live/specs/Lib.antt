@@ -5,5 +5,6 @@ pub mod CrashedPods
 pub mod KeeperState
 pub mod Kept
 pub mod Commits
+pub mod CommitEvents
 pub mod OpenedPods
 pub mod NewStores

@@ -10,6 +10,7 @@ ghost use Rattle.pod_command.specs.Encodable.{IsEncodable};
 ghost use Rattle.pod_core.specs.History.{History};
 ghost use Rattle.pod_live.specs.Commits.{later, LeavesPods, LeavesPodsOf, FollowsReply};
 ghost use Rattle.pod_live.specs.Commits.{IsCommitted, IsCommitFaulted, IsLeftByEntry};
+ghost use Rattle.pod_live.specs.CommitEvents.{IsDoneByEvents, IsFailedByEvents};
 ghost use Rattle.pod_live.specs.Kept.{Doubt, entries_in, IsKept, StandsForSome};
 ghost use Rattle.pod_live.specs.KeeperState.{IsCheckpointDue};
 ghost use Rattle.pod_reply.specs.Replies.{reply_of};
@@ -77,6 +78,19 @@ impl<D: Disk> Keeper<D> {
             (asked_view asked.now) stamp }
         ensures memory { IsErrOf result CommitFault.NoMemory → self.new ≡ self.old }
         ensures stands { StandsForSome D.image self.new }
+
+        // For each of them, by the events of a world: the change is taken, an entry in doubt is
+        // repaired, the entry's record is written, and its gate is opened, each with the outcome
+        // that the disks gave.
+        ensures world_done { IfOk result (λ done. (history : History) (place : ℕ) (doubt : Doubt)
+            → IsKept D.image self.old history place doubt
+            → IsDoneByEvents D.image self.new history doubt request.now
+            (asked_view asked.now) stamp done.response) }
+        ensures world_fault { IsErrOf result CommitFault.DiskFault
+            → (history : History) (place : ℕ) (doubt : Doubt)
+            → IsKept D.image self.old history place doubt
+            → IsFailedByEvents D.image self.new history doubt request.now
+            (asked_view asked.now) stamp }
 
         // The response can be written, and is no server error.
         ensures sent { IfOk result (λ done. IsSent done.response) }
