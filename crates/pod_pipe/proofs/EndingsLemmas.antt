@@ -8,11 +8,13 @@ use Rattle.pod_base.proofs.Prefixes.{prefix_of_append, prefix_trans}
 use Rattle.pod_base.specs.declared.request.Request.{Request}
 use Rattle.pod_base.specs.declared.heard.Heard.{Heard}
 use Rattle.pod_base.specs.declared.heard.Heard.TheVariants as heard
-use Rattle.pod_core.specs.History.{History}
+use Rattle.pod_core.specs.History.{History, end_of}
 use Rattle.pod_core.specs.Output.{output, output_of}
-use Rattle.pod_core.specs.Session.{Item, Session, UpgradesLast, IsClockMoment, IsRefused, bad_status, ends_upgraded, requests_of, upgrades}
+use Rattle.pod_core.specs.Session.{IsSession, Item, Session, UpgradesLast, IsClockMoment, IsRefused, bad_status, ends_upgraded, requests_of, upgrades}
 use Rattle.token_table.specs.Credentials.{AskedAgent}
-use Rattle.pod_pipe.specs.Served.{Continues, IsServed, IsStopped, grown}
+use Rattle.pod_pipe.specs.Served.{Continues, IsServed, IsStopped}
+use Rattle.session_laws.proofs.AlikeSessions.{session_isolated, still_isolated}
+use Rattle.session_laws.specs.Isolated.{grown}
 use Rattle.pod_pipe.specs.Talks.{IsPlain, Progress}
 use Rattle.pod_pipe.specs.Trails.{trail_of}
 use Rattle.pod_pipe.specs.Turns.{refusal_bytes}
@@ -55,20 +57,23 @@ module _ (may_give : ℕ → Type 0) (asking : Request → AskedAgent) (trails :
 
     -- a session of all that was heard
     pub continues : (hears : List Heard) (refusal : Option ℕ) → requests_of hears ≡ requests → IfSome refusal (IsRefused may_give hears items) → Continues may_give asking begun hears (session_of items refusal)
-    continues hears refusal same r = record {
-      conn = refl;
-      history = refl;
-      is_history = p.progress.is_history;
-      is_session = record {
-        requests = ([], append-nil _ ∙ p.progress.requested ∙ sym same);
-        numbers = p.progress.numbers;
-        asked = p.progress.asked;
-        answers = p.progress.answers;
-        places = p.progress.places;
-        last = p.last;
-        refused = r;
-      };
-    }
+    continues hears refusal same r =
+        let s : IsSession may_give asking hears (end_of begun) (session_of items refusal) (end_of (grown begun items)) = record {
+          requests = ([], append-nil _ ∙ p.progress.requested ∙ sym same);
+          numbers = p.progress.numbers;
+          asked = p.progress.asked;
+          answers = p.progress.answers;
+          places = p.progress.places;
+          last = p.last;
+          refused = r;
+        } in
+        record {
+          conn = refl;
+          history = refl;
+          is_history = p.progress.is_history;
+          is_session = s;
+          isolated = session_isolated may_give asking begun (session_of items refusal) hears refl s p.progress.isolated;
+        }
 
   -- a front of what a session writes
   pub begins : (hears : List Heard) (written lines : List ℕ) (session : Session) → Continues may_give asking begun hears session → leaves session.items
@@ -167,6 +172,17 @@ module _ (may_give : ℕ → Type 0) (asking : Request → AskedAgent) (trails :
         let begins_so = s.continues.is_session.requests in
         omega (arith, length-map s.session.items (λ (i : Item). i.request), length-append (map (λ (i : Item). i.request) s.session.items) begins_so.0, ap length begins_so.1)
 
+    session_longer : IsSession may_give asking (hears ++ more) (end_of begun) s.session (end_of s.session.history)
+    session_longer = record {
+      requests = prefix_trans _ (requests_of hears) (requests_of (hears ++ more)) s.continues.is_session.requests first_requests;
+      numbers = s.continues.is_session.numbers;
+      asked = s.continues.is_session.asked;
+      answers = s.continues.is_session.answers;
+      places = s.continues.is_session.places;
+      last = s.continues.is_session.last;
+      refused = subst (λ (o : Option ℕ). IfSome o (IsRefused may_give (hears ++ more) s.session.items)) (sym no_refusal) tt;
+    }
+
     pub served_longer : IsServed may_give asking trails begun leaves true (hears ++ more) written lines
     served_longer = record {
       session = s.session;
@@ -174,15 +190,8 @@ module _ (may_give : ℕ → Type 0) (asking : Request → AskedAgent) (trails :
         conn = s.continues.conn;
         history = s.continues.history;
         is_history = s.continues.is_history;
-        is_session = record {
-          requests = prefix_trans _ (requests_of hears) (requests_of (hears ++ more)) s.continues.is_session.requests first_requests;
-          numbers = s.continues.is_session.numbers;
-          asked = s.continues.is_session.asked;
-          answers = s.continues.is_session.answers;
-          places = s.continues.is_session.places;
-          last = s.continues.is_session.last;
-          refused = subst (λ (o : Option ℕ). IfSome o (IsRefused may_give (hears ++ more) s.session.items)) (sym no_refusal) tt;
-        };
+        is_session = session_longer;
+        isolated = still_isolated may_give asking begun s.session hears (hears ++ more) session_longer s.continues.isolated;
       };
       left = s.left;
       whole = inl s.last;

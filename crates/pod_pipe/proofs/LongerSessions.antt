@@ -9,9 +9,10 @@ use Rattle.pod_base.proofs.Prefixes.{prefix_of_append, prefix_trans, prefix_afte
 use Rattle.pod_base.specs.declared.heard.Heard.{Heard}
 use Rattle.pod_base.specs.declared.heard.Heard.TheVariants as heard
 use Rattle.pod_base.specs.declared.request.Request.{Request}
-use Rattle.pod_core.specs.History.{History}
+use Rattle.pod_core.specs.History.{History, end_of}
 use Rattle.pod_core.specs.Output.{item_text, output, output_of}
-use Rattle.pod_core.specs.Session.{IsRefused, Item, Session, has_bad, requests_of, upgrades}
+use Rattle.pod_core.specs.Session.{IsRefused, IsSession, Item, Session, has_bad, requests_of, upgrades}
+use Rattle.session_laws.proofs.AlikeSessions.{still_isolated}
 use Rattle.token_table.specs.Credentials.{AskedAgent}
 use Rattle.pod_pipe.specs.Served.{Continues, IsStopped, WritesSession}
 use Rattle.pod_pipe.specs.Statuses.{HearsFirst, IsHeard, IsWritten, Pipes}
@@ -63,13 +64,8 @@ first_of_end NoMemory read events left h = h
 module _ (may_give : ℕ → Type 0) (asking : Request → AskedAgent) (trails : Bool) (begun : History) (leaves : List Item → Type 0) where
   module _ (events more : List Heard) (written trail : List ℕ) (ends : NothingAfterEnd 0 (events ++ more)) where
     open_session : (session : Session) → session.refusal ≡ None → Continues may_give asking begun events session → leaves session.items → IsPrefix written (output events session) → IsPrefix trail (trail_of trails session.items) → IsStopped may_give asking trails begun leaves (events ++ more) written trail
-    open_session session none s left begins_so lines = record {
-      session = session;
-      continues = record {
-        conn = s.conn;
-        history = s.history;
-        is_history = s.is_history;
-        is_session = record {
+    open_session session none s left begins_so lines =
+        let longer_session : IsSession may_give asking (events ++ more) (end_of begun) session (end_of session.history) = record {
           requests = prefix_trans _ (requests_of events) (requests_of (events ++ more)) s.is_session.requests
               (subst (IsPrefix (requests_of events)) (sym (requests_append events more)) (prefix_of_append (requests_of events) (requests_of more)));
           numbers = s.is_session.numbers;
@@ -78,13 +74,21 @@ module _ (may_give : ℕ → Type 0) (asking : Request → AskedAgent) (trails :
           places = s.is_session.places;
           last = s.is_session.last;
           refused = subst (λ (o : Option ℕ). IfSome o (IsRefused may_give (events ++ more) session.items)) (sym none) tt;
-        };
-      };
-      left = left;
-      bytes = prefix_trans written (output events session) (output (events ++ more) session) begins_so
-          (subst (λ (o : Option ℕ). IsPrefix (output_of events session.items o) (output_of (events ++ more) session.items o)) (sym none) (output_longer events more session.items));
-      lines = lines;
-    }
+        } in
+        record {
+          session = session;
+          continues = record {
+            conn = s.conn;
+            history = s.history;
+            is_history = s.is_history;
+            is_session = longer_session;
+            isolated = still_isolated may_give asking begun session events (events ++ more) longer_session s.isolated;
+          };
+          left = left;
+          bytes = prefix_trans written (output events session) (output (events ++ more) session) begins_so
+              (subst (λ (o : Option ℕ). IsPrefix (output_of events session.items o) (output_of (events ++ more) session.items o)) (sym none) (output_longer events more session.items));
+          lines = lines;
+        }
 
     by_refusal : (session : Session) (refusal : Option ℕ) → session.refusal ≡ refusal → Continues may_give asking begun events session → leaves session.items → IsPrefix written (output events session) → IsPrefix trail (trail_of trails session.items) → IsStopped may_give asking trails begun leaves (events ++ more) written trail
     by_refusal session None e s left begins_so lines = open_session session e s left begins_so lines

@@ -10,10 +10,10 @@ use Rattle.pod_reply.specs.Reply.{IsReply}
 use Rattle.pod_rows.specs.Pod.{Pod}
 use Rattle.reply_laws.specs.Granted.{is_change}
 use Rattle.token_table.specs.Credentials.{AskedAgent}
-use Rattle.pod_pipe.specs.Holders.{Faults, CountsDiskFaults}
+use Rattle.pod_pipe.specs.Holders.{Faults, CountsUnanswered}
 use Rattle.pod_pipe.specs.Turns.{IsTaken, IsTurned, noted_line, stamped}
 use Rattle.pod_pipe.specs.declared.taken.Noted.{Noted}
-use Rattle.pod_pipe.proofs.ProgressLemmas.{same_history}
+use Rattle.session_laws.proofs.PodsAtEnd.{same_history}
 
 -- the end is a place, and behind an entry that is added the end is the next one
 climbs : {A : Type 0} (start : ℕ) (xs : List A) (o : Option A)
@@ -31,7 +31,7 @@ module _ (may_give : ℕ → Type 0) (trails : Bool) (goes : History → Type 0)
   unplaced : (item : Item) → longer history [] ≡ history → goes history → goes (longer history [])
   unplaced item same gone = subst goes (sym same) gone
 
-  pub out_of_memory : goes history → CountsDiskFaults 0 old new → IsTurned may_give trails goes old new history request asked number memory_text [] false
+  pub out_of_memory : goes history → CountsUnanswered 0 1 old new → IsTurned may_give trails goes old new history request asked number memory_text [] false
   out_of_memory gone counted =
       let item : Item = record { request = request; number = number; asked = asked; moment = 0; outcome = no_memory } in
       record {
@@ -48,7 +48,7 @@ module _ (may_give : ℕ → Type 0) (trails : Bool) (goes : History → Type 0)
         switches = refl;
       }
 
-  pub disk_failed : IsTrue (is_change request.method) → goes history → CountsDiskFaults 1 old new → IsTurned may_give trails goes old new history request asked number disk_text [] false
+  pub disk_failed : IsTrue (is_change request.method) → goes history → CountsUnanswered 1 0 old new → IsTurned may_give trails goes old new history request asked number disk_text [] false
   disk_failed change gone counted =
       let item : Item = record { request = request; number = number; asked = asked; moment = 0; outcome = disk_fault } in
       record {
@@ -85,7 +85,7 @@ module _ (may_give : ℕ → Type 0) (trails : Bool) (goes : History → Type 0)
     timely : IsTimely may_give 1 all item_now (end_of history)
     timely = (t.clock, t.given, t.moment ∙ ap (λ b. if is_change request.method then max t.clock b else t.clock) (sym (moment_grows history (option_to_list t.reply.entry) (end_of history) here)))
 
-    pub taken_turned : (counted : CountsDiskFaults 0 old new) (line : List ℕ) → line ≡ (if trails then noted_line request asked noted else []) → (upgraded : Bool) → upgraded ≡ (noted.status == 101) → IsTurned may_give trails goes old new history request asked number bytes line upgraded
+    pub taken_turned : (counted : CountsUnanswered 0 0 old new) (line : List ℕ) → line ≡ (if trails then noted_line request asked noted else []) → (upgraded : Bool) → upgraded ≡ (noted.status == 101) → IsTurned may_give trails goes old new history request asked number bytes line upgraded
     taken_turned counted line is upgraded switches = record {
       item = item_now;
       request_is = refl;

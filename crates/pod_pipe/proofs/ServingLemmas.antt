@@ -19,16 +19,17 @@ use Rattle.token_table.specs.Credentials.{AskedAgent}
 use Rattle.pod_pipe.specs.Holders.{Faults}
 use Rattle.pod_pipe.specs.Streams.{Reads, AtEnd, MeetsEnd, CountsInput}
 use Rattle.pod_pipe.specs.Served.{IsServed, IsStopped, Leaves}
-use Rattle.pod_pipe.specs.Statuses.{AddsOrPart, AddsPart, HearsFirst, IsHeard, IsWritten, IsTold, Pipes, ComesOf, Tells, end_line}
+use Rattle.line_sink.specs.Writing.{AddsOrPart, AddsPart, ExtendsBy}
+use Rattle.line_sink.proofs.Extending.{extends_more, nothing_added}
+use Rattle.pod_pipe.specs.Statuses.{HearsFirst, IsHeard, IsWritten, IsTold, Pipes, ComesOf, Tells, end_line}
 use Rattle.pod_pipe.specs.Talks.{Talks, MayBeSent, Ends, IsAll, TurnsIn}
-use Rattle.pod_pipe.specs.Streams.{ExtendsBy}
 use Rattle.pod_pipe.specs.declared.status.PipeEnd.{PipeEnd}
 use Rattle.pod_pipe.specs.declared.status.PipeEnd.TheVariants.{Peer, Cut, Closed, Limit, Upgraded, Bad, ReadFault, WriteFault, NoMemory, ReadLimit}
 use Rattle.pod_pipe.proofs.EndingsLemmas.{served_longer, served_stops}
 use Rattle.pod_pipe.proofs.HeardLemmas.{ends_behind, refused_behind, not_bad}
 use Rattle.pod_pipe.proofs.ProgressLemmas.{nothing_left, nothing_yet}
 use Rattle.pod_pipe.proofs.RefusedLemmas.{are_refused}
-use Rattle.pod_pipe.proofs.TalksLemmas.{nothing_added, adds_more, items_count, stops_before, serves_before}
+use Rattle.pod_pipe.proofs.TalksLemmas.{items_count, stops_before, serves_before}
 
 -- What was read so far was answered, and the connection is open.
 pub record Serving {H : Type 0} (stands : H → History → Type 0) (faults : H → Faults) (follows : H → History → H → History → Type 0) (may_give : ℕ → Type 0) (asking : Request → AskedAgent) (trails : Bool) (begun : History) (first : H) (stage : ParserState) (holder : H) (number : ℕ)
@@ -209,8 +210,8 @@ module _ {H : Type 0} (stands : H → History → Type 0) (faults : H → Faults
               reads = reads;
               represents = represents;
               talks = subst (λ h. Talks stands faults follows may_give asking trails begun first after number_now (s.heard ++ h) (s.written ++ text) (s.trail ++ lines)) whole (t.turns begun first s.heard s.written s.trail s.talks);
-              writes = adds_more old_output new_output output s.written text s.writes adds;
-              trails_too = adds_more old_errors new_errors errors s.trail lines s.trails_too adds_lines;
+              writes = extends_more old_output new_output output s.written text s.writes adds;
+              trails_too = extends_more old_errors new_errors errors s.trail lines s.trails_too adds_lines;
               many = omega (arith, s.many, some, length-append s.text piece);
             }
 
@@ -226,8 +227,8 @@ module _ {H : Type 0} (stands : H → History → Type 0) (faults : H → Faults
           reads = reads;
           hears = heard_so end t.front t.behind t.cut t.over told;
           serves = written_so end t.front t.behind t.cut told;
-          writes = adds_more old_output new_output output s.written text s.writes adds;
-          trails_too = adds_more old_errors new_errors errors s.trail lines s.trails_too adds_lines;
+          writes = extends_more old_output new_output output s.written text s.writes adds;
+          trails_too = extends_more old_errors new_errors errors s.trail lines s.trails_too adds_lines;
         }
           where
             told : Ends stands faults follows may_give asking trails begun (Leaves stands faults follows begun first after) end (s.heard ++ t.front) (s.written ++ text) (s.trail ++ lines)
@@ -431,3 +432,8 @@ write_failed before told output output_now errors middle errors_now line serving
     (λ at. ⊎_elim (λ rose. inl rose) (λ rose. inr (rose_by errors middle errors_now rose le_2)) (serving at))
     (λ rose. inr (rose_since errors middle errors_now le rose))
     (line is)
+
+-- a write failed in the last piece, after counts that didn't fall
+pub rose_in_one : (a b c d e f : ℕ) → a ≤ b → d ≤ e → CountIncreased b c ⊎ CountIncreased e f → CountIncreased a c ⊎ CountIncreased d f
+rose_in_one a b c d e f le le_2 (inl rose) = inl (λ below. omega (arith, le, rose below))
+rose_in_one a b c d e f le le_2 (inr rose) = inr (λ below. omega (arith, le_2, rose below))

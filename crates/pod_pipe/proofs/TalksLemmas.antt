@@ -1,6 +1,5 @@
 -- A turn of a connection.
-use Rattle.std.proofs.Common.{◌≡◌, inl, inr, ℕ, ◌+◌, ◌<◌, ◌==◌, Bool, true, false, if◌then◌else◌, List, [], ◌∷◌, ◌++◌, length, take, drop, Option, Some, None, Result, Ok, Err, IfErr, refl, sym, ap, ap₂, subst, append_assoc, length-append, ◌∙◌, arith}
-use Rattle.std.specs.Option.{option_map}
+use Rattle.std.proofs.Common.{◌≡◌, inl, inr, ℕ, ◌+◌, ◌<◌, ◌==◌, Bool, true, false, if◌then◌else◌, List, [], ◌∷◌, ◌++◌, length, take, drop, Option, None, Result, Ok, Err, IfErr, refl, sym, ap, ap₂, subst, append_assoc, length-append, ◌∙◌, arith}
 use Rattle.std.proofs.lemmas.Bool.{or_cases, or_parts}
 use Rattle.std.proofs.lemmas.Bool.Decides.{nat_tests}
 use Rattle.std.proofs.lemmas.List.{append-nil, take-append-drop}
@@ -16,25 +15,19 @@ use Rattle.pod_core.specs.Output.{closes_after, item_text, output_of}
 use Rattle.pod_core.specs.Session.{Item, IsClockMoment, bad_status, requests_of, upgrades}
 use Rattle.token_table.specs.Credentials.{AskedAgent}
 use Rattle.pod_pipe.specs.Holders.{Faults, Goes}
-use Rattle.pod_pipe.specs.Served.{IsServed, IsStopped, Leaves, grown}
+use Rattle.pod_pipe.specs.Served.{IsServed, IsStopped, Leaves}
+use Rattle.session_laws.specs.Isolated.{IsolatesItems, grown}
 use Rattle.pod_pipe.specs.Talks.{CountsWrites, IsPlain, MayStop, Progress, Talks, IsSound, Ends, IsAll, IsOver, Turns, RefusedAs}
 use Rattle.pod_pipe.specs.Trails.{trail_of}
-use Rattle.pod_pipe.specs.Streams.{ExtendsBy}
-use Rattle.pod_pipe.specs.Turns.{IsTurned, Writes, refusal_bytes}
+use Rattle.pod_pipe.specs.Turns.{IsTurned, refusal_bytes}
+use Rattle.line_sink.specs.Writing.{ExtendsBy, Writes}
+use Rattle.line_sink.proofs.Extending.{nothing_added}
 use Rattle.pod_pipe.specs.declared.status.PipeEnd.{PipeEnd}
 use Rattle.pod_pipe.specs.declared.status.PipeEnd.TheVariants.{Peer, Cut, Closed, Limit, Upgraded, Bad, ReadFault, WriteFault, NoMemory, ReadLimit}
 use Rattle.pod_pipe.proofs.ProgressLemmas.{Next, trail_append, turned}
 use Rattle.pod_pipe.proofs.SessionLemmas.{all_snoc}
 use Rattle.pod_pipe.proofs.HeardLemmas.{requests_append, bad_behind, stays_append, last_ends, output_grows}
 use Rattle.pod_pipe.proofs.EndingsLemmas.{Came, session_of, all_have_items, continues, begins, serves, serves_refused, stops_refused, whole_front, plain_all, plain_end, plain_last, last_end}
-
-pub nothing_added : (old : Option (List ℕ)) → ExtendsBy [] old old
-nothing_added None = refl
-nothing_added (Some bytes) = ap Some (sym (append-nil bytes))
-
-pub adds_more : (old middle new : Option (List ℕ)) (xs ys : List ℕ) → ExtendsBy xs old middle → ExtendsBy ys middle new → ExtendsBy (xs ++ ys) old new
-adds_more None middle new xs ys h k = k ∙ ap (option_map (λ taken. taken ++ ys)) h
-adds_more (Some bytes) middle new xs ys h k = k ∙ ap (option_map (λ taken. taken ++ ys)) h ∙ ap Some (append_assoc bytes xs ys)
 
 -- what the connection relies on after a request that isn't the last
 pub stays_sound : (number : ℕ) (request : Request) → IsSound number → closes_after request (number + 1) ≡ false → IsSound (number + 1)
@@ -153,14 +146,14 @@ module _ {H : Type 0} (stands : H → History → Type 0) (faults : H → Faults
 
     -- ---- a request
     module _ (after : H) (request : Request) (text line : List ℕ) (upgraded : Bool)
-        (turned_so : (history : History) → stands holder history → IsTurned may_give trails (Goes stands follows holder history after) (faults holder) (faults after) history request (asking request) (talked + 1) text line upgraded) where
+        (turned_so : (history : History) → stands holder history → IsTurned may_give trails (Goes stands follows holder history after) (faults holder) (faults after) history request (asking request) (talked + 1) text line upgraded) (law : IsolatesItems may_give) where
       abbrev all_heard : List Heard
       all_heard = before ++ heard.Request request ∷ []
 
       next : Next stands faults follows legal still joins may_give asking trails begun first (requests_of before ++ request ∷ []) t.items after text line upgraded
       next = turned stands faults follows legal still joins may_give asking trails begun first (requests_of before) t.items t.progress holder after t.left request text line upgraded
           (subst (λ n. IsTurned may_give trails (Goes stands follows holder (grown begun t.items) after) (faults holder) (faults after) (grown begun t.items) request (asking request) (n + 1) text line upgraded) t.number_is
-          (turned_so (grown begun t.items) t.left.gone.0))
+          (turned_so (grown begun t.items) t.left.gone.0)) law
 
       abbrev all_items : List Item
       all_items = t.items ++ next.item ∷ []

@@ -14,7 +14,7 @@ use Rattle.pod_pipe.proofs.EndingsLemmas.{Came, served_stops, serves}
 use Rattle.pod_pipe.proofs.ProgressLemmas.{nothing_yet}
 use Rattle.pod_pipe.proofs.ServingLemmas.{all_first, nothing_read}
 use Rattle.pod_pipe.proofs.LongerSessions.{writes_session}
-use Rattle.pod_pipe.proofs.TalksLemmas.{nothing_added}
+use Rattle.line_sink.proofs.Extending.{nothing_added}
 
 module _ (may_give : ℕ → Type 0) (asking : Request → AskedAgent) (trails : Bool) (begun : History) (leaves less : List Item → Type 0) (weaker : (items : List Item) → leaves items → less items) where
   served : (upgraded : Bool) (events : List Heard) (written trail : List ℕ) → IsServed may_give asking trails begun leaves upgraded events written trail → IsServed may_give asking trails begun less upgraded events written trail

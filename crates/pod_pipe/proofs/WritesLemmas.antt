@@ -1,22 +1,10 @@
 -- Two writes, one behind the other.
-use Rattle.std.proofs.Common.{◌≡◌, ℕ, ◌+◌, ◌-◌, ◌<◌, ◌≤◌, min, List, [], ◌++◌, length, take, drop, Option, Some, None, Result, Ok, Err, length-append, refl, sym, ap, subst, append_assoc, ◌∙◌, arith}
-use Rattle.std.specs.Option.{option_map}
-use Rattle.std.proofs.Math.Seq.{take-length, take-add, take-append_seam, length-take-le}
-use Rattle.std.proofs.lemmas.List.{append-nil, take_rest, take-append-drop}
-use Rattle.pod_pipe.specs.Streams.{ExtendsBy}
-use Rattle.pod_pipe.specs.Turns.{Writes, WritesBoth}
-
--- nothing was written
-nothing_more : (old : Option (List ℕ)) → ExtendsBy [] old old
-nothing_more None = refl
-nothing_more (Some bytes) = ap Some (sym (append-nil bytes))
-
--- what is behind a front of the text, and the front
-pub written_more : (old : Option (List ℕ)) (text : List ℕ) (at count : ℕ) → option_map (λ bytes. bytes ++ take count (take (length text - at) (drop at text))) (option_map (λ bytes. bytes ++ take at text) old) ≡ option_map (λ bytes. bytes ++ take (at + count) text) old
-written_more None text at count = refl
-written_more (Some bytes) text at count =
-    ap (λ rest. Some ((bytes ++ take at text) ++ take count rest)) (take_rest text at)
-    ∙ ap Some (append_assoc bytes (take at text) (take count (drop at text)) ∙ ap (λ more. bytes ++ more) (sym (take-add at count text)))
+use Rattle.std.proofs.Common.{◌≡◌, ℕ, ◌<◌, ◌≤◌, min, List, [], ◌++◌, length, take, drop, Option, Result, Ok, Err, length-append, sym, ap, subst, append_assoc, ◌∙◌, arith}
+use Rattle.std.proofs.Math.Seq.{take-length, take-append_seam, length-take-le}
+use Rattle.std.proofs.lemmas.List.{take-append-drop}
+use Rattle.line_sink.specs.Writing.{ExtendsBy, Writes}
+use Rattle.line_sink.proofs.Extending.{nothing_added}
+use Rattle.pod_pipe.specs.Turns.{WritesBoth}
 
 -- the piece that was given, and what is left behind it
 pub given_is : (left old piece : List ℕ) (count : ℕ) → count ≡ min (length left) (length old) → piece ≡ take count left ++ drop count old → take count piece ++ drop count left ≡ left
@@ -46,8 +34,8 @@ part_less done given behind whole count all less =
 
 -- a text that one sink has, and nothing that the other has
 pub both_of : {T E : Type 0} (result : Result T E) (text : List ℕ) (old new errors : Option (List ℕ)) → Writes result text old new → WritesBoth result text [] old new errors errors
-both_of (Ok x) text old new errors w = record { whole = (w.whole, nothing_more errors); part = tt }
-both_of (Err e) text old new errors w = record { whole = tt; part = (w.part.0, 0, w.part.2, nothing_more errors) }
+both_of (Ok x) text old new errors w = record { whole = (w.whole, nothing_added errors); part = tt }
+both_of (Err e) text old new errors w = record { whole = tt; part = (w.part.0, 0, w.part.2, nothing_added errors) }
 
 -- all of a text was written, and then a front of a line
 pub line_stopped : {T S E : Type 0} (failed : E) (text line : List ℕ) (old new errors new_errors : Option (List ℕ)) → ExtendsBy text old new → Writes {T = S} {E = E} (Err failed) line errors new_errors

@@ -13,17 +13,33 @@ use Rattle.pod_pipe.specs.declared.holder.AnswerFault.{AnswerFault}
 use Rattle.pod_pipe.specs.declared.holder.AnswerFault.TheVariants.{NoMemory, DiskFault}
 
 -- The counts of faults of the two disks of a store. They are 0 where the pod is in memory.
-pub record Faults : Type 0 where
+pub record DiskFaults : Type 0 where
   pub first : ℕ
   pub second : ℕ
 
+-- What a holder counts: the faults of its disks, and the requests that found no memory.
+pub record Faults : Type 0 where
+  pub disks : DiskFaults
+  pub starved : ℕ
+
 -- So many faults were counted at least, unless a count is at the last number that it can hold; and
 -- no count fell.
-pub record CountsDiskFaults (many : ℕ) (old new : Faults) : Type 0 where
+pub record CountsDiskFaults (many : ℕ) (old new : DiskFaults) : Type 0 where
   pub first : old.first ≤ new.first
   pub second : old.second ≤ new.second
   pub counted : new.first < 2 ^ 64 - 1 → new.second < 2 ^ 64 - 1
       → many + (old.first + old.second) ≤ new.first + new.second
+
+-- So many requests were counted at least that found no memory, unless their count is at the last
+-- number that it can hold; and it didn't fall.
+pub record CountsStarved (many old new : ℕ) : Type 0 where
+  pub no_fewer : old ≤ new
+  pub counted : new < 2 ^ 64 - 1 → many + old ≤ new
+
+-- So many requests met a disk fault, and so many found no memory: each was counted.
+pub record CountsUnanswered (disk_faults no_memory : ℕ) (old new : Faults) : Type 0 where
+  pub disks : CountsDiskFaults disk_faults old.disks new.disks
+  pub starved : CountsStarved no_memory old.starved new.starved
 
 -- A holder that stood for one history stands for another one, and has come to it so.
 abbrev pub Goes : {H : Type 0} → (H → History → Type 0) → (H → History → H → History → Type 0) → H
@@ -35,6 +51,12 @@ abbrev pub faults_in : {T : Type 0} → Result T AnswerFault → ℕ
 faults_in (Ok answer) = 0
 faults_in (Err NoMemory) = 0
 faults_in (Err DiskFault) = 1
+
+-- one where no memory was found, and else none
+abbrev pub starved_in : {T : Type 0} → Result T AnswerFault → ℕ
+starved_in (Ok answer) = 0
+starved_in (Err NoMemory) = 1
+starved_in (Err DiskFault) = 0
 
 -- The moment of a request at the end of a history, at a moment of the clock: that of a change is no
 -- earlier than that of the last entry.

@@ -2,7 +2,7 @@
 use Rattle.std.specs.Prelude.{◌≡◌, ℕ}
 use Rattle.pod_core.specs.History.{History, IsHistory, end_of, moment_before, pod_at}
 use Rattle.pod_rows.specs.Pod.{Pod}
-use Rattle.pod_pipe.specs.Holders.{Faults}
+use Rattle.pod_pipe.specs.Holders.{DiskFaults, Faults}
 use Rattle.pod_pipe.specs.declared.memory.MemoryPod.{MemoryPod}
 
 -- The pod is the one at the end of the history, with the number of the next entry and the moment of
@@ -14,8 +14,12 @@ pub record IsMemoryOf (pod : Pod) (next last : ℕ) (history : History) : Type 0
   pub last_is : last ≡ moment_before history (end_of history)
 
 -- it has no disks
-abbrev pub no_faults : Faults
+abbrev pub no_faults : DiskFaults
 no_faults = record { first = 0; second = 0 }
+
+-- what it counts: the requests that found no memory
+abbrev pub memory_faults : MemoryPod → Faults
+memory_faults pod = record { disks = no_faults; starved = pod.starved }
 
 -- the histories that a pod in memory stands for
 abbrev pub memory_stands : MemoryPod → History → Type 0

@@ -1,22 +1,19 @@
 -- What one connection writes of a pod, over a history that the pod's holder stands for.
 use Rattle.std.specs.Prelude.{◌≡◌, ℕ, ◌+◌, Bool, List, [], ◌∷◌, Option}
-use Rattle.std.specs.List.{flat_map}
 use mathlib.Core.List.{IsPrefix}
 use Rattle.http_conn.specs.Messages.{Messages}
+use Rattle.line_sink.specs.Writing.{ExtendsBy}
 use Rattle.pod_base.specs.declared.heard.Heard.{Heard}
 use Rattle.pod_base.specs.declared.request.Request.{Request}
-use Rattle.pod_core.specs.History.{History, IsHistory, end_of, longer}
+use Rattle.pod_core.specs.History.{History, IsHistory, end_of}
 use Rattle.pod_core.specs.Output.{output}
 use Rattle.pod_core.specs.Session.{Outcome, answered, no_memory, disk_fault, Item, Session}
-use Rattle.pod_core.specs.Session.{IsSession, IsWhole, ends_upgraded, entries_of}
+use Rattle.pod_core.specs.Session.{IsSession, IsWhole, ends_upgraded}
+use Rattle.session_laws.specs.Isolated.{IsIsolated, grown}
 use Rattle.token_table.specs.Credentials.{AskedAgent}
-use Rattle.pod_pipe.specs.Holders.{Faults, CountsDiskFaults, Goes}
-use Rattle.pod_pipe.specs.Streams.{ExtendsBy, Reads}
+use Rattle.pod_pipe.specs.Holders.{Faults, CountsUnanswered, Goes}
+use Rattle.pod_pipe.specs.Streams.{Reads}
 use Rattle.pod_pipe.specs.Trails.{trail_of}
-
--- the history with the entries of these items
-abbrev pub grown : History → List Item → History
-grown begun items = longer begun (flat_map entries_of items)
 
 -- how many items met a disk fault
 abbrev pub fault_on : Outcome → ℕ
@@ -28,8 +25,19 @@ abbrev pub disk_faults : List Item → ℕ
 disk_faults [] = 0
 disk_faults (item ∷ items) = fault_on item.outcome + disk_faults items
 
+-- how many items found no memory
+abbrev pub starved_on : Outcome → ℕ
+starved_on (answered place reply) = 0
+starved_on no_memory = 1
+starved_on disk_fault = 0
+
+abbrev pub starved_items : List Item → ℕ
+starved_items [] = 0
+starved_items (item ∷ items) = starved_on item.outcome + starved_items items
+
 -- The session is that of connection 1, from the end of this history on. Its own history is that one
--- with exactly the items' entries, each of which applies.
+-- with exactly the items' entries, each of which applies. Where one agent makes all its requests, it
+-- is a session over each history that ends alike for that agent, too.
 pub record Continues (may_give : ℕ → Type 0) (asking : Request → AskedAgent) (begun : History)
     (events : List Heard) (session : Session) : Type 0 where
   pub conn : session.conn ≡ 1
@@ -37,14 +45,16 @@ pub record Continues (may_give : ℕ → Type 0) (asking : Request → AskedAgen
   pub is_history : IsHistory session.history
   pub is_session : IsSession may_give asking events (end_of begun) session
       (end_of session.history)
+  pub isolated : IsIsolated may_give asking begun events session
 
--- What is left of a holder that stood for the history: it has gone on to the history with the items'
--- entries, and each item that met a disk fault was counted.
+-- What is left of a holder that stood for the history: it has gone on to the history with the
+-- items' entries, and each item that met a disk fault or found no memory was counted.
 pub record Leaves {H : Type 0} (stands : H → History → Type 0) (faults : H → Faults)
     (follows : H → History → H → History → Type 0) (begun : History) (old new : H)
     (items : List Item) : Type 0 where
   pub gone : Goes stands follows old begun new (grown begun items)
-  pub counted : CountsDiskFaults (disk_faults items) (faults old) (faults new)
+  pub counted : CountsUnanswered (disk_faults items) (starved_items items) (faults old)
+      (faults new)
 
 module _ (may_give : ℕ → Type 0) (asking : Request → AskedAgent) (trails : Bool) (begun : History)
     (leaves : List Item → Type 0) where

@@ -1,15 +1,15 @@
 -- How a connection ends, and what it has read, written and reported then.
-use Rattle.std.specs.Prelude.{◌≡◌, ◌⊎◌, ℕ, ◌^◌, ◌<◌, ◌≤◌, Bool, List, [], ◌++◌, length, take}
+use Rattle.std.specs.Prelude.{◌≡◌, ◌⊎◌, ℕ, ◌^◌, ◌<◌, ◌≤◌, Bool, List, [], ◌++◌, length}
 use Rattle.std.specs.Prelude.{Option, Some, None, true, false, codes, decimal}
 use Rattle.http_conn.specs.Messages.{Messages, AreFirstEvents, StaysOpen}
 use Rattle.http_conn.specs.declared.events.TheConstants.{REQUEST_LIMIT}
+use Rattle.line_sink.specs.Writing.{AddsOrPart, AddsPart, ExtendsBy}
 use Rattle.pod_base.specs.declared.heard.Heard.{Heard}
 use Rattle.pod_base.specs.declared.request.Request.{Request}
-use Rattle.pod_base.specs.Counts.{CountIncreased}
 use Rattle.pod_core.specs.History.{History}
 use Rattle.pod_core.specs.Session.{Item, requests_of, bad_status}
 use Rattle.token_table.specs.Credentials.{AskedAgent}
-use Rattle.pod_pipe.specs.Streams.{ExtendsBy, Reads, AtEnd}
+use Rattle.pod_pipe.specs.Streams.{Reads, AtEnd}
 use Rattle.pod_pipe.specs.Served.{IsServed, IsStopped}
 use Rattle.pod_pipe.specs.declared.status.PipeEnd.{PipeEnd}
 use Rattle.pod_pipe.specs.declared.status.PipeEnd.TheVariants.{Peer, Cut, Closed, Limit, Upgraded}
@@ -100,16 +100,6 @@ end_line Upgraded = codes "end: upgraded\n"
 end_line (Cut rest) = codes "end: cut " ++ decimal rest ++ codes "\n"
 end_line (Bad status) = codes "end: bad " ++ decimal status ++ codes "\n"
 end_line _ = []
-
--- the sink has a part of the line too, and not all of it: its count rose
-abbrev pub AddsPart : List ℕ → Option (List ℕ) → Option (List ℕ) → ℕ → ℕ → Type 0
-AddsPart line old new before after = CountIncreased before after
-    × ((count : ℕ) × (count < length line) × ExtendsBy (take count line) old new)
-
--- the sink has the line too, or a part of it where its count rose
-abbrev pub AddsOrPart : List ℕ → Option (List ℕ) → Option (List ℕ) → ℕ → ℕ → Type 0
-AddsOrPart line old new before after =
-    ExtendsBy line old new ⊎ AddsPart line old new before after
 
 -- What the error sink has after the trail: the line of the end, or a part of it where its count
 -- rose. A line of status 0 that fails makes the end a write fault; another that fails changes

@@ -1,4 +1,4 @@
--- What a run reads of its input and adds to its output.
+-- What a run reads of its input.
 use Rattle.std.specs.Prelude.{◌≡◌, ◌⊎◌, ℕ, ◌+◌, ◌-◌, ◌^◌, ◌<◌, ◌≤◌, List, [], ◌++◌, Option}
 use Rattle.std.specs.Option.{option_map}
 use Rattle.pod_io.specs.Counts.{next_count}
@@ -14,10 +14,6 @@ Reads bytes old new = old ≡ option_map (λ rest. bytes ++ rest) new
 -- the input is at its end, where it shows that
 abbrev pub AtEnd : Option (List ℕ) → Type 0
 AtEnd rest = IfVisible rest (λ bytes. bytes ≡ [])
-
--- a sink has these bytes too, after those that it had
-abbrev pub ExtendsBy : List ℕ → Option (List ℕ) → Option (List ℕ) → Type 0
-ExtendsBy bytes old new = new ≡ option_map (λ taken. taken ++ bytes) old
 
 -- The reads that found the end of the input: the last read of a run that ended there, and no other.
 -- So nothing is read after the end. A run whose last line failed may have ended there too.

@@ -4,6 +4,7 @@ use Rattle.std.specs.Prelude.{Option, Some, None, Result, Ok, Err}
 use Rattle.std.specs.List.{AllByRecursion, flat_map, range_with_len}
 use Rattle.http_conn.specs.Messages.{IsLastRequest, StaysOpen}
 use Rattle.http_conn.specs.declared.events.TheConstants.{REQUEST_LIMIT}
+use Rattle.line_sink.specs.Writing.{ExtendsBy}
 use Rattle.pod_base.specs.declared.request.Request.{Request}
 use Rattle.pod_base.specs.declared.heard.Heard.{Heard}
 use Rattle.pod_base.specs.declared.heard.Heard.TheVariants as heard
@@ -14,8 +15,8 @@ use Rattle.pod_core.specs.Session.{Item, IsClockMoment, IsItem, NeverFalls, bad_
 use Rattle.pod_core.specs.Session.{places_of, requests_of, upgrades}
 use Rattle.token_table.specs.Credentials.{AskedAgent}
 use Rattle.pod_pipe.specs.Holders.{Faults}
-use Rattle.pod_pipe.specs.Served.{IsServed, IsStopped, Leaves, grown}
-use Rattle.pod_pipe.specs.Streams.{ExtendsBy}
+use Rattle.pod_pipe.specs.Served.{IsServed, IsStopped, Leaves}
+use Rattle.session_laws.specs.Isolated.{AreIsolated, grown}
 use Rattle.pod_pipe.specs.Trails.{trail_of}
 use Rattle.pod_pipe.specs.Turns.{refusal_bytes}
 use Rattle.pod_pipe.specs.declared.status.PipeEnd.{PipeEnd}
@@ -36,6 +37,7 @@ pub record Progress (may_give : ℕ → Type 0) (asking : Request → AskedAgent
   pub answers : AllByRecursion (IsItem may_give 1 (grown begun items)) items
   pub places : NeverFalls (end_of begun) (flat_map places_of items) (end_of (grown begun items))
   pub is_history : IsHistory (grown begun items)
+  pub isolated : AreIsolated may_give 1 begun items
 
 -- what the code relies on between two things that are heard
 pub record IsSound (number : ℕ) : Type 0 where

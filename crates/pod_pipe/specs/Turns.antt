@@ -1,9 +1,9 @@
 -- One request of a connection.
-use Rattle.std.specs.Prelude.{◌≡◌, ℕ, ◌<◌, Bool, true, List, length}
-use Rattle.std.specs.Prelude.{take, Result, OnOk, OnErr, Option}
+use Rattle.std.specs.Prelude.{◌≡◌, ℕ, Bool, true, List, take, Result, OnOk, OnErr, Option}
 use Rattle.std.specs.Option.{option_to_list}
 use Rattle.audit_trail.specs.Lines.{session_line}
 use Rattle.http_out.specs.Text.{response_text}
+use Rattle.line_sink.specs.Writing.{ExtendsBy}
 use Rattle.moment_date.specs.Dates.{date_text}
 use Rattle.pod_base.specs.declared.moment.Stamp.{Stamp}
 use Rattle.pod_base.specs.declared.request.Request.{Request}
@@ -14,9 +14,8 @@ use Rattle.pod_core.specs.Session.{upgrades}
 use Rattle.pod_reply.specs.Replies.{Reply}
 use Rattle.pod_reply.specs.Reply.{IsReply, agent_of}
 use Rattle.token_table.specs.Credentials.{AskedAgent}
-use Rattle.pod_pipe.specs.Holders.{Faults, CountsDiskFaults, moment_of_request}
-use Rattle.pod_pipe.specs.Served.{fault_on}
-use Rattle.pod_pipe.specs.Streams.{ExtendsBy}
+use Rattle.pod_pipe.specs.Holders.{Faults, CountsUnanswered, moment_of_request}
+use Rattle.pod_pipe.specs.Served.{fault_on, starved_on}
 use Rattle.pod_pipe.specs.Trails.{line_of}
 use Rattle.pod_pipe.specs.declared.taken.Noted.{Noted}
 
@@ -41,9 +40,9 @@ pub record IsTaken (may_give : ℕ → Type 0) (goes : History → Type 0) (hist
       (closes_after request number)
   pub gone : goes (longer history (option_to_list reply.entry))
 
--- The request is one item more of a session over the history: these are the bytes of its outcome, and
--- its line. The holder has gone on to the history with its entries, and where it met a disk fault,
--- that was counted.
+-- The request is one item more of a session over the history: these are the bytes of its outcome,
+-- and its line. The holder has gone on to the history with its entries, and where it met a disk
+-- fault or found no memory, that was counted.
 pub record IsTurned (may_give : ℕ → Type 0) (trails : Bool) (goes : History → Type 0)
     (old new : Faults) (history : History) (request : Request) (asked : AskedAgent) (number : ℕ)
     (text line : List ℕ) (upgraded : Bool) : Type 0 where
@@ -55,7 +54,7 @@ pub record IsTurned (may_give : ℕ → Type 0) (trails : Bool) (goes : History 
   pub places : NeverFalls (end_of history) (places_of item)
       (end_of (longer history (entries_of item)))
   pub gone : goes (longer history (entries_of item))
-  pub counted : CountsDiskFaults (fault_on item.outcome) old new
+  pub counted : CountsUnanswered (fault_on item.outcome) (starved_on item.outcome) old new
   pub text_is : text ≡ item_text item
   pub line_is : line ≡ line_of trails item
   pub switches : upgraded ≡ upgrades item.outcome
@@ -64,13 +63,6 @@ pub record IsTurned (may_give : ℕ → Type 0) (trails : Bool) (goes : History 
 abbrev pub noted_line : Request → AskedAgent → Noted → List ℕ
 noted_line request asked noted =
     session_line noted.place noted.moment (agent_of asked) request noted.status
-
--- a sink has the text too, or a part of it where a write failed
-pub record Writes {T E : Type 0} (result : Result T E) (text : List ℕ) (old new : Option (List ℕ))
-    : Type 0 where
-  pub whole : OnOk result (ExtendsBy text old new)
-  pub part : OnErr result ((count : ℕ) × (count < length text)
-      × ExtendsBy (take count text) old new)
 
 -- one sink has the text too and another the line, or each has a front where that failed
 pub record WritesBoth {T E : Type 0} (result : Result T E) (text line : List ℕ)

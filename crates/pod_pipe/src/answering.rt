@@ -1,19 +1,21 @@
 //! Answers one request of a connection, and writes the answer and its line.
 ghost use Rattle.std.specs.Prelude.{◌≡◌, ◌==◌, ℕ, Bool, List, [], if◌then◌else◌, IfOk, IfErr, false};
 ghost use Rattle.http_out.specs.Text.{memory_text, disk_text};
+ghost use Rattle.line_sink.specs.Writing.{Writes};
 ghost use Rattle.pod_core.specs.History.{History};
 ghost use Rattle.token_table.specs.Credentials.{asked_view};
 ghost use Rattle.pod_pipe.specs.Agents.{asking_of};
 ghost use Rattle.pod_pipe.specs.Holders.{Goes};
 ghost use Rattle.pod_pipe.specs.Talks.{CountsWrites, MayStop};
-ghost use Rattle.pod_pipe.specs.Turns.{IsTurned, Writes, WritesBoth, noted_line};
+ghost use Rattle.pod_pipe.specs.Turns.{IsTurned, WritesBoth, noted_line};
 
 use crate::holder::{AnswerFault, PodHolder};
 use crate::options::PipeOptions;
 use crate::status::PipeEnd;
 use crate::taken::{Noted, Taken, line_of, take};
-use crate::write::{write_all, write_out};
+use crate::write::write_out;
 use http_out::{disk_text, memory_text};
+use line_sink::write_all;
 use pod_base::Request;
 use pod_io::{Clock, Sink};
 use std::alloc::Global;

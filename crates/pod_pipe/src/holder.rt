@@ -4,7 +4,8 @@ ghost use Rattle.pod_core.specs.History.{History, IsHistory};
 ghost use Rattle.reply_laws.specs.Granted.{is_change};
 ghost use Rattle.reply_laws.specs.Sent.{IsSent};
 ghost use Rattle.token_table.specs.Credentials.{asked_view};
-ghost use Rattle.pod_pipe.specs.Holders.{CountsDiskFaults, Faults, Goes, IsAnswerAtEnd, faults_in};
+ghost use Rattle.pod_pipe.specs.Holders.{CountsUnanswered, Faults, Goes, IsAnswerAtEnd, faults_in};
+ghost use Rattle.pod_pipe.specs.Holders.{starved_in};
 
 use pod_base::{Moment, Request, Response, Stamp};
 use std::alloc::Global;
@@ -36,7 +37,7 @@ pub trait PodHolder {
     /// Having stood for one history, it has come to stand for another: what that says of its disks.
     ghost follows: { Self → History → Self → History → Type 0 };
 
-    /// How many calls of its disks failed.
+    /// How many calls of its disks failed, and how many requests found no memory.
     ghost faults: { Self → Faults };
 
     /// Answers a request at the end of the history, at the stamp's moment; that of a change is no
@@ -45,8 +46,8 @@ pub trait PodHolder {
     ///
     /// # Errors
     ///
-    /// After both it stands for the history as before. `DiskFault` comes of a change alone, and
-    /// only where a count of faults increased.
+    /// After both it stands for the history as before, and each is counted. `DiskFault` comes of a
+    /// change alone, and only where a count of faults increased.
     fn answer(
         &mut self,
         alloc: Global,
@@ -66,7 +67,8 @@ pub trait PodHolder {
         ensures kept { OnErr result ((history : History) → stands self.old history
             → Goes stands follows self.old history self.new history) }
         ensures change { IsErrOf result AnswerFault.DiskFault → IsTrue (is_change request.now.method) }
-        ensures faults { CountsDiskFaults (faults_in result) (faults self.old) (faults self.new) };
+        ensures faults { CountsUnanswered (faults_in result) (starved_in result) (faults self.old)
+            (faults self.new) };
 
     /// Each history is one of a pod: the first pod is well-formed, and each entry applies.
     ghost legal: { (holder : Self) (history : History) → stands holder history

@@ -16,10 +16,14 @@
 //! the end, what was written begins that of a session (`session`); the trail has the lines of the
 //! items that were answered, and the last line tells of the end; nothing is read after the end of the
 //! input (`counts`); and a fault comes only where a count of the object that was handed in increased
-//! (`read_fault`, `write_fault`, and `faults` of what is left of the holder).
+//! (`read_fault`, `write_fault`, and `faults` of what is left of the holder). Where one agent makes
+//! all requests, the session is one over each history that ends alike for the agent (`isolated` of
+//! `Continues`), and so the bytes are those of each pod that the agent can't tell apart.
 //!
-//! It stands on `pod_core` for answers, histories, sessions and their output, on `http_conn` for
-//! messages, on `http_out` for bytes, on `token_table` for agents, and on `audit_trail` for lines.
+//! It stands on `pod_core` for answers, histories, sessions and their output, on `session_laws` for
+//! what follows of sessions, on `pod_pages` for the pod in memory, on `http_conn` for messages, on
+//! `http_out` for bytes and `line_sink` for writing them, on `token_table` for agents, and on
+//! `audit_trail` for lines.
 #![tactic(auto)]
 
 mod agents;

@@ -1,4 +1,4 @@
-//! [`MemoryPod`]: a pod in memory, and the moment of its last entry.
+//! [`MemoryPod`]: a pod in memory, in pages, and the moment of its last entry.
 ghost use Rattle.std.specs.Prelude.{◌≡◌, ◌+◌, max, if◌then◌else◌, length, IfOk, IfSome, OnOk};
 ghost use Rattle.std.specs.Prelude.{OnErr};
 ghost use Rattle.std.specs.Option.{option_map_or, option_to_list};
@@ -14,16 +14,19 @@ use crate::holder::{Answer, AnswerFault, PodHolder};
 use pod_base::{Mem, Moment, Request, Stamp};
 use pod_command::Entry;
 use pod_core::{Replied, answer, is_change};
-use pod_rows::{PlainRows, PodState};
+use pod_pages::Version;
+use pod_rows::PodState;
 use std::alloc::Global;
 use token_table::Asked;
 
 /// A pod in memory, and where its history ends. Its requests meet no disk.
 #[derive(Drop)]
 pub struct MemoryPod {
-    pub state: PlainRows,
+    pub state: Version,
     /// The moment of the last entry, 0 where there is none.
     pub last: Moment,
+    /// How many requests found no memory, at most 2^64 - 1.
+    pub starved: u64,
 }
 
 /// The moment of a request: that of a change is no earlier than that of the last entry.
@@ -47,6 +50,7 @@ impl MemoryPod {
             ≡ self.old.state.next + length (option_to_list entry)) }
         ensures last { OnOk result (self.new.last.0
             ≡ option_map_or seconds_of entry self.old.last.0) }
+        ensures starved { self.new.starved ≡ self.old.starved }
         ensures unchanged { OnErr result (self.new ≡ self.old) }
     {
         let Some(entry) = entry else {
@@ -70,6 +74,7 @@ impl MemoryPod {
             → memory_stands self.old history
             → IsAnswerAtEnd (Goes memory_stands nothing_follows self.old history self.new) history request.now (asked_view asked.now) stamp answer) }
         ensures sent { IfOk result (λ answer. IsSent answer.response) }
+        ensures starved { self.new.starved ≡ self.old.starved }
         ensures unchanged { OnErr result (self.new ≡ self.old) }
     {
         let place = self.state.next();
@@ -90,13 +95,13 @@ impl MemoryPod {
 }
 
 impl PodHolder for MemoryPod {
-    ghost use Rattle.pod_pipe.specs.Memory.{memory_stands, no_faults, nothing_follows};
+    ghost use Rattle.pod_pipe.specs.Memory.{memory_faults, memory_stands, nothing_follows};
 
     ghost stands = { memory_stands };
 
     ghost follows = { nothing_follows };
 
-    ghost faults = { λ _. no_faults };
+    ghost faults = { memory_faults };
 
     fn answer(
         &mut self,
@@ -107,7 +112,10 @@ impl PodHolder for MemoryPod {
     ) -> Result<Answer, AnswerFault> {
         match self.take(alloc, request, asked, stamp) {
             Ok(answer) => Ok(answer),
-            Err(_none) => Err(AnswerFault::NoMemory),
+            Err(_none) => {
+                self.starved = self.starved.saturating_add(1);
+                Err(AnswerFault::NoMemory)
+            }
         }
     }
 

@@ -4,8 +4,8 @@ ghost use Rattle.pod_base.specs.Counts.{CountIncreased};
 ghost use Rattle.pod_pipe.specs.Statuses.{ComesOf, Tells, end_line, status_of};
 
 use crate::status::PipeEnd;
-use crate::write::write_all;
 use itoa::Buffer;
+use line_sink::write_all;
 use pod_base::{Bytes, BytesBuilder, Mem};
 use pod_io::Sink;
 use std::alloc::Global;

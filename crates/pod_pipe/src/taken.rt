@@ -4,7 +4,7 @@ ghost use Rattle.pod_core.specs.History.{History};
 ghost use Rattle.pod_core.specs.Session.{IsClockMoment};
 ghost use Rattle.reply_laws.specs.Granted.{is_change};
 ghost use Rattle.token_table.specs.Credentials.{asked_view};
-ghost use Rattle.pod_pipe.specs.Holders.{CountsDiskFaults, Goes, faults_in};
+ghost use Rattle.pod_pipe.specs.Holders.{CountsUnanswered, Goes, faults_in, starved_in};
 ghost use Rattle.pod_pipe.specs.Turns.{IsTaken, noted_line};
 
 use crate::agents::shown_agent;
@@ -62,8 +62,8 @@ pub(crate) fn take<H: PodHolder, C: Clock>(
     ensures kept { OnErr result ((history : History) → H.stands holder.old history
         → Goes H.stands H.follows holder.old history holder.new history) }
     ensures change { IsErrOf result AnswerFault.DiskFault → IsTrue (is_change request.now.method) }
-    ensures faults { CountsDiskFaults (faults_in result) (H.faults holder.old)
-        (H.faults holder.new) }
+    ensures faults { CountsUnanswered (faults_in result) (starved_in result)
+        (H.faults holder.old) (H.faults holder.new) }
 {
     let moment = clock_moment(clock);
     let stamp = Stamp {

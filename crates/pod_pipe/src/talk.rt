@@ -4,6 +4,7 @@ ghost use Rattle.std.specs.Prelude.{IfOk, IfErr, OnOk, if◌then◌else◌};
 ghost use Rattle.std.specs.List.{AllByRecursion};
 ghost use Rattle.http_conn.specs.Messages.{NothingAfterEnd};
 ghost use Rattle.http_out.specs.Text.{interim_text};
+ghost use Rattle.line_sink.specs.Writing.{ExtendsBy, Writes};
 ghost use Rattle.pod_base.specs.declared.heard.Heard.TheVariants as hears;
 ghost use Rattle.pod_base.specs.Counts.{CountIncreased};
 ghost use Rattle.pod_core.specs.History.{History};
@@ -12,20 +13,21 @@ ghost use Rattle.pod_io.specs.Counts.{CountsFaults};
 ghost use Rattle.pod_pipe.specs.Agents.{asking_of};
 ghost use Rattle.pod_pipe.specs.Talks.{CountsWrites, IsOver, MayBeSent, IsSound, RefusedAs, Turns};
 ghost use Rattle.pod_pipe.specs.Talks.{TurnsIn};
-ghost use Rattle.pod_pipe.specs.Streams.{ExtendsBy};
-ghost use Rattle.pod_pipe.specs.Turns.{Writes, refusal_bytes};
+ghost use Rattle.pod_pipe.specs.Turns.{refusal_bytes};
 
 use crate::answering::answer_one;
 use crate::holder::PodHolder;
 use crate::options::PipeOptions;
 use crate::status::PipeEnd;
 use crate::taken::clock_moment;
-use crate::write::{write_all, write_out};
+use crate::write::write_out;
 use http_conn::REQUEST_LIMIT;
 use http_out::{Out, interim};
+use line_sink::write_all;
 use pod_base::{Heard, Mem, Request};
 use pod_core::{closes_after, refusal_of};
 use pod_io::{Clock, Sink};
+use session_laws::sessions_are_isolated;
 use std::alloc::Global;
 
 /// A connection that is answered: what holds its pod, and how many of its requests were answered.
@@ -114,6 +116,7 @@ impl<H: PodHolder> Talk<H> {
         ensures faults { CountsWrites result (K.faults output.old) (K.faults output.new)
             (E.faults errors.old) (E.faults errors.new) }
     {
+        sessions_are_isolated(clock);
         let number = self.number + 1;
         let last = closes_after(request, number);
         match answer_one(

@@ -5,7 +5,7 @@ use Rattle.http_conn.specs.Messages.{NothingAfterEnd}
 use Rattle.pod_pipe.specs.Agents.{asking_of}
 use Rattle.pod_pipe.specs.Served.{Leaves}
 use Rattle.pod_pipe.specs.Talks.{MayBeSent, TurnsIn}
-use Rattle.pod_pipe.proofs.ServingLemmas.{Serving, begins, end_reads, end_writes, read_fault, bounded, at_end, no_memory, ends, statuses, goes_on, ended, never_reads, counts_end, counts_heard}
+use Rattle.pod_pipe.proofs.ServingLemmas.{Serving, begins, end_reads, end_writes, read_fault, bounded, at_end, no_memory, ends, statuses, goes_on, ended, never_reads, counts_end, counts_heard, rose_in_one}
 use Rattle.pod_pipe.proofs.ReadsLemmas.{reads_more, reads_none, ended_at, some_read, met_end, met_no_end, one_more}
 use Rattle.pod_pipe.proofs.serve.serve.Goals as goal
 
@@ -86,6 +86,11 @@ pub returns-in-Err-clause-read_fault : goal.returns-in-Err-clause-read_fault
 returns-in-Err-clause-read_fault g c =
     let told = c.in-Err.ensures.turns in
     λ is. absurd (never_reads g.H.PodHolder.stands g.H.PodHolder.faults g.H.PodHolder.follows g.met.H.PodHolder.legal g.met.H.PodHolder.still g.met.H.PodHolder.joins (g.C.Clock.may_give c.args.clock.now) (asking_of c.args.options.now.agents) c.args.options.now.trail _ _ _ _ _ _ _ _ _ _ _ _ (c.reads.invariant.0 c.requires.stands.0 c.requires.stands.1) c.hear.new.self.holder c.hear.new.self.number c.as_slice.result.now told.0 told.1 c.in-Err.end told.4 is)
+
+pub returns-in-Err-clause-write_fault : goal.returns-in-Err-clause-write_fault
+returns-in-Err-clause-write_fault g c =
+    λ is. rose_in_one (g.K.Sink.faults c.args.output.now) (g.K.Sink.faults c.reads.output) (g.K.Sink.faults c.hear.new.output) (g.E.Sink.faults c.args.errors.now) (g.E.Sink.faults c.reads.errors) (g.E.Sink.faults c.hear.new.errors)
+    c.reads.invariant.2 c.reads.invariant.6 (c.in-Err.ensures.faults.failed (ap Err is))
 
 pub reads-preserved : goal.reads-preserved
 reads-preserved g c =

@@ -1,5 +1,5 @@
 use Rattle.std.proofs.Common.{take, refl, subst}
-use Rattle.pod_pipe.specs.Streams.{ExtendsBy}
+use Rattle.line_sink.specs.Writing.{ExtendsBy}
 use Rattle.pod_pipe.proofs.talk.refuse.Goals as goal
 
 -- all of the refusal was written

@@ -1,6 +1,6 @@
 use Rattle.std.proofs.Common.{◌≡◌, ◌++◌, length, take, drop, sym, subst, arith}
-use Rattle.pod_pipe.specs.Streams.{ExtendsBy}
-use Rattle.pod_pipe.proofs.TalksLemmas.{adds_more}
+use Rattle.line_sink.specs.Writing.{ExtendsBy}
+use Rattle.line_sink.proofs.Extending.{extends_more}
 use Rattle.pod_pipe.proofs.WritesLemmas.{given_is, still_whole, part_is, part_less}
 use Rattle.pod_pipe.proofs.write.write_out.Goals as goal
 
@@ -14,7 +14,7 @@ pieces-preserved g c =
       (
         i.0 ++ given,
         subst (λ left. (i.0 ++ given) ++ left ≡ c.args.out) (sym c.next-count.ensures.left) (still_whole i.0 given c.pieces.out (drop count c.pieces.out) c.args.out i.1 whole),
-        adds_more (g.K.Sink.taken c.args.output.now) (g.K.Sink.taken c.pieces.output) (g.K.Sink.taken c.write_all.new.output) i.0 given i.2 c.in-Ok.ensures.writes.whole,
+        extends_more (g.K.Sink.taken c.args.output.now) (g.K.Sink.taken c.pieces.output) (g.K.Sink.taken c.write_all.new.output) i.0 given i.2 c.in-Ok.ensures.writes.whole,
       ),
       omega (arith, c.pieces.invariant.1, c.in-Ok.ensures.faults.no_fewer),
     )
@@ -35,6 +35,6 @@ returns-in-Err-clause-writes g c =
         part_less i.0 given (drop count c.pieces.out) c.args.out part.0 (still_whole i.0 given c.pieces.out (drop count c.pieces.out) c.args.out i.1 whole) part.1,
         subst (λ text. ExtendsBy text (g.K.Sink.taken c.args.output.now) (g.K.Sink.taken c.write_all.new.output))
             (part_is i.0 given (drop count c.pieces.out) c.args.out part.0 (still_whole i.0 given c.pieces.out (drop count c.pieces.out) c.args.out i.1 whole))
-            (adds_more (g.K.Sink.taken c.args.output.now) (g.K.Sink.taken c.pieces.output) (g.K.Sink.taken c.write_all.new.output) i.0 (take part.0 given) i.2 part.2),
+            (extends_more (g.K.Sink.taken c.args.output.now) (g.K.Sink.taken c.pieces.output) (g.K.Sink.taken c.write_all.new.output) i.0 (take part.0 given) i.2 part.2),
       );
     }

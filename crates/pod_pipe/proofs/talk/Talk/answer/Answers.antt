@@ -19,7 +19,7 @@ returns-then-upgraded-clause-turns g c =
       told.4.whole.1,
       λ begun first before written trail t.
           ends_upgraded_so g.H.PodHolder.stands g.H.PodHolder.faults g.H.PodHolder.follows g.met.H.PodHolder.legal g.met.H.PodHolder.still g.met.H.PodHolder.joins (g.C.Clock.may_give c.args.clock.now) (asking_of c.args.options.now.agents) c.args.options.now.trail begun first c.args.self.now.holder c.args.self.now.number before written trail t
-          c.answer_one.new.holder c.args.request.now told.0 told.1 told.2 told.3 switched,
+          c.answer_one.new.holder c.args.request.now told.0 told.1 told.2 told.3 c.sessions_are_isolated.ensures.items switched,
     )
 
 -- the last request was answered
@@ -36,7 +36,7 @@ returns-then-last-clause-turns g c =
           subst (λ end. Ends g.H.PodHolder.stands g.H.PodHolder.faults g.H.PodHolder.follows (g.C.Clock.may_give c.args.clock.now) (asking_of c.args.options.now.agents) c.args.options.now.trail begun
           (Leaves g.H.PodHolder.stands g.H.PodHolder.faults g.H.PodHolder.follows begun first c.answer_one.new.holder) end (before ++ heard.Request c.args.request.now ∷ []) (written ++ told.0) (trail ++ told.1)) (sym c.end_behind.ensures)
           (ends_last g.H.PodHolder.stands g.H.PodHolder.faults g.H.PodHolder.follows g.met.H.PodHolder.legal g.met.H.PodHolder.still g.met.H.PodHolder.joins (g.C.Clock.may_give c.args.clock.now) (asking_of c.args.options.now.agents) c.args.options.now.trail begun first c.args.self.now.holder c.args.self.now.number before written trail t
-          c.answer_one.new.holder c.args.request.now told.0 told.1 told.2 told.3 plain last c.requires.sound.few),
+          c.answer_one.new.holder c.args.request.now told.0 told.1 told.2 told.3 c.sessions_are_isolated.ensures.items plain last c.requires.sound.few),
     )
 
 -- another was answered
@@ -51,7 +51,7 @@ returns-else-last-clause-turns g c =
       told.4.whole.1,
       λ begun first before written trail t.
           goes_on g.H.PodHolder.stands g.H.PodHolder.faults g.H.PodHolder.follows g.met.H.PodHolder.legal g.met.H.PodHolder.still g.met.H.PodHolder.joins (g.C.Clock.may_give c.args.clock.now) (asking_of c.args.options.now.agents) c.args.options.now.trail begun first c.args.self.now.holder c.args.self.now.number before written trail t
-          c.answer_one.new.holder c.args.request.now told.0 told.1 told.2 told.3 plain others,
+          c.answer_one.new.holder c.args.request.now told.0 told.1 told.2 told.3 c.sessions_are_isolated.ensures.items plain others,
     )
 
 pub returns-else-last-clause-sound : goal.returns-else-last-clause-sound
@@ -78,7 +78,7 @@ returns-in-Err-clause-turns g c =
       part.3,
       λ begun first before written trail t.
           stops_at g.H.PodHolder.stands g.H.PodHolder.faults g.H.PodHolder.follows g.met.H.PodHolder.legal g.met.H.PodHolder.still g.met.H.PodHolder.joins (g.C.Clock.may_give c.args.clock.now) (asking_of c.args.options.now.agents) c.args.options.now.trail begun first c.args.self.now.holder c.args.self.now.number before written trail t
-          c.answer_one.new.holder c.args.request.now told.0 told.1 told.2 told.3 c.in-Err.end part.0 part.1 c.in-Err.ensures.fails,
+          c.answer_one.new.holder c.args.request.now told.0 told.1 told.2 told.3 c.sessions_are_isolated.ensures.items c.in-Err.end part.0 part.1 c.in-Err.ensures.fails,
     )
 
 pub returns-in-Err-clause-over : goal.returns-in-Err-clause-over

@@ -3,7 +3,8 @@ use Rattle.std.specs.List.{AllByRecursion}
 use Rattle.http_conn.specs.Messages.{NothingAfterEnd}
 use Rattle.pod_pipe.specs.Agents.{asking_of}
 use Rattle.pod_pipe.specs.Talks.{MayBeSent}
-use Rattle.pod_pipe.proofs.TalksLemmas.{nothing_added, nothing_turned, adds_more, turns_behind, none_behind}
+use Rattle.line_sink.proofs.Extending.{extends_more, nothing_added}
+use Rattle.pod_pipe.proofs.TalksLemmas.{nothing_turned, turns_behind, none_behind}
 use Rattle.pod_pipe.proofs.HeardLemmas.{ends_next, none_left}
 use Rattle.pod_pipe.proofs.talk.Talk.hear.Goals as goal
 
@@ -40,8 +41,8 @@ returns-in-Err-clause-turns g c =
     let told = c.in-Err.ensures.turns in (
       i.0.2.0 ++ told.0,
       i.0.2.1 ++ told.1,
-      adds_more (g.K.Sink.taken c.args.output.now) (g.K.Sink.taken c.loop-one.output) (g.K.Sink.taken c.turn.new.output) i.0.2.0 told.0 i.0.2.2 told.2,
-      adds_more (g.E.Sink.taken c.args.errors.now) (g.E.Sink.taken c.loop-one.errors) (g.E.Sink.taken c.turn.new.errors) i.0.2.1 told.1 i.0.2.3 told.3,
+      extends_more (g.K.Sink.taken c.args.output.now) (g.K.Sink.taken c.loop-one.output) (g.K.Sink.taken c.turn.new.output) i.0.2.0 told.0 i.0.2.2 told.2,
+      extends_more (g.E.Sink.taken c.args.errors.now) (g.E.Sink.taken c.loop-one.errors) (g.E.Sink.taken c.turn.new.errors) i.0.2.1 told.1 i.0.2.3 told.3,
       record {
         front = done ++ one ∷ [];
         behind = more;
@@ -67,8 +68,8 @@ loop-one-preserved g c =
         (
           i.0.2.0 ++ told.0,
           i.0.2.1 ++ told.1,
-          adds_more (g.K.Sink.taken c.args.output.now) (g.K.Sink.taken c.loop-one.output) (g.K.Sink.taken c.turn.new.output) i.0.2.0 told.0 i.0.2.2 told.2,
-          adds_more (g.E.Sink.taken c.args.errors.now) (g.E.Sink.taken c.loop-one.errors) (g.E.Sink.taken c.turn.new.errors) i.0.2.1 told.1 i.0.2.3 told.3,
+          extends_more (g.K.Sink.taken c.args.output.now) (g.K.Sink.taken c.loop-one.output) (g.K.Sink.taken c.turn.new.output) i.0.2.0 told.0 i.0.2.2 told.2,
+          extends_more (g.E.Sink.taken c.args.errors.now) (g.E.Sink.taken c.loop-one.errors) (g.E.Sink.taken c.turn.new.errors) i.0.2.1 told.1 i.0.2.3 told.3,
           turns_behind g.H.PodHolder.stands g.H.PodHolder.faults g.H.PodHolder.follows g.met.H.PodHolder.legal g.met.H.PodHolder.still g.met.H.PodHolder.joins may_give (asking_of c.args.options.now.agents) c.args.options.now.trail c.args.self.now.holder c.loop-one.self.holder c.turn.new.self.holder
               c.args.self.now.number c.loop-one.self.number c.turn.new.self.number done (one ∷ []) i.0.2.0 told.0 i.0.2.1 told.1 (Ok tt) i.0.2.4 told.4,
         ),

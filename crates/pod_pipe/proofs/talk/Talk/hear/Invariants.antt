@@ -5,7 +5,7 @@ use Rattle.pod_base.specs.declared.heard.Heard.{Heard}
 use Rattle.pod_core.specs.History.{History}
 use Rattle.pod_pipe.specs.Agents.{asking_of}
 use Rattle.pod_pipe.specs.Talks.{MayBeSent, IsSound, Turns}
-use Rattle.pod_pipe.specs.Streams.{ExtendsBy}
+use Rattle.line_sink.specs.Writing.{ExtendsBy}
 use Rattle.pod_pipe.proofs.talk.Talk.hear.Given as goal
 
 -- what was looked at was answered, and the rest is still to come

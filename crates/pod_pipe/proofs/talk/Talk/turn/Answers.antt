@@ -1,9 +1,10 @@
 use Rattle.std.proofs.Common.{List, ℕ, [], ◌∷◌, ◌++◌, sym, subst}
-use Rattle.pod_pipe.proofs.TalksLemmas.{invited_turns, nothing_added, refused_ends}
+use Rattle.pod_pipe.proofs.TalksLemmas.{invited_turns, refused_ends}
+use Rattle.line_sink.proofs.Extending.{nothing_added}
 use Rattle.pod_pipe.specs.Agents.{asking_of}
 use Rattle.pod_pipe.specs.Served.{Leaves}
 use Rattle.pod_pipe.specs.Talks.{Ends, Turns}
-use Rattle.pod_pipe.specs.Streams.{ExtendsBy}
+use Rattle.line_sink.specs.Writing.{ExtendsBy}
 use Rattle.pod_pipe.proofs.talk.Talk.turn.Goals as goal
 
 pub returns-in-Interim-clause-turns : goal.returns-in-Interim-clause-turns

@@ -1,0 +1,5 @@
+pub mod SameKeys
+pub mod AlikeAfter
+pub mod PodsAtEnd
+pub mod AlikeItems
+pub mod AlikeSessions

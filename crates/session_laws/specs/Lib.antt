@@ -1,0 +1,2 @@
+-- one agent's session over two histories that the agent can't tell apart
+pub mod Isolated

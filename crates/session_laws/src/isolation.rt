@@ -1,0 +1,18 @@
+//! [`sessions_are_isolated`]: alike pods serve one agent's session alike. Its contract is a law,
+//! and it does nothing.
+ghost use Rattle.session_laws.specs.Isolated.{IsolatesItems, IsolatesSessions};
+
+use pod_io::Clock;
+
+/// A session of one agent over a history is one over each history that ends alike for the agent,
+/// with the same items and so with the same bytes, while what differs stays hidden from the agent.
+pub fn sessions_are_isolated<C: Clock>(clock: &C)
+    ensures sessions { IsolatesSessions (C.may_give clock.now) }
+
+    // The same of the items of a session, without what was heard.
+    ensures items { IsolatesItems (C.may_give clock.now) }
+{
+    let _clock = clock;
+    reply_laws::applies();
+    reply_laws::isolation_law();
+}
