@@ -1,10 +1,10 @@
 -- The lines of a journal's records.
-use Rattle.std.proofs.Common.{◌≡◌, ℕ, ◌+◌, ◌<◌, ◌≤◌, ◌==◌, if◌then◌else◌, Bool, true, false, List, [], ◌∷◌, ◌++◌, length, map, drop, slice_index_or, Option, Result, IsErr, refl, sym, ◌∙◌, ap, subst, append_assoc, append-nil, rules, arith}
+use Rattle.std.proofs.Common.{◌≡◌, ℕ, ◌+◌, ◌<◌, ◌≤◌, ◌==◌, if◌then◌else◌, Bool, true, false, List, [], ◌∷◌, ◌++◌, length, length-append, map, drop, slice_index_or, Option, Result, IsErr, refl, sym, ◌∙◌, ap, subst, append_assoc, append-nil, rules, arith}
 use Rattle.std.proofs.lemmas.List.{drop_more, drop_all}
 use Rattle.std.specs.List.{AllByRecursion, flat_map}
 use Rattle.audit_trail.specs.Lines.{entry_line}
-use Rattle.line_sink.specs.Writing.{ExtendsBy, Writes}
-use Rattle.line_sink.proofs.Extending.{HasPart, extends_more, nothing_added, part_after, part_before, writes_failed}
+use Rattle.line_sink.specs.Writing.{ExtendsBy, ExtendsByPart, Writes}
+use Rattle.line_sink.proofs.Extending.{extends_more, nothing_added, part_after, part_before, writes_failed}
 use Rattle.pod_command.specs.StoredForms.{entry_bytes, entry_1_bytes}
 use Rattle.pod_command.specs.declared.entry.Entry.{Entry}
 use Rattle.pod_records.specs.Readings.{IsEntryOf}
@@ -16,6 +16,13 @@ pub have_lines : (format : ℕ) (entries : List Entry) → AllByRecursion (IsEnt
 have_lines format [] all = refl
 have_lines format (entry ∷ entries) all =
     (entry_line entry, flat_map entry_line entries, (entry, (format, record { form = refl; stored = all.0 }), refl), have_lines format entries all.1, refl)
+
+-- a line isn't empty
+ends_some : (xs line : List ℕ) → line ≡ xs ++ 10 ∷ [] → 0 < length line
+ends_some xs line is = omega (arith, ap length is, length-append xs (10 ∷ []))
+
+pub has_some : (body line : List ℕ) → HasLine body line → 0 < length line
+has_some body line h = ends_some _ line h.2
 
 -- the first byte of an entry
 old_begins : (entry : Entry) → (rest : List ℕ) × (entry_1_bytes entry ≡ 1 ∷ rest)
@@ -75,7 +82,7 @@ module _ (records : List (List ℕ)) (i : ℕ) (item body : List ℕ) (within : 
     printed = extends_more old now new s.done here.0 s.printed (written here.0 here.2);
   }
 
-  pub split_fails : {T E : Type 0} (result : Result T E) (new : Option (List ℕ)) → IsErr result → ((line : List ℕ) → HasLine body line → HasPart line now new) → Writes result text old new
+  pub split_fails : {T E : Type 0} (result : Result T E) (new : Option (List ℕ)) → IsErr result → ((line : List ℕ) → HasLine body line → ExtendsByPart line now new) → Writes result text old new
   split_fails result new failed part =
       let more = part_after old now new s.done (here.0 ++ here.1) s.printed (part_before now new here.0 here.1 (part here.0 here.2)) in
-      writes_failed result old new text failed (subst (λ t. HasPart t old new) (sym (s.whole ∙ ap (λ r. s.done ++ r) here.4)) more)
+      writes_failed result old new text failed (subst (λ t. ExtendsByPart t old new) (sym (s.whole ∙ ap (λ r. s.done ++ r) here.4)) more)

@@ -3,15 +3,15 @@ use Rattle.std.proofs.Common.{◌≡◌, ◌⊎◌, inl, inr, ℕ, List, map, le
 use Rattle.std.proofs.lemmas.List.{length-map}
 use Rattle.journal_log.specs.declared.fault.OpenFault.{OpenFault}
 use Rattle.journal_log.specs.declared.fault.OpenFault.TheVariants as opening
-use Rattle.line_sink.specs.Writing.{AddsOrPart, Writes}
+use Rattle.line_sink.specs.Writing.{Writes}
 use Rattle.pod_base.specs.Counts.{CountIncreased}
 use Rattle.pod_command.specs.declared.entry.Entry.{Entry}
 use Rattle.pod_command.specs.declared.snapshot.Snapshot.{Snapshot}
-use Rattle.pod_io.specs.Counts.{CountsFaults}
 use Rattle.pod_live.specs.KeeperState.{KeeperState}
 use Rattle.pod_live.specs.OpenedPods.{IsOpened}
 use Rattle.pod_records.specs.OpenedStores.{HasPodCause}
 use Rattle.pod_records.specs.Records.{entry_text}
+use Rattle.store_lines.specs.Refusals.{TellsRefusal}
 use Rattle.store_commands.specs.Prints.{IsStoreOf, Prints, Tells}
 use Rattle.store_commands.specs.Records.{printed_end, refused_end}
 use Rattle.store_commands.specs.Ends.{IsMadeEnd}
@@ -21,10 +21,12 @@ use Rattle.store_commands.specs.declared.ends.StoreEnd.TheVariants as ends
 use Rattle.store_commands.specs.declared.printing.PrintFault.{PrintFault}
 use Rattle.store_commands.specs.declared.printing.PrintFault.TheVariants as printing
 
--- a line whose failure changes nothing
-pub told_or_part : {T E : Type 0} (result : Result T E) (line : List ℕ) (old new : Option (List ℕ)) (before after : ℕ) → Writes result line old new → CountsFaults result before after → AddsOrPart line old new before after
-told_or_part (Ok done) line old new before after w c = inl w.whole
-told_or_part (Err fault) line old new before after w c = inr (c.failed refl, w.part)
+-- what is told of it is what the command tells by its end
+pub refused_tells : (fault : OpenFault) (old new : Option (List ℕ)) (before after : ℕ) → TellsRefusal fault old new before after → Tells (refused_end fault) old new before after
+refused_tells opening.Empty old new before after told = told
+refused_tells (opening.Damaged side at) old new before after told = told
+refused_tells opening.DiskFault old new before after told = told
+refused_tells opening.NoMemory old new before after told = told
 
 -- a store that wasn't opened
 module _ (text : Snapshot → List Entry → List ℕ) (first second : Option (List ℕ)) (a a_new b b_new : ℕ) where
@@ -50,8 +52,8 @@ refused_write opening.NoMemory e = search (rules, e)
 module _ (text : Snapshot → List Entry → List ℕ) (first second old new : Option (List ℕ)) (snapshot : Snapshot) (entries : List Entry) (opened : IsStoreOf first second snapshot entries) where
   pub prints : (printed : Result (Unit {0}) PrintFault) → Writes printed (text snapshot entries) old new → Prints text first second old new (printed_end printed)
   prints (Ok done) w = record { snapshot = snapshot; entries = entries; opened = opened; printed = w.whole }
-  prints (Err printing.WriteFault) w = record { snapshot = snapshot; entries = entries; opened = opened; count = w.part.0; printed = w.part.1 }
-  prints (Err printing.NoMemory) w = inr (record { snapshot = snapshot; entries = entries; opened = opened; count = w.part.0; printed = w.part.1 })
+  prints (Err printing.WriteFault) w = record { snapshot = snapshot; entries = entries; opened = opened; count = w.part.0; printed = w.part.2 }
+  prints (Err printing.NoMemory) w = inr (record { snapshot = snapshot; entries = entries; opened = opened; count = w.part.0; printed = w.part.2 })
 
 pub printed_told : (printed : Result (Unit {0}) PrintFault) (old : Option (List ℕ)) (before after : ℕ) → Tells (printed_end printed) old old before after
 printed_told (Ok done) old before after = refl

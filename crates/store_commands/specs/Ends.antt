@@ -1,7 +1,7 @@
 -- How a command of a store ends.
-use Rattle.std.specs.Prelude.{ℕ, List, ◌++◌, codes, decimal}
-use Rattle.journal_log.specs.Sides.{side_text}
-use Rattle.journal_log.specs.declared.fault.Side.{Side}
+use Rattle.std.specs.Prelude.{ℕ}
+use Rattle.journal_log.specs.declared.fault.OpenFault.TheVariants as faulty
+use Rattle.store_lines.specs.Refusals.{open_status}
 use Rattle.store_commands.specs.declared.ends.StoreEnd.{StoreEnd}
 use Rattle.store_commands.specs.declared.ends.StoreEnd.TheVariants.{Done, WriteFault, Damaged}
 use Rattle.store_commands.specs.declared.ends.StoreEnd.TheVariants.{DiskFault, NoMemory, NotEmpty}
@@ -11,16 +11,11 @@ use Rattle.store_commands.specs.declared.ends.StoreEnd.TheVariants.{Empty}
 abbrev pub status_of : StoreEnd → ℕ
 status_of Done = 0
 status_of WriteFault = 4
-status_of (Damaged side at) = 5
-status_of DiskFault = 6
-status_of NoMemory = 7
+status_of (Damaged side at) = open_status (faulty.Damaged side at)
+status_of DiskFault = open_status faulty.DiskFault
+status_of NoMemory = open_status faulty.NoMemory
 status_of NotEmpty = 10
-status_of Empty = 10
-
--- the line of a damage, on the error sink
-abbrev pub damage_line : Side → ℕ → List ℕ
-damage_line side at =
-    codes "damaged " ++ side_text side ++ codes " " ++ decimal at ++ codes "\n"
+status_of Empty = open_status faulty.Empty
 
 -- the ends of `init`
 abbrev pub IsInitEnd : StoreEnd → Type 0

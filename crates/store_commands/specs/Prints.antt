@@ -8,7 +8,7 @@ use Rattle.pod_command.specs.declared.entry.Entry.{Entry}
 use Rattle.pod_command.specs.declared.snapshot.Snapshot.{Snapshot}
 use Rattle.pod_records.specs.PodStores.{IsPodDamaged}
 use Rattle.pod_records.specs.Records.{Holds}
-use Rattle.store_commands.specs.Ends.{damage_line}
+use Rattle.store_lines.specs.Refusals.{damage_line}
 use Rattle.store_commands.specs.declared.ends.StoreEnd.{StoreEnd}
 use Rattle.store_commands.specs.declared.ends.StoreEnd.TheVariants.{Done, WriteFault, Damaged}
 use Rattle.store_commands.specs.declared.ends.StoreEnd.TheVariants.{DiskFault, NoMemory, NotEmpty}
@@ -50,7 +50,7 @@ module _ (text : Snapshot → List Entry → List ℕ) (first second old new : O
   Prints NoMemory = (new ≡ old) ⊎ PrintsPart
   Prints NotEmpty = ⊥
 
--- What the error sink has: the line of a damage, or a prefix of it where its count increased; else
+-- What the error sink has: the line of a damage, or a part of it where its count increased; else
 -- nothing more.
 abbrev pub Tells : StoreEnd → Option (List ℕ) → Option (List ℕ) → ℕ → ℕ → Type 0
 Tells (Damaged side at) old new before after =

@@ -2,8 +2,9 @@
 ghost use Rattle.std.specs.Prelude.{◌≡◌};
 ghost use Rattle.store_commands.specs.Ends.{status_of};
 
-use journal_log::Side;
+use journal_log::{OpenFault, Side};
 use pod_disk::{Disk, Disks};
+use store_lines::open_status;
 
 /// How a command of a store ended.
 #[derive(Clone, Copy, Debug, PartialEq, Eq)]
@@ -32,11 +33,11 @@ impl StoreEnd {
         match self {
             StoreEnd::Done => 0,
             StoreEnd::WriteFault => 4,
-            StoreEnd::Damaged { side: _, at: _ } => 5,
-            StoreEnd::DiskFault => 6,
-            StoreEnd::NoMemory => 7,
+            StoreEnd::Damaged { side, at } => open_status(OpenFault::Damaged { side, at }),
+            StoreEnd::DiskFault => open_status(OpenFault::DiskFault),
+            StoreEnd::NoMemory => open_status(OpenFault::NoMemory),
             StoreEnd::NotEmpty => 10,
-            StoreEnd::Empty => 10,
+            StoreEnd::Empty => open_status(OpenFault::Empty),
         }
     }
 }

@@ -11,6 +11,7 @@ ghost use Rattle.pod_live.specs.CrashedPods.{StandsFor};
 ghost use Rattle.pod_live.specs.NewStores.{new_history};
 ghost use Rattle.pod_rows.specs.Base.{is_base};
 ghost use Rattle.store_commands.specs.Ends.{IsInitEnd, IsMadeEnd};
+ghost use Rattle.store_commands.specs.Making.{HoldsBytes};
 
 use crate::ends::StoreEnd;
 use iri_ref::Iri;
@@ -135,6 +136,12 @@ pub fn init<D: Disk>(
         → D.content disks.new.first ≡ D.content disks.old.first }
     ensures kept_second { (result ≡ StoreEnd.NotEmpty) ⊎ (result ≡ StoreEnd.NoMemory)
         → D.content disks.new.second ≡ D.content disks.old.second }
+
+    // A store that was there stays at each moment, whatever the end.
+    ensures stays { HoldsBytes (D.content disks.old.first) ⊎ HoldsBytes (D.content disks.old.second)
+        → LeavesPairs D.moment D.left_since disks.old.first disks.old.second
+        disks.new.first disks.new.second
+        (λ c d. D.image disks.old.first c × D.image disks.old.second d) }
 {
     match are_empty(disks) {
         Ok(empty) => {

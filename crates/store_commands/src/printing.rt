@@ -1,19 +1,16 @@
 //! What the commands that print of a store share: their ends, and the entries among its records.
 ghost use Rattle.std.specs.Prelude.{◌≡◌, ◌≤◌, ◌∷◌, List as ListOf, ℕ};
-ghost use Rattle.line_sink.specs.Writing.{Writes, AddsOrPart};
-ghost use Rattle.pod_io.specs.Counts.{CountsFaults};
-ghost use Rattle.store_commands.specs.Ends.{damage_line};
 ghost use Rattle.store_commands.specs.Prints.{Tells};
 ghost use Rattle.store_commands.specs.Records.{printed_end, refused_end};
 ghost use Rattle.store_commands.specs.declared.printing.PrintFault.TheVariants as faults;
 
 use crate::ends::{Ended, StoreEnd};
-use journal_log::{OpenFault, Side};
-use line_sink::write_number_line;
+use journal_log::OpenFault;
 use pod_base::{Bytes, NoMemory};
 use pod_disk::Disk;
 use pod_io::{Failed, Sink};
 use pod_live::{Keeper, NotOpened};
+use store_lines::tell_refusal;
 
 /// Why not all was printed.
 #[derive(Clone, Copy, Debug, PartialEq, Eq)]
@@ -73,26 +70,16 @@ pub(crate) fn finish<D: Disk>(keeper: Keeper<D>, printed: Result<(), PrintFault>
     }
 }
 
-/// Writes the line of a damage.
-fn write_damage<E: Sink>(errors: &mut E, side: Side, at: u64) -> Result<(), Failed>
-    ensures writes { Writes result (damage_line side at) (E.taken errors.old) (E.taken errors.new) }
-    ensures faults { CountsFaults result (E.faults errors.old) (E.faults errors.new) }
+/// The end of a command whose store wasn't opened.
+fn refused_end(fault: OpenFault) -> StoreEnd
+    ensures { result ≡ refused_end fault }
 {
-    match side {
-        Side::First => write_number_line(errors, b"damaged first ", at),
-        Side::Second => write_number_line(errors, b"damaged second ", at),
+    match fault {
+        OpenFault::Empty => StoreEnd::Empty,
+        OpenFault::Damaged { side, at } => StoreEnd::Damaged { side, at },
+        OpenFault::DiskFault => StoreEnd::DiskFault,
+        OpenFault::NoMemory => StoreEnd::NoMemory,
     }
-}
-
-/// Tells of a damage. A line that can't be written changes nothing.
-fn tell_damage<E: Sink>(errors: &mut E, side: Side, at: u64) -> StoreEnd
-    ensures end { result ≡ StoreEnd.Damaged side at }
-    ensures told { AddsOrPart (damage_line side at) (E.taken errors.old) (E.taken errors.new)
-        (E.faults errors.old) (E.faults errors.new) }
-    ensures tells { E.faults errors.old ≤ E.faults errors.new }
-{
-    let _told = write_damage(errors, side, at);
-    StoreEnd::Damaged { side, at }
 }
 
 /// The end of a command whose store wasn't opened, and its line where it is damaged.
@@ -102,12 +89,8 @@ fn tell_fault<E: Sink>(errors: &mut E, fault: OpenFault) -> StoreEnd
         (E.faults errors.old) (E.faults errors.new) }
     ensures tells { E.faults errors.old ≤ E.faults errors.new }
 {
-    match fault {
-        OpenFault::Empty => StoreEnd::Empty,
-        OpenFault::Damaged { side, at } => tell_damage(errors, side, at),
-        OpenFault::DiskFault => StoreEnd::DiskFault,
-        OpenFault::NoMemory => StoreEnd::NoMemory,
-    }
+    tell_refusal(errors, fault);
+    refused_end(fault)
 }
 
 /// Ends a command whose store wasn't opened.

@@ -1,5 +1,8 @@
 -- A run of a keeper that is served.
-use Rattle.std.proofs.Common.{◌≡◌, ◌⊎◌, inl, inr, ℕ, Bool, List, refl, arith}
+use Rattle.std.proofs.Common.{◌≡◌, ◌⊎◌, inr, ℕ, Bool, List, Option, refl, arith}
+use Rattle.journal_log.specs.declared.fault.OpenFault.{OpenFault}
+use Rattle.journal_log.specs.declared.fault.OpenFault.TheVariants as faulty
+use Rattle.pod_base.specs.Counts.{CountIncreased}
 use Rattle.pod_core.specs.History.{History}
 use Rattle.pod_core.specs.Session.{Item}
 use Rattle.pod_pipe.specs.Agents.{asking_of}
@@ -10,20 +13,22 @@ use Rattle.pod_pipe.specs.declared.agents.Agents.{Agents}
 use Rattle.pod_pipe.specs.declared.status.PipeEnd.{PipeEnd}
 use Rattle.pod_pipe.specs.declared.status.PipeEnd.TheVariants.{Peer, Cut, Closed, Limit, Upgraded, Bad, ReadFault, WriteFault, NoMemory, ReadLimit}
 use Rattle.pod_pipe.proofs.Weaker.{pipes_weaker, session_weaker}
+use Rattle.pod_records.specs.OpenedStores.{HasPodCause}
+use Rattle.store_lines.specs.Refusals.{open_status}
 use Rattle.store_pipe.specs.StoreRuns.{RunsKeeper, Streams, TokenSource}
-use Rattle.store_pipe.specs.StoredPods.{Passes, StandsFor, disk_faults}
+use Rattle.store_pipe.specs.StoredPods.{LeavesKeeper, Passes, StandsFor, stored_faults}
 use Rattle.store_pipe.specs.Tables.{IsAsked}
 use Rattle.store_pipe.specs.declared.stored.StoredPod.{StoredPod}
 
 module _ {D : Type 0} (image : D → List ℕ → Type 0) (moment : D → ℕ) (left_since : D → ℕ → List ℕ → Type 0) (faults : D → ℕ) (old new : StoredPod D) (history : History) where
   -- what is left of the holder of a connection
   abbrev pub LeavesHolder : List Item → Type 0
-  LeavesHolder = Leaves (λ (pod : StoredPod D) (h : History). StandsFor image pod.keeper h) (λ (pod : StoredPod D). disk_faults faults pod.keeper)
+  LeavesHolder = Leaves (λ (pod : StoredPod D) (h : History). StandsFor image pod.keeper h) (λ (pod : StoredPod D). stored_faults faults pod.keeper pod.starved)
       (λ (a : StoredPod D) (h : History) (b : StoredPod D) (i : History). Passes image moment left_since a.keeper h b.keeper i) history old new
 
   -- is what is left of its keeper
-  keeper_left : (items : List Item) → LeavesHolder items → Leaves (StandsFor image) (disk_faults faults) (Passes image moment left_since) history old.keeper new.keeper items
-  keeper_left items left = record { gone = left.gone; counted = left.counted }
+  keeper_left : (items : List Item) → LeavesHolder items → LeavesKeeper image moment left_since faults old.keeper new.keeper history items
+  keeper_left items left = record { gone = left.gone; counted = left.counted.disks }
 
 module _ {D : Type 0} (image : D → List ℕ → Type 0) (moment : D → ℕ) (left_since : D → ℕ → List ℕ → Type 0) (faults : D → ℕ) (may_give : ℕ → Type 0) (by_tokens trail : Bool) (old new : StoredPod D) (tokens : TokenSource) (streams : Streams) (status : ℕ) where
   pub runs_piped : (agents : Agents) (end : PipeEnd) → IsAsked by_tokens old.keeper.pod.owner agents tokens.old tokens.new → status ≡ status_of end
@@ -69,3 +74,10 @@ is_write_fault (Cut rest) is = absurd (omega (arith, is))
 is_write_fault (Bad status) is = absurd (omega (arith, is))
 is_write_fault ReadLimit is = absurd (omega (arith, is))
 is_write_fault ReadFault is = absurd (omega (arith, is))
+
+-- the one refusal of status 6 has its cause
+pub disk_refusal : (first second : Option (List ℕ)) (a a_new b b_new : ℕ) (fault : OpenFault) → open_status fault ≡ 6 → HasPodCause first second a a_new b b_new fault → CountIncreased a a_new ⊎ CountIncreased b b_new
+disk_refusal first second a a_new b b_new faulty.DiskFault is cause = cause
+disk_refusal first second a a_new b b_new faulty.Empty is cause = absurd (omega (arith, is))
+disk_refusal first second a a_new b b_new (faulty.Damaged side at) is cause = absurd (omega (arith, is))
+disk_refusal first second a a_new b b_new faulty.NoMemory is cause = absurd (omega (arith, is))

@@ -1,5 +1,5 @@
 -- One request of a keeper.
-use Rattle.std.proofs.Common.{◌≡◌, ◌⊎◌, inl, inr, ℕ, ◌+◌, ◌≤◌, Bool, true, false, ◌&&◌, if◌then◌else◌, is_some, max, IsTrue, List, [], ◌∷◌, Option, Some, None, refl, sym, ap, subst, ◌∙◌, arith}
+use Rattle.std.proofs.Common.{◌≡◌, ◌⊎◌, inl, inr, ℕ, ◌≤◌, Bool, true, false, ◌&&◌, if◌then◌else◌, is_some, max, IsTrue, List, [], ◌∷◌, Option, Some, None, refl, sym, ap, subst, ◌∙◌, arith}
 use Rattle.std.specs.Option.{option_to_list}
 use Rattle.pair_writes.specs.Doubts.{IsSure, IsLong}
 use Rattle.pod_base.specs.Counts.{CountIncreased}
@@ -10,20 +10,21 @@ use Rattle.pod_command.specs.declared.entry.Entry.{Entry}
 use Rattle.pod_core.specs.History.{History, end_of, longer, moment_before, pod_at}
 use Rattle.pod_core.specs.Answers.{IsComplete}
 use Rattle.pod_live.proofs.Stamps.{later_at_end}
-use Rattle.pod_live.specs.Commits.{FollowsReply, IsCommitted, IsCommitFaulted, LeavesPods, later, stamp_at_end}
+use Rattle.pod_core.specs.KeeperSteps.{stamp_at_end}
+use Rattle.pod_live.specs.Commits.{FollowsReply, IsCommitted, IsCommitFaulted, LeavesPods, later}
 use Rattle.pod_live.specs.Kept.{Doubt, certain, IsKept}
 use Rattle.pod_live.specs.KeeperState.{KeeperState, IsCheckpointDue}
 use Rattle.pod_reply.specs.Reply.{IsReply}
 use Rattle.pod_records.specs.Records.{last_after}
-use Rattle.pod_reply.specs.Replies.{Reply, reply_of}
+use Rattle.pod_reply.specs.Replies.{reply_of}
 use Rattle.pod_reply.specs.declared.replied.Replied.{Replied}
 use Rattle.pod_rows.specs.Pod.{Pod}
 use Rattle.reply_laws.specs.Granted.{is_change}
 use Rattle.token_table.specs.Credentials.{AskedAgent}
-use Rattle.pod_pipe.specs.Holders.{CountsDiskFaults, Faults, Goes, IsAnswerAtEnd, moment_of_request, stamp_of_request}
-use Rattle.pod_pipe.proofs.ProgressLemmas.{same_history}
+use Rattle.pod_pipe.specs.Holders.{CountsDiskFaults, Goes, IsAnswerAtEnd, moment_of_request, stamp_of_request}
+use Rattle.session_laws.proofs.PodsAtEnd.{same_history}
 use Rattle.pod_pipe.specs.declared.holder.Answer.{Answer}
-use Rattle.store_pipe.specs.StoredPods.{ByCommits, Commits, Passes, StandsFor, disk_faults}
+use Rattle.store_pipe.specs.StoredPods.{Passes, StandsFor}
 use Rattle.store_pipe.specs.StoredLaws.{no_commits}
 
 -- the moment of a change there

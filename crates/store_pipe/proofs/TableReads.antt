@@ -1,7 +1,6 @@
 -- The reading of a token table.
-use Rattle.std.proofs.Common.{◌≡◌, ◌⊎◌, ℕ, Bool, true, false, List, [], Option, Some, None, refl, sym, subst}
+use Rattle.std.proofs.Common.{◌≡◌, ℕ, Bool, true, false, List, [], Option, Some, None, refl, sym, subst}
 use Rattle.pod_pipe.specs.Streams.{Reads}
-use Rattle.pod_pipe.specs.declared.agents.Agents.{Agents}
 use Rattle.pod_pipe.specs.declared.agents.Agents.TheVariants.{Owner, Table}
 use Rattle.token_table.specs.TableLines.{lines_of}
 use Rattle.token_table.specs.declared.table_line.TokenEntry.{TokenEntry}

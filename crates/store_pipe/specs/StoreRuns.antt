@@ -1,39 +1,23 @@
 -- How `pipe` over a store runs: the store is opened, then agents are known, then it is served.
-use Rattle.std.specs.Prelude.{◌≡◌, ◌⊎◌, ℕ, Bool, List, [], ◌++◌, Option, codes, decimal}
+use Rattle.std.specs.Prelude.{◌≡◌, ◌⊎◌, ℕ, Bool, List, [], Option}
 use Rattle.journal_log.specs.declared.fault.OpenFault.{OpenFault}
-use Rattle.journal_log.specs.declared.fault.OpenFault.TheVariants as faulty
-use Rattle.journal_log.specs.declared.fault.Side.TheVariants.{First, Second}
 use Rattle.pair_writes.specs.Doubts.{IsSure}
 use Rattle.pod_core.specs.History.{History}
-use Rattle.pod_core.specs.Session.{Item}
 use Rattle.pod_live.specs.KeeperState.{KeeperState}
 use Rattle.pod_live.specs.OpenedPods.{IsOpened, OpensDisks}
-use Rattle.pod_live.specs.Stored.{history_of}
 use Rattle.pod_pipe.specs.Agents.{asking_of}
-use Rattle.pod_pipe.specs.Served.{Leaves, WritesSession}
-use Rattle.line_sink.specs.Writing.{AddsOrPart, number_line}
+use Rattle.pod_pipe.specs.Served.{WritesSession}
+use Rattle.line_sink.specs.Writing.{AddsOrPart}
 use Rattle.pod_pipe.specs.Statuses.{PipesAndTells, status_of}
 use Rattle.pod_pipe.specs.Streams.{CountsInput}
 use Rattle.pod_pipe.specs.declared.agents.Agents.{Agents}
 use Rattle.pod_pipe.specs.declared.status.PipeEnd.{PipeEnd}
 use Rattle.pod_records.specs.OpenedStores.{HasPodCause}
-use Rattle.store_pipe.specs.StoredPods.{Passes, StandsFor, disk_faults}
+use Rattle.store_lines.specs.Refusals.{TellsRefusal, open_status}
+use Rattle.store_pipe.specs.StoredPods.{LeavesKeeper, StandsFor}
 use Rattle.store_pipe.specs.Tables.{HasTableCause, IsAsked, table_line, table_status}
 use Rattle.store_pipe.specs.declared.tokens.TableFault.{TableFault}
 use Rattle.store_pipe.specs.declared.tokens.TableFault.TheVariants.{Line}
-
--- the status of a store that isn't opened
-abbrev pub open_status : OpenFault → ℕ
-open_status faulty.Empty = 10
-open_status (faulty.Damaged side at) = 5
-open_status faulty.DiskFault = 6
-open_status faulty.NoMemory = 7
-
--- the line of a damage; of another refusal there is none
-abbrev pub damage_line : OpenFault → List ℕ
-damage_line (faulty.Damaged First at) = number_line (codes "damaged first ") at
-damage_line (faulty.Damaged Second at) = number_line (codes "damaged second ") at
-damage_line _ = []
 
 -- the line of a faulty line of the token table; of another refusal there is none
 abbrev pub fault_line : TableFault → List ℕ
@@ -78,13 +62,6 @@ pub record TokenSource : Type 0 where
 module _ {D : Type 0} (image : D → List ℕ → Type 0) (moment : D → ℕ)
     (left_since : D → ℕ → List ℕ → Type 0) (faults : D → ℕ) (may_give : ℕ → Type 0)
     (by_tokens trail : Bool) where
-  -- What is left of the keeper: it has gone on to the history with the items' entries, by commits of
-  -- which each leaves the history before it or after it at each moment; and the items that met a disk
-  -- fault were counted.
-  abbrev pub LeavesKeeper : KeeperState D → KeeperState D → History → List Item → Type 0
-  LeavesKeeper old new history = Leaves (StandsFor image) (disk_faults faults)
-      (Passes image moment left_since) history old new
-
   -- There was no token table. Nothing was served, and the keeper is as it was.
   pub record IsUntabled (keeper left : KeeperState D) (tokens : TokenSource) (streams : Streams)
       (status : ℕ) : Type 0 where
@@ -106,12 +83,12 @@ module _ {D : Type 0} (image : D → List ℕ → Type 0) (moment : D → ℕ)
     pub status_is : status ≡ status_of end
     pub pipes : (history : History) → StandsFor image keeper history
         → PipesAndTells may_give (asking_of agents) trail history
-        (LeavesKeeper keeper left history) end
+        (LeavesKeeper image moment left_since faults keeper left history) end
         streams.old_input streams.new_input streams.old_output streams.new_output
         streams.old_errors streams.new_errors streams.old_faults streams.new_faults
     pub session : (history : History) → StandsFor image keeper history
         → WritesSession may_give (asking_of agents) trail history
-        (LeavesKeeper keeper left history)
+        (LeavesKeeper image moment left_since faults keeper left history)
         streams.old_input streams.new_input streams.old_output streams.new_output
     pub counts : CountsInput end streams.old_reads streams.new_reads streams.old_ends
         streams.new_ends
@@ -129,8 +106,9 @@ module _ {D : Type 0} (image : D → List ℕ → Type 0) (moment : D → ℕ)
       pub cause : HasPodCause (content first) (content second) (faults first) (faults first_new)
           (faults second) (faults second_new) fault
       pub disks : OpensDisks image moment left_since faults first second first_new second_new
-      pub tells : TellsLine (damage_line fault) (open_status fault) status streams.old_errors
-          streams.new_errors streams.old_faults streams.new_faults
+      pub status_is : status ≡ open_status fault
+      pub tells : TellsRefusal fault streams.old_errors streams.new_errors streams.old_faults
+          streams.new_faults
 
     -- It was opened as this keeper, and its disks are those that are left.
     pub record IsRun (tokens : TokenSource) (streams : Streams) (status : ℕ) : Type 0 where

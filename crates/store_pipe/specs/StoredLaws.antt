@@ -1,5 +1,5 @@
 -- Laws of the pods of stores.
-use Rattle.std.specs.Prelude.{◌≡◌, ℕ, List, [], ◌∷◌, ◌++◌, refl}
+use Rattle.std.specs.Prelude.{ℕ, List, [], ◌∷◌, ◌++◌, refl}
 use Rattle.std.proofs.Common.{subst}
 use Rattle.pod_core.specs.History.{History, IsHistory}
 use Rattle.pod_live.specs.KeeperState.{KeeperState}

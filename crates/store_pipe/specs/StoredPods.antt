@@ -1,15 +1,17 @@
 -- A connection's pod over the two disks of a store.
 use Rattle.std.specs.Prelude.{◌≡◌, ℕ, List, [], ◌∷◌}
-use Rattle.journal_pair.specs.PairMoments.{LeavesPairs}
 use Rattle.pair_writes.specs.Doubts.{IsSure, IsLong}
 use Rattle.pod_base.specs.declared.moment.Stamp.{Stamp}
 use Rattle.pod_base.specs.declared.request.Request.{Request}
 use Rattle.pod_command.specs.declared.entry.Entry.{Entry}
 use Rattle.pod_core.specs.History.{History, longer}
+use Rattle.pod_core.specs.Session.{Item}
 use Rattle.pod_live.specs.Commits.{LeavesPods}
 use Rattle.pod_live.specs.Kept.{Doubt, IsKept}
 use Rattle.pod_live.specs.KeeperState.{KeeperState, IsCheckpointDue}
-use Rattle.pod_pipe.specs.Holders.{Faults}
+use Rattle.pod_pipe.specs.Holders.{CountsDiskFaults, DiskFaults, Faults, Goes}
+use Rattle.pod_pipe.specs.Served as served
+use Rattle.session_laws.specs.Isolated.{grown}
 use Rattle.token_table.specs.Credentials.{AskedAgent}
 
 -- The keeper stands for the history: its active journal holds it from this place on.
@@ -19,8 +21,13 @@ pub record StandsFor {D : Type 0} (image : D → List ℕ → Type 0) (keeper : 
   pub doubt : Doubt
   pub kept : IsKept image keeper history place doubt
 
-abbrev pub disk_faults : {D : Type 0} → (D → ℕ) → KeeperState D → Faults
+abbrev pub disk_faults : {D : Type 0} → (D → ℕ) → KeeperState D → DiskFaults
 disk_faults faults keeper = record { first = faults keeper.first; second = faults keeper.second }
+
+-- what is counted over a keeper: the faults of its disks, and the requests that found no memory
+abbrev pub stored_faults : {D : Type 0} → (D → ℕ) → KeeperState D → ℕ → Faults
+stored_faults faults keeper starved =
+    record { disks = disk_faults faults keeper; starved = starved }
 
 module _ {D : Type 0} (image : D → List ℕ → Type 0) (moment : D → ℕ)
     (left_since : D → ℕ → List ℕ → Type 0) where
@@ -57,3 +64,11 @@ module _ {D : Type 0} (image : D → List ℕ → Type 0) (moment : D → ℕ)
       (more : History) : Type 0 where
     pub steps : List (KeeperState D × History)
     pub by : ByCommits old history steps new more
+
+  -- What is left of a keeper that stood for the history: it has gone on to the history with the
+  -- items' entries, by such commits, and each item that met a disk fault was counted.
+  pub record LeavesKeeper (faults : D → ℕ) (old new : KeeperState D) (history : History)
+      (items : List Item) : Type 0 where
+    pub gone : Goes (StandsFor image) Passes old history new (grown history items)
+    pub counted : CountsDiskFaults (served.disk_faults items) (disk_faults faults old)
+        (disk_faults faults new)

@@ -1,6 +1,6 @@
 -- The token table, as a run reads it.
-use Rattle.std.specs.Prelude.{◌≡◌, ℕ, ◌+◌, ◌-◌, ◌^◌, ◌<◌, ◌≤◌, Bool, true, false, List, ◌++◌, codes}
-use Rattle.std.specs.Prelude.{decimal, Option}
+use Rattle.std.specs.Prelude.{◌≡◌, ℕ, ◌+◌, ◌-◌, ◌^◌, ◌<◌, ◌≤◌, Bool, true, false, List, codes}
+use Rattle.std.specs.Prelude.{Option}
 use Rattle.pod_base.specs.Counts.{CountIncreased}
 use Rattle.line_sink.specs.Writing.{number_line}
 use Rattle.pod_pipe.specs.Streams.{AtEnd, Reads}

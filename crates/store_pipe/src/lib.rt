@@ -16,7 +16,7 @@
 //! count increased (`read_fault`, `write_fault`), and the disks are put back (`place`).
 //!
 //! It stands on `pod_live` for the store, on `pod_pipe` for the connection, on `token_table` for
-//! agents, and on `line_sink` for lines.
+//! agents, and on `store_lines` and `line_sink` for lines.
 #![tactic(auto)]
 
 mod lines;

@@ -1,14 +1,27 @@
 //! Lines that tell why nothing was served.
-ghost use Rattle.std.specs.Prelude.{◌≤◌};
+ghost use Rattle.std.specs.Prelude.{◌≡◌, ◌≤◌};
 ghost use Rattle.line_sink.specs.Writing.{number_line};
-ghost use Rattle.store_pipe.specs.StoreRuns.{TellsLine, damage_line, fault_line, open_status};
+ghost use Rattle.store_lines.specs.Refusals.{TellsRefusal, open_status};
+ghost use Rattle.store_pipe.specs.StoreRuns.{TellsLine, fault_line};
 ghost use Rattle.store_pipe.specs.Tables.{table_status};
 
 use crate::tokens::TableFault;
-use journal_log::{OpenFault, Side};
+use journal_log::OpenFault;
 use line_sink::write_number_line;
 use pod_io::Sink;
 use pod_pipe::Status;
+use store_lines::{open_status, tell_refusal};
+
+/// Tells why a store isn't opened, and gives the status.
+pub(crate) fn refuse<E: Sink>(fault: OpenFault, errors: &mut E) -> Status
+    ensures status { result.0 ≡ open_status fault }
+    ensures told { TellsRefusal fault (E.taken errors.old) (E.taken errors.new)
+        (E.faults errors.old) (E.faults errors.new) }
+    ensures no_fewer { E.faults errors.old ≤ E.faults errors.new }
+{
+    tell_refusal(errors, fault);
+    Status(open_status(fault))
+}
 
 /// Tells a word and a number, as a line, and gives the status. A line that isn't written changes
 /// nothing.
@@ -20,32 +33,6 @@ fn tell<E: Sink>(word: &[u8], number: u64, status: u8, errors: &mut E) -> Status
     match write_number_line(errors, word, number) {
         Ok(()) => Status(status),
         Err(_failed) => Status(status),
-    }
-}
-
-/// Tells of a damage at this offset.
-fn tell_damage<E: Sink>(side: Side, at: u64, errors: &mut E) -> Status
-    ensures told { TellsLine (damage_line (OpenFault.Damaged side at)) 5 result.0
-        (E.taken errors.old) (E.taken errors.new) (E.faults errors.old) (E.faults errors.new) }
-    ensures no_fewer { E.faults errors.old ≤ E.faults errors.new }
-{
-    match side {
-        Side::First => tell(b"damaged first ", at, 5, errors),
-        Side::Second => tell(b"damaged second ", at, 5, errors),
-    }
-}
-
-/// Tells why a store isn't opened.
-pub(crate) fn tell_refusal<E: Sink>(fault: OpenFault, errors: &mut E) -> Status
-    ensures told { TellsLine (damage_line fault) (open_status fault) result.0 (E.taken errors.old)
-        (E.taken errors.new) (E.faults errors.old) (E.faults errors.new) }
-    ensures no_fewer { E.faults errors.old ≤ E.faults errors.new }
-{
-    match fault {
-        OpenFault::Empty => Status(10),
-        OpenFault::Damaged { side, at } => tell_damage(side, at, errors),
-        OpenFault::DiskFault => Status(6),
-        OpenFault::NoMemory => Status(7),
     }
 }
 

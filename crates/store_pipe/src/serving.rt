@@ -6,7 +6,7 @@ ghost use Rattle.store_pipe.specs.StoredPods.{StandsFor};
 ghost use Rattle.store_pipe.specs.StoreRuns.{RunsKeeper, RunsStore};
 ghost use Rattle.store_pipe.specs.Tables.{HasTableCause, IsAsked};
 
-use crate::lines::{tell_refusal, tell_table};
+use crate::lines::{refuse, tell_table};
 use crate::stored::StoredPod;
 use crate::tokens::{TableFault, read_table};
 use pod_base::{Mem, NoMemory, Text};
@@ -87,17 +87,21 @@ fn pipe_keeper<D: Disk, T: Source, S: Source, K: Sink, E: Sink, C: Clock>(
           new_ends = S.ends input.new;
         }) result.0.0 }
     ensures not_words { result.0.0 ≢ 2 }
+    ensures no_refusal { result.0.0 ≢ 6 }
     ensures read_fault { result.0.0 ≡ 3
         → CountIncreased (S.faults input.old) (S.faults input.new)
         ⊎ CountIncreased (T.faults tokens.old) (T.faults tokens.new) }
     ensures write_fault { result.0.0 ≡ 4
         → CountIncreased (K.faults output.old) (K.faults output.new)
         ⊎ CountIncreased (E.faults errors.old) (E.faults errors.new) }
+    ensures faults { S.faults input.old ≤ S.faults input.new }
+    ensures writes { K.faults output.old ≤ K.faults output.new }
+    ensures tells { E.faults errors.old ≤ E.faults errors.new }
 {
     match agents_of(alloc, by_tokens, &keeper, tokens) {
         Ok(agents) => {
             let options = PipeOptions { agents, trail };
-            let pod = StoredPod { keeper };
+            let pod = StoredPod { keeper, starved: 0 };
             let piped = pipe(alloc, pod, &options, input, output, errors, clock);
             let Piped { end, holder } = piped;
             (end.status(), holder.keeper)
@@ -147,6 +151,12 @@ fn run_store<D: Disk, T: Source, S: Source, K: Sink, E: Sink, C: Clock>(
     ensures write_fault { result.0.0 ≡ 4
         → CountIncreased (K.faults output.old) (K.faults output.new)
         ⊎ CountIncreased (E.faults errors.old) (E.faults errors.new) }
+    ensures disk_fault { result.0.0 ≡ 6
+        → CountIncreased (D.faults disks.first) (D.faults result.1.first)
+        ⊎ CountIncreased (D.faults disks.second) (D.faults result.1.second) }
+    ensures faults { S.faults input.old ≤ S.faults input.new }
+    ensures writes { K.faults output.old ≤ K.faults output.new }
+    ensures tells { E.faults errors.old ≤ E.faults errors.new }
 {
     match Keeper::open(alloc, disks) {
         Ok(keeper) => {
@@ -157,7 +167,7 @@ fn run_store<D: Disk, T: Source, S: Source, K: Sink, E: Sink, C: Clock>(
         }
         Err(refused) => {
             let NotOpened { fault, disks } = refused;
-            (tell_refusal(fault, errors), disks)
+            (refuse(fault, errors), disks)
         }
     }
 }
@@ -206,6 +216,13 @@ pub fn pipe_store<D: Disk, T: Source, S: Source, K: Sink, E: Sink, C: Clock>(
     ensures write_fault { result.0 ≡ 4
         → CountIncreased (K.faults output.old) (K.faults output.new)
         ⊎ CountIncreased (E.faults errors.old) (E.faults errors.new) }
+    ensures disk_fault { result.0 ≡ 6
+        → IfSome place.old.disks (λ old. IfSome place.new.disks (λ new.
+        CountIncreased (D.faults old.first) (D.faults new.first)
+        ⊎ CountIncreased (D.faults old.second) (D.faults new.second))) }
+    ensures faults { S.faults input.old ≤ S.faults input.new }
+    ensures writes { K.faults output.old ≤ K.faults output.new }
+    ensures tells { E.faults errors.old ≤ E.faults errors.new }
 {
     let Some(disks) = place.disks.take() else {
         unreachable!()

@@ -19,6 +19,8 @@ use token_table::Asked;
 #[derive(Drop)]
 pub(crate) struct StoredPod<D: Disk> {
     pub keeper: Keeper<D>,
+    /// How many requests found no memory, at most 2^64 - 1.
+    pub starved: u64,
 }
 
 impl<D: Disk> StoredPod<D> {
@@ -76,6 +78,7 @@ impl<D: Disk> StoredPod<D> {
             history self.new.keeper history) }
         ensures faults { CountsDiskFaults (faults_in result) (disk_faults D.faults self.old.keeper)
             (disk_faults D.faults self.new.keeper) }
+        ensures starved { self.new.starved ≡ self.old.starved }
     {
         let moment = self.change_moment(stamp.moment);
         match self.keeper.commit(alloc, request, asked, stamp) {
@@ -91,10 +94,45 @@ impl<D: Disk> StoredPod<D> {
             Err(CommitFault::DiskFault) => Err(AnswerFault::DiskFault),
         }
     }
+
+    /// Answers a request.
+    fn serve(
+        &mut self,
+        alloc: Global,
+        request: &Request,
+        asked: &Asked<'_>,
+        stamp: Stamp,
+    ) -> Result<Answer, AnswerFault>
+        requires { (history : History) × StandsFor D.image self.old.keeper history }
+        ensures answered { IfOk result (λ answer. (history : History)
+            → StandsFor D.image self.old.keeper history
+            → IsAnswerAtEnd (Goes (StandsFor D.image) (Passes D.image D.moment D.left_since)
+            self.old.keeper history self.new.keeper) history request.now (asked_view asked.now)
+            stamp answer) }
+        ensures sent { IfOk result (λ answer. IsSent answer.response) }
+        ensures kept { OnErr result ((history : History)
+            → StandsFor D.image self.old.keeper history
+            → Goes (StandsFor D.image) (Passes D.image D.moment D.left_since) self.old.keeper
+            history self.new.keeper history) }
+        ensures change { IsErrOf result AnswerFault.DiskFault
+            → IsTrue (is_change request.now.method) }
+        ensures faults { CountsDiskFaults (faults_in result) (disk_faults D.faults self.old.keeper)
+            (disk_faults D.faults self.new.keeper) }
+        ensures starved { self.new.starved ≡ self.old.starved }
+    {
+        if is_change(request.method) {
+            self.change(alloc, request, asked, stamp)
+        } else {
+            match self.read(alloc, request, asked, stamp) {
+                Ok(answer) => Ok(answer),
+                Err(_none) => Err(AnswerFault::NoMemory),
+            }
+        }
+    }
 }
 
 impl<D: Disk> PodHolder for StoredPod<D> {
-    ghost use Rattle.store_pipe.specs.StoredPods.{Passes, StandsFor, disk_faults};
+    ghost use Rattle.store_pipe.specs.StoredPods.{Passes, StandsFor, stored_faults};
     ghost use Rattle.store_pipe.specs.StoredLaws.{kept_history, no_commits, joined};
 
     ghost stands = { λ pod history. StandsFor D.image pod.keeper history };
@@ -102,7 +140,7 @@ impl<D: Disk> PodHolder for StoredPod<D> {
     ghost follows = { λ old history new more.
         Passes D.image D.moment D.left_since old.keeper history new.keeper more };
 
-    ghost faults = { λ pod. disk_faults D.faults pod.keeper };
+    ghost faults = { λ pod. stored_faults D.faults pod.keeper pod.starved };
 
     fn answer(
         &mut self,
@@ -111,13 +149,13 @@ impl<D: Disk> PodHolder for StoredPod<D> {
         asked: &Asked<'_>,
         stamp: Stamp,
     ) -> Result<Answer, AnswerFault> {
-        if is_change(request.method) {
-            self.change(alloc, request, asked, stamp)
-        } else {
-            match self.read(alloc, request, asked, stamp) {
-                Ok(answer) => Ok(answer),
-                Err(_none) => Err(AnswerFault::NoMemory),
+        match self.serve(alloc, request, asked, stamp) {
+            Ok(answer) => Ok(answer),
+            Err(AnswerFault::NoMemory) => {
+                self.starved = self.starved.saturating_add(1);
+                Err(AnswerFault::NoMemory)
             }
+            Err(AnswerFault::DiskFault) => Err(AnswerFault::DiskFault),
         }
     }
 

@@ -1,4 +1,4 @@
-use Rattle.std.proofs.Common.{subst}
+use Rattle.std.proofs.Common.{arith, subst, ap, length, ⊎_elim}
 use Rattle.store_commands.proofs.Printed.{is_memory}
 use Rattle.store_commands.proofs.making.init.Goals as goal
 
@@ -11,3 +11,17 @@ returns-then-empty-clause-left g c = λ ended a b left left_2.
 
 pub returns-else-empty-clause-not_empty : goal.returns-else-empty-clause-not_empty
 returns-else-empty-clause-not_empty g c = λ _. c.in-Ok.ensures.no c.if-empty.false
+
+pub returns-then-empty-clause-stays : goal.returns-then-empty-clause-stays
+returns-then-empty-clause-stays g c =
+    ⊎_elim
+    (λ held. absurd (omega (
+      arith,
+      held.some,
+      ap length (c.in-Ok.ensures.first c.if-empty.true held.bytes held.shown),
+    )))
+    (λ held. absurd (omega (
+      arith,
+      held.some,
+      ap length (c.in-Ok.ensures.second c.if-empty.true held.bytes held.shown),
+    )))

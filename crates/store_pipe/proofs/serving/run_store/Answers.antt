@@ -1,4 +1,5 @@
 use Rattle.std.proofs.Common.{inr}
+use Rattle.store_pipe.proofs.RunLemmas.{disk_refusal}
 use Rattle.store_pipe.proofs.serving.run_store.Goals as goal
 
 pub returns-in-Ok-clause-runs : goal.returns-in-Ok-clause-runs

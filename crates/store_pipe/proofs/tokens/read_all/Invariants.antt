@@ -1,4 +1,4 @@
-use Rattle.std.proofs.Common.{◌≡◌, ◌+◌, ◌-◌, ◌^◌, ◌<◌, ◌≤◌}
+use Rattle.std.proofs.Common.{◌+◌, ◌-◌, ◌^◌, ◌<◌, ◌≤◌}
 use Rattle.pod_pipe.specs.Streams.{Reads}
 use Rattle.store_pipe.proofs.tokens.read_all.Given as goal
 

@@ -1,6 +1,6 @@
 use Rattle.std.proofs.Common.{Err, ap, refl, ◌∙◌}
 use Rattle.token_table.specs.Credentials.{asked_view}
-use Rattle.store_pipe.proofs.StoredLemmas.{committed, faulted, no_fault, one_fault, stays}
+use Rattle.store_pipe.proofs.StoredLemmas.{committed, faulted, stays}
 use Rattle.store_pipe.proofs.stored.StoredPod.change.Goals as goal
 
 pub commit-requires-clause-stands : goal.commit-requires-clause-stands
