@@ -1,6 +1,8 @@
 //! Connections served by `podctl pipe --fresh https://alice.example/#me`, at moment 784,111,777.
+ghost use Rattle.std.specs.Prelude.{IfOk, IsSome};
 
 use case_lines::{bytes, shown, shown_whole};
+use pod_disk::{Disks, MemDisk, Place};
 use pod_io::{MemSink, MemSource, SetClock};
 use pod_tool::{Status, run_podctl};
 use std::alloc::{AllocError, Global};
@@ -25,12 +27,28 @@ fn words(alloc: Global) -> Result<Vec<String>, AllocError> {
     Ok(words)
 }
 
+/// A place with two empty disks and an empty token table, which the command leaves alone.
+fn empty_place(alloc: Global) -> Result<Place<MemDisk, MemSource>, AllocError>
+    ensures { IfOk result (λ place. IsSome place.disks) }
+{
+    let first = MemDisk::new(alloc, Vec::new(alloc), Vec::new(alloc));
+    let second = MemDisk::new(alloc, Vec::new(alloc), Vec::new(alloc));
+    let (Ok(first), Ok(second)) = (first, second) else {
+        return Err(AllocError);
+    };
+    Ok(Place {
+        disks: Some(Disks { first, second }),
+        tokens: MemSource::new(Vec::new(alloc), 1, Vec::new(alloc)),
+    })
+}
+
 /// A run over an input that is read and written in pieces of at most that size.
 fn serve_input(alloc: Global, input: &[u8], size: usize) -> Result<Run, AllocError> {
     let words = words(alloc)?;
     let mut input = MemSource::new(input.to_vec(alloc)?, size.max(1), Vec::new(alloc));
     let mut output = MemSink::new(alloc, size.max(1), Vec::new(alloc));
     let mut errors = MemSink::new(alloc, size.max(1), Vec::new(alloc));
+    let mut place = empty_place(alloc)?;
     let mut clock = SetClock {
         seconds: 784_111_777,
     };
@@ -40,6 +58,7 @@ fn serve_input(alloc: Global, input: &[u8], size: usize) -> Result<Run, AllocErr
         &mut input,
         &mut output,
         &mut errors,
+        &mut place,
         &mut clock,
     );
     Ok(Run {

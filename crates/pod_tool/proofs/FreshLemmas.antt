@@ -7,7 +7,7 @@ use Rattle.pod_core.specs.History.{IsHistory}
 use Rattle.pod_core.specs.Session.{IsClockMoment, Item}
 use Rattle.token_table.specs.Credentials.{AskedAgent}
 use Rattle.pod_pipe.specs.Agents.{asking_of}
-use Rattle.pod_pipe.specs.Memory.{IsMemoryOf, memory_stands, no_faults, nothing_follows}
+use Rattle.pod_pipe.specs.Memory.{IsMemoryOf, memory_faults, memory_stands, nothing_follows}
 use Rattle.pod_pipe.specs.Served.{Leaves, WritesSession}
 use Rattle.pod_pipe.specs.Statuses.{PipesAndTells, status_of}
 use Rattle.pod_pipe.specs.Streams.{CountsInput}
@@ -19,6 +19,7 @@ use Rattle.pod_pipe.specs.declared.status.PipeEnd.TheVariants.{Peer, Cut, Closed
 use Rattle.pod_pipe.proofs.Weaker.{pipes_weaker, session_weaker, unserved, unserved_session}
 use Rattle.pod_rows.specs.Pod.{Pod}
 use Rattle.pod_tool.specs.Fresh.{MeetsNoDisk, RunsFresh, asking_owner, fresh_base, fresh_history}
+use Rattle.store_pipe.specs.StoreRuns.{Streams}
 
 -- the history of a new pod is one
 pub fresh_is_history : (owner : List ℕ) (made : ℕ) → IsHistory (fresh_history owner made)
@@ -28,31 +29,35 @@ fresh_is_history owner made = record { well_formed = first_pods_well_formed fres
 pub fresh_stands : (owner : List ℕ) (made : ℕ) (pod : Pod) (next last : ℕ) → pod ≡ first_pod fresh_base owner (record { 0 = made }) → next ≡ 0 → last ≡ 0 → IsMemoryOf pod next last (fresh_history owner made)
 fresh_stands owner made pod next last is none zero = record { is_history = fresh_is_history owner made; pod_is = is; next_is = none; last_is = zero }
 
-no_disk : (owner : List ℕ) (made : ℕ) (old new : MemoryPod) (items : List Item) → Leaves memory_stands (λ (pod : MemoryPod). no_faults) nothing_follows (fresh_history owner made) old new items → MeetsNoDisk items
-no_disk owner made old new items left = omega (arith, left.counted.counted (omega arith) (omega arith))
+-- what is left of a pod in memory
+abbrev pub LeavesPod : List ℕ → ℕ → MemoryPod → MemoryPod → List Item → Type 0
+LeavesPod owner made = Leaves memory_stands memory_faults nothing_follows (fresh_history owner made)
 
-module _ (may_give : ℕ → Type 0) (owner : List ℕ) (trail : Bool) (status : ℕ) (old_input new_input old_output new_output old_errors new_errors : Option (List ℕ)) (before after old_reads new_reads old_ends new_ends made : ℕ) (given : IsClockMoment may_give made) where
+no_disk : (owner : List ℕ) (made : ℕ) (old new : MemoryPod) (items : List Item) → LeavesPod owner made old new items → MeetsNoDisk items
+no_disk owner made old new items left = omega (arith, left.counted.disks.counted (omega arith) (omega arith))
+
+module _ (may_give : ℕ → Type 0) (owner : List ℕ) (trail : Bool) (streams : Streams) (status made : ℕ) (given : IsClockMoment may_give made) where
   pub runs_fresh : (options : PipeOptions) → options.agents ≡ Owner owner → options.trail ≡ trail → (end : PipeEnd) → status ≡ status_of end → (old new : MemoryPod)
-      → PipesAndTells may_give (asking_of options.agents) options.trail (fresh_history owner made) (Leaves memory_stands (λ (pod : MemoryPod). no_faults) nothing_follows (fresh_history owner made) old new) end old_input new_input old_output new_output old_errors new_errors before after
-      → WritesSession may_give (asking_of options.agents) options.trail (fresh_history owner made) (Leaves memory_stands (λ (pod : MemoryPod). no_faults) nothing_follows (fresh_history owner made) old new) old_input new_input old_output new_output
-      → CountsInput end old_reads new_reads old_ends new_ends → RunsFresh may_give owner trail status old_input new_input old_output new_output old_errors new_errors before after old_reads new_reads old_ends new_ends
+      → PipesAndTells may_give (asking_of options.agents) options.trail (fresh_history owner made) (LeavesPod owner made old new) end streams.old_input streams.new_input streams.old_output streams.new_output streams.old_errors streams.new_errors streams.old_faults streams.new_faults
+      → WritesSession may_give (asking_of options.agents) options.trail (fresh_history owner made) (LeavesPod owner made old new) streams.old_input streams.new_input streams.old_output streams.new_output
+      → CountsInput end streams.old_reads streams.new_reads streams.old_ends streams.new_ends → RunsFresh may_give owner trail streams status
   runs_fresh options agents trailed end is old new pipes session counts = record {
     end = end;
     status_is = is;
     made = made;
     clock = given;
-    pipes = subst (λ (t : Bool). PipesAndTells may_give (asking_owner owner) t (fresh_history owner made) MeetsNoDisk end old_input new_input old_output new_output old_errors new_errors before after) trailed
-        (subst (λ (a : Request → AskedAgent). PipesAndTells may_give a options.trail (fresh_history owner made) MeetsNoDisk end old_input new_input old_output new_output old_errors new_errors before after) (ap asking_of agents)
-        (pipes_weaker may_give (asking_of options.agents) options.trail (fresh_history owner made) _ MeetsNoDisk (no_disk owner made old new) end old_input new_input old_output new_output old_errors new_errors before after pipes));
-    session = subst (λ (t : Bool). WritesSession may_give (asking_owner owner) t (fresh_history owner made) MeetsNoDisk old_input new_input old_output new_output) trailed
-        (subst (λ (a : Request → AskedAgent). WritesSession may_give a options.trail (fresh_history owner made) MeetsNoDisk old_input new_input old_output new_output) (ap asking_of agents)
-        (session_weaker may_give (asking_of options.agents) options.trail (fresh_history owner made) _ MeetsNoDisk (no_disk owner made old new) old_input new_input old_output new_output session));
+    pipes = subst (λ (t : Bool). PipesAndTells may_give (asking_owner owner) t (fresh_history owner made) MeetsNoDisk end streams.old_input streams.new_input streams.old_output streams.new_output streams.old_errors streams.new_errors streams.old_faults streams.new_faults) trailed
+        (subst (λ (a : Request → AskedAgent). PipesAndTells may_give a options.trail (fresh_history owner made) MeetsNoDisk end streams.old_input streams.new_input streams.old_output streams.new_output streams.old_errors streams.new_errors streams.old_faults streams.new_faults) (ap asking_of agents)
+        (pipes_weaker may_give (asking_of options.agents) options.trail (fresh_history owner made) _ MeetsNoDisk (no_disk owner made old new) end streams.old_input streams.new_input streams.old_output streams.new_output streams.old_errors streams.new_errors streams.old_faults streams.new_faults pipes));
+    session = subst (λ (t : Bool). WritesSession may_give (asking_owner owner) t (fresh_history owner made) MeetsNoDisk streams.old_input streams.new_input streams.old_output streams.new_output) trailed
+        (subst (λ (a : Request → AskedAgent). WritesSession may_give a options.trail (fresh_history owner made) MeetsNoDisk streams.old_input streams.new_input streams.old_output streams.new_output) (ap asking_of agents)
+        (session_weaker may_give (asking_of options.agents) options.trail (fresh_history owner made) _ MeetsNoDisk (no_disk owner made old new) streams.old_input streams.new_input streams.old_output streams.new_output session));
     counts = counts;
   }
 
 -- a run for which no memory was left before anything was read
 pub unserved_run : (may_give : ℕ → Type 0) (owner : List ℕ) (trail : Bool) (made : ℕ) → IsClockMoment may_give made → (input output errors : Option (List ℕ)) (faults reads ends status : ℕ) → status ≡ 7
-    → RunsFresh may_give owner trail status input input output output errors errors faults faults reads reads ends ends
+    → RunsFresh may_give owner trail (record { old_input = input; new_input = input; old_output = output; new_output = output; old_errors = errors; new_errors = errors; old_faults = faults; new_faults = faults; old_reads = reads; new_reads = reads; old_ends = ends; new_ends = ends }) status
 unserved_run may_give owner trail made given input output errors faults reads ends status is = record {
   end = NoMemory;
   status_is = is;

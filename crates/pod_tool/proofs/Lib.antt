@@ -1,2 +1,3 @@
 pub mod FreshLemmas
-pub mod WordLemmas
+pub mod LoadLemmas
+pub mod EndLemmas

@@ -1,5 +1,5 @@
 -- A new pod in memory.
-use Rattle.std.specs.Prelude.{◌≡◌, ℕ, Bool, List, [], Option, codes}
+use Rattle.std.specs.Prelude.{◌≡◌, ℕ, Bool, List, [], codes}
 use Rattle.first_rows.specs.FirstPods.{first_pod}
 use Rattle.pod_base.specs.declared.request.Request.{Request}
 use Rattle.pod_core.specs.History.{History}
@@ -8,6 +8,7 @@ use Rattle.pod_pipe.specs.Served.{WritesSession, disk_faults}
 use Rattle.pod_pipe.specs.Statuses.{PipesAndTells, status_of}
 use Rattle.pod_pipe.specs.Streams.{CountsInput}
 use Rattle.pod_pipe.specs.declared.status.PipeEnd.{PipeEnd}
+use Rattle.store_pipe.specs.StoreRuns.{Streams}
 use Rattle.token_table.specs.Credentials.{AskedAgent, known}
 
 -- the base of a pod in memory
@@ -29,15 +30,15 @@ MeetsNoDisk items = disk_faults items ≡ 0
 
 -- What a run of `pipe --fresh` reads, writes and tells: what a connection of a new pod does, whose
 -- rows have a moment of the clock.
-pub record RunsFresh (may_give : ℕ → Type 0) (owner : List ℕ) (trail : Bool) (status : ℕ)
-    (old_input new_input old_output new_output old_errors new_errors : Option (List ℕ))
-    (before after old_reads new_reads old_ends new_ends : ℕ) : Type 0 where
+pub record RunsFresh (may_give : ℕ → Type 0) (owner : List ℕ) (trail : Bool) (streams : Streams)
+    (status : ℕ) : Type 0 where
   pub end : PipeEnd
   pub status_is : status ≡ status_of end
   pub made : ℕ
   pub clock : IsClockMoment may_give made
   pub pipes : PipesAndTells may_give (asking_owner owner) trail (fresh_history owner made)
-      MeetsNoDisk end old_input new_input old_output new_output old_errors new_errors before after
+      MeetsNoDisk end streams.old_input streams.new_input streams.old_output streams.new_output
+      streams.old_errors streams.new_errors streams.old_faults streams.new_faults
   pub session : WritesSession may_give (asking_owner owner) trail (fresh_history owner made)
-      MeetsNoDisk old_input new_input old_output new_output
-  pub counts : CountsInput end old_reads new_reads old_ends new_ends
+      MeetsNoDisk streams.old_input streams.new_input streams.old_output streams.new_output
+  pub counts : CountsInput end streams.old_reads streams.new_reads streams.old_ends streams.new_ends

@@ -1,4 +1,7 @@
--- What public clauses cite: of those, Words and Fresh are the headline's, over the sessions of
--- pod_core and the connections of pod_pipe.
-pub mod Words
+-- What public clauses cite: what the run of each command does.
+pub mod Runs
 pub mod Fresh
+pub mod Loads
+pub mod Stores
+-- internal: cited by private clauses alone
+pub mod Texts

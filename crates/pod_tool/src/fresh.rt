@@ -2,17 +2,18 @@
 ghost use Rattle.std.specs.Prelude.{◌≡◌, ◌≢◌, ◌≤◌, ◌⊎◌, IfOk};
 ghost use Rattle.first_rows.specs.FirstPods.{first_pod};
 ghost use Rattle.pod_base.specs.Counts.{CountIncreased};
-ghost use Rattle.pod_core.specs.Session.{IsClockMoment};
 ghost use Rattle.pod_pipe.specs.Memory.{memory_stands};
 ghost use Rattle.pod_rows.specs.WellFormed.{WellFormed};
 ghost use Rattle.pod_tool.specs.Fresh.{RunsFresh, fresh_base, fresh_history};
+ghost use Rattle.pod_tool.specs.Runs.{streams_of};
 
 use first_rows::{first_pods_are_well_formed, first_snapshot};
 use iri_ref::Iri;
 use pod_base::{Mem, Moment, NoMemory, Text};
 use pod_io::{Clock, Sink, Source};
-use pod_pipe::{Agents, MemoryPod, PipeEnd, PipeOptions, Status, pipe};
-use pod_rows::{PlainRows, StateFault};
+use pod_pages::Version;
+use pod_pipe::{Agents, MemoryPod, PipeEnd, PipeOptions, Status, clock_moment, pipe};
+use pod_rows::StateFault;
 use std::alloc::Global;
 
 /// The base of a pod in memory.
@@ -29,7 +30,7 @@ fn base(alloc: Global) -> Mem<Iri>
 }
 
 /// The state of a new pod with that owner, whose rows have that moment.
-fn first_state(alloc: Global, owner: &Iri, moment: Moment) -> Mem<PlainRows>
+fn first_state(alloc: Global, owner: &Iri, moment: Moment) -> Mem<Version>
     ensures pod { IfOk result (λ state. state.pod ≡ first_pod fresh_base owner.now moment) }
     ensures next { IfOk result (λ state. state.next ≡ 0) }
     ensures well_formed { IfOk result (λ state. WellFormed state.pod) }
@@ -37,7 +38,7 @@ fn first_state(alloc: Global, owner: &Iri, moment: Moment) -> Mem<PlainRows>
     let base = base(alloc)?;
     let snapshot = first_snapshot(alloc, &base, owner, moment)?;
     first_pods_are_well_formed();
-    match PlainRows::of(alloc, &snapshot) {
+    match Version::of(alloc, &snapshot) {
         Ok(state) => Ok(state),
         Err(StateFault::NoMemory) => Err(NoMemory),
         Err(StateFault::NotWellFormed) => unreachable!(),
@@ -52,11 +53,12 @@ fn fresh_pod(alloc: Global, owner: &Iri, moment: Moment) -> Mem<MemoryPod>
     Ok(MemoryPod {
         state,
         last: Moment(0),
+        starved: 0,
     })
 }
 
 /// That pod, and that every request is its owner's.
-fn fresh_start(
+pub(crate) fn fresh_start(
     alloc: Global,
     owner: &Iri,
     trail: bool,
@@ -75,24 +77,21 @@ fn fresh_start(
     Ok((pod, options))
 }
 
-/// Serves the input as one connection of a new pod in memory with that owner, whose rows have that
-/// moment.
+/// Serves the input as one connection of a new pod in memory with that owner, whose rows have the
+/// clock's moment.
 pub(crate) fn pipe_fresh<S: Source, K: Sink, E: Sink, C: Clock>(
     alloc: Global,
     owner: &Iri,
     trail: bool,
-    moment: Moment,
     input: &mut S,
     output: &mut K,
     errors: &mut E,
     clock: &C,
 ) -> Status
-    requires { IsClockMoment (C.may_give clock.now) moment.0 }
     ensures not_words { result.0 ≢ 2 }
-    ensures runs { RunsFresh (C.may_give clock.now) owner.now trail result.0
-        (S.rest input.old) (S.rest input.new) (K.taken output.old) (K.taken output.new)
-        (E.taken errors.old) (E.taken errors.new) (E.faults errors.old) (E.faults errors.new)
-        (S.reads input.old) (S.reads input.new) (S.ends input.old) (S.ends input.new) }
+    ensures runs { RunsFresh (C.may_give clock.now) owner.now trail
+        (streams_of S.rest S.reads S.ends K.taken E.taken E.faults input.old input.new
+        output.old output.new errors.old errors.new) result.0 }
     ensures read_fault { result.0 ≡ 3 → CountIncreased (S.faults input.old) (S.faults input.new) }
     ensures write_fault { result.0 ≡ 4
         → CountIncreased (K.faults output.old) (K.faults output.new)
@@ -101,6 +100,7 @@ pub(crate) fn pipe_fresh<S: Source, K: Sink, E: Sink, C: Clock>(
     ensures writes { K.faults output.old ≤ K.faults output.new }
     ensures tells { E.faults errors.old ≤ E.faults errors.new }
 {
+    let moment = clock_moment(clock);
     match fresh_start(alloc, owner, trail, moment) {
         Ok(start) => {
             let (pod, options) = start;

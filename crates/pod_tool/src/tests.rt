@@ -1,6 +1,10 @@
-//! Runs of which a call of the outside fails. All other runs are cases of `http_cases`.
+//! Runs of which a call of the outside fails. All other runs are cases of `http_cases` and
+//! `run_cases`.
+ghost use Rattle.std.specs.Prelude.{IfOk, IsSome};
+
 use super::*;
 use pod_base::Mem;
+use pod_disk::{Disks, MemDisk, Place};
 use pod_io::{MemSink, MemSource, SetClock};
 use std::alloc::Global;
 use std::test::Fail;
@@ -21,6 +25,20 @@ struct Left {
     errors: MemSink,
 }
 
+/// A place with two empty disks and an empty token table.
+fn empty_place(alloc: Global) -> Mem<Place<MemDisk, MemSource>>
+    ensures { IfOk result (λ place. IsSome place.disks) }
+{
+    let disks = Disks {
+        first: MemDisk::new(alloc, Vec::new(alloc), Vec::new(alloc))?,
+        second: MemDisk::new(alloc, Vec::new(alloc), Vec::new(alloc))?,
+    };
+    Ok(Place {
+        disks: Some(disks),
+        tokens: MemSource::new(Vec::new(alloc), 1, Vec::new(alloc)),
+    })
+}
+
 /// A run over a PUT and a GET in pieces of that size, whose reads and writes of those numbers fail.
 fn run(alloc: Global, piece: usize, failing_read: u64, failing_write: u64) -> Mem<Left> {
     let mut words = Vec::new(alloc);
@@ -33,6 +51,7 @@ fn run(alloc: Global, piece: usize, failing_read: u64, failing_write: u64) -> Me
     let mut input = MemSource::new(bytes, piece.max(1), vec![in alloc; failing_read]?);
     let mut output = MemSink::new(alloc, piece.max(1), vec![in alloc; failing_write]?);
     let mut errors = MemSink::new(alloc, piece.max(1), Vec::new(alloc));
+    let mut place = empty_place(alloc)?;
     let mut clock = SetClock {
         seconds: 784_111_777,
     };
@@ -42,6 +61,7 @@ fn run(alloc: Global, piece: usize, failing_read: u64, failing_write: u64) -> Me
         &mut input,
         &mut output,
         &mut errors,
+        &mut place,
         &mut clock,
     );
     Ok(Left {
@@ -52,7 +72,7 @@ fn run(alloc: Global, piece: usize, failing_read: u64, failing_write: u64) -> Me
 }
 
 #[test]
-fn faults_and_other_words_have_their_statuses(rt: HostRuntime) -> Result<(), Fail> {
+fn faults_have_their_statuses(rt: HostRuntime) -> Result<(), Fail> {
     let alloc = rt.alloc();
     let read = run(alloc, PUT.len(), 2, 0)?;
     assert_eq!(rt; read.status, 3);
@@ -61,8 +81,5 @@ fn faults_and_other_words_have_their_statuses(rt: HostRuntime) -> Result<(), Fai
     let write = run(alloc, 1_000, 0, 2)?;
     assert_eq!(rt; write.status, 4);
     assert_eq!(rt; write.output.taken(), CREATED.as_bytes());
-    let mut words = Vec::new(alloc);
-    words.push(String::from_str(alloc, "frob")?)?;
-    assert!(rt; matches!(words::owner_of(alloc, &words), Ok(None)));
     Ok(())
 }

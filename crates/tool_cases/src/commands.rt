@@ -1,31 +1,29 @@
-//! Runs a command on disks and sinks in memory.
-ghost use Rattle.std.specs.Prelude.{◌≡◌, IfOk};
-ghost use Rattle.iri_ref.specs.Components.{IsAbsolute};
+//! Runs `podctl` on disks and streams in memory.
+ghost use Rattle.std.specs.Prelude.{IfOk, IsSome};
 
 use crate::disks::{Held, first_word, number};
-use iri_ref::Iri;
-use pod_base::{Mem, Moment, NoMemory, Text};
-use pod_disk::{Disks, MemDisk};
-use pod_io::MemSink;
+use pod_base::Mem;
+use pod_disk::{Disks, MemDisk, Place};
+use pod_io::{MemSink, MemSource, SetClock};
+use pod_tool::{Status, run_podctl};
 use std::alloc::Global;
-use store_commands::{Ended, StoreEnd, audit, check, init};
 
-/// The base of each store.
-const BASE: &str = "http://127.0.0.1:8080/";
+/// The words that make a store.
+const INIT: &str = "init --base http://127.0.0.1:8080/ --owner https://alice.example/#me";
 
-/// The owner of each store.
-const OWNER: &str = "https://alice.example/#me";
-
-/// The moment at which a store is made.
-const MOMENT: Moment = Moment(784_111_777);
+/// What the clock gives.
+const SECONDS: u64 = 784_111_777;
 
 /// How many bytes a sink takes at a time.
 const PIECE: usize = 4;
 
+/// How many bytes a read gives at most.
+const READ: usize = 64;
+
 /// What a command did.
 #[derive(Drop)]
 pub(crate) struct Outcome {
-    pub(crate) end: StoreEnd,
+    pub(crate) status: u8,
     pub(crate) output: MemSink,
     pub(crate) errors: MemSink,
 }
@@ -50,9 +48,27 @@ fn disks_of(alloc: Global, held: &Held, fault: &str) -> Mem<Disks<MemDisk>> {
     })
 }
 
+/// A source of these bytes with that fault.
+fn source_of(alloc: Global, bytes: &[u8], fault: &str, object: &str) -> Mem<MemSource> {
+    let failing = failing(alloc, fault, object)?;
+    Ok(MemSource::new(bytes.to_vec(alloc)?, READ, failing))
+}
+
 /// A sink with that fault.
 fn sink_of(alloc: Global, fault: &str, object: &str) -> Mem<MemSink> {
     Ok(MemSink::new(alloc, PIECE, failing(alloc, fault, object)?))
+}
+
+/// The place of a step with that fault.
+fn place_of(alloc: Global, held: &Held, fault: &str) -> Mem<Place<MemDisk, MemSource>>
+    ensures { IfOk result (λ place. IsSome place.disks) }
+{
+    let disks = disks_of(alloc, held, fault)?;
+    let tokens = source_of(alloc, &held.tokens, fault, "tokens")?;
+    Ok(Place {
+        disks: Some(disks),
+        tokens,
+    })
 }
 
 /// Keeps what disks hold.
@@ -62,41 +78,38 @@ fn keep(alloc: Global, held: &mut Held, disks: &Disks<MemDisk>) -> Mem<()> {
     Ok(())
 }
 
-/// The IRI that a text is.
-fn iri_of(alloc: Global, text: &str) -> Mem<Iri>
-    ensures text { IfOk result (λ iri. iri ≡ text.now) }
-    ensures absolute { IfOk result (λ iri. IsAbsolute iri) }
-{
-    match Iri::read(alloc, text) {
-        Ok(iri) => Ok(iri),
-        Err(_) => Err(NoMemory),
+/// The words of a text, which are separated by spaces.
+fn words_of(alloc: Global, text: &str) -> Mem<Vec<String>> {
+    let text = if text == "init" { INIT } else { text };
+    let mut words = Vec::new(alloc);
+    for word in text.split(' ') {
+        words.push(String::from_str(alloc, word)?)?;
     }
+    Ok(words)
 }
 
-/// Makes a store.
-fn make(alloc: Global, disks: &mut Disks<MemDisk>) -> Mem<StoreEnd> {
-    let base = iri_of(alloc, BASE)?;
-    let owner = iri_of(alloc, OWNER)?;
-    let owner = Text::of(alloc, owner.as_str())?;
-    Ok(init(alloc, disks, base, owner, MOMENT))
-}
-
-/// Runs the command of a word, with that fault.
-pub(crate) fn command(alloc: Global, held: &mut Held, word: &str, fault: &str) -> Mem<Outcome> {
-    let mut disks = disks_of(alloc, held, fault)?;
+/// Runs `podctl` with these words, with that fault.
+pub(crate) fn command(alloc: Global, held: &mut Held, words: &str, fault: &str) -> Mem<Outcome> {
+    let words = words_of(alloc, words)?;
+    let mut input = source_of(alloc, &held.input, fault, "input")?;
     let mut output = sink_of(alloc, fault, "output")?;
     let mut errors = sink_of(alloc, fault, "errors")?;
-    let ended = match word {
-        "check" => check(alloc, disks, &mut output, &mut errors),
-        "audit" => audit(alloc, disks, &mut output, &mut errors),
-        _ => Ended {
-            end: make(alloc, &mut disks)?,
-            disks,
-        },
-    };
-    keep(alloc, held, &ended.disks)?;
+    let mut place = place_of(alloc, held, fault)?;
+    let mut clock = SetClock { seconds: SECONDS };
+    let Status(status) = run_podctl(
+        alloc,
+        &words,
+        &mut input,
+        &mut output,
+        &mut errors,
+        &mut place,
+        &mut clock,
+    );
+    if let Some(disks) = &place.disks {
+        keep(alloc, held, disks)?;
+    }
     Ok(Outcome {
-        end: ended.end,
+        status,
         output,
         errors,
     })

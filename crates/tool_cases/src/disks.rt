@@ -1,13 +1,15 @@
-//! What the two disks hold between two steps, and how a step changes it.
+//! What the place of a case holds between two steps, and how a step changes it.
 
 use pod_base::Mem;
 use std::alloc::Global;
 
-/// The bytes of two disks.
+/// The bytes of two disks, of the token table, and of the input of what is run next.
 #[derive(Drop)]
 pub(crate) struct Held {
     pub(crate) first: Vec<u8>,
     pub(crate) second: Vec<u8>,
+    pub(crate) tokens: Vec<u8>,
+    pub(crate) input: Vec<u8>,
 }
 
 /// The number of a word: 0 where it has none.
@@ -64,11 +66,13 @@ pub(crate) fn add_record(alloc: Global, disk: &mut Vec<u8>, pieces: &str) -> Mem
 }
 
 impl Held {
-    /// Two empty disks.
+    /// Two empty disks, an empty token table and an empty input.
     pub(crate) fn new(alloc: Global) -> Held {
         Held {
             first: Vec::new(alloc),
             second: Vec::new(alloc),
+            tokens: Vec::new(alloc),
+            input: Vec::new(alloc),
         }
     }
 

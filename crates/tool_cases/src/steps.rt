@@ -2,7 +2,7 @@
 
 use crate::commands::{Outcome, command};
 use crate::disks::{Held, add_record, first_word};
-use case_lines::shown_whole;
+use case_lines::{bytes, shown_whole};
 use pod_base::Mem;
 use std::alloc::Global;
 
@@ -17,34 +17,67 @@ fn push_taken(alloc: Global, text: &mut String, word: &str, taken: &[u8]) -> Mem
 
 /// The status of a command, and what it printed.
 fn shown(alloc: Global, outcome: &Outcome) -> Mem<String> {
-    let mut text = format!(in alloc; "{}", outcome.end.status())?;
+    let mut text = format!(in alloc; "{}", outcome.status)?;
     push_taken(alloc, &mut text, " out ", outcome.output.taken())?;
     push_taken(alloc, &mut text, " err ", outcome.errors.taken())?;
     Ok(text)
+}
+
+/// Runs a command, and shows what it did.
+fn run_command(alloc: Global, held: &mut Held, words: &str, fault: &str) -> Mem<String> {
+    let outcome = command(alloc, held, words, fault)?;
+    shown(alloc, &outcome)
+}
+
+/// Runs a command whose words may follow a fault: `!OBJECT N WORDS`.
+fn run_words(alloc: Global, held: &mut Held, text: &str) -> Mem<String> {
+    let Some(rest) = text.strip_prefix('!') else {
+        return run_command(alloc, held, text, "");
+    };
+    let (object, rest) = first_word(rest);
+    let (count, words) = first_word(rest);
+    let fault = format!(in alloc; "{object} {count}")?;
+    run_command(alloc, held, words, fault.as_str())
+}
+
+/// Changes what is held.
+fn change(alloc: Global, held: &mut Held, word: &str, rest: &str) -> Mem<&'static str> {
+    match word {
+        "record" => {
+            add_record(alloc, &mut held.first, rest)?;
+            Ok("added")
+        }
+        "byte" => {
+            held.change(rest);
+            Ok("changed")
+        }
+        "cut" => {
+            held.cut(rest);
+            Ok("cut")
+        }
+        "input" => {
+            held.input = bytes(alloc, rest)?;
+            Ok("input")
+        }
+        "tokens" => {
+            held.tokens = bytes(alloc, rest)?;
+            Ok("tokens")
+        }
+        _ => Ok("no step"),
+    }
 }
 
 /// What a step did.
 fn step(alloc: Global, held: &mut Held, field: &str) -> Mem<String> {
     let (word, rest) = first_word(field);
     match word {
-        "init" | "check" | "audit" => {
-            let outcome = command(alloc, held, word, rest)?;
-            shown(alloc, &outcome)
-        }
-        "record" => {
-            add_record(alloc, &mut held.first, rest)?;
-            Ok(String::from_str(alloc, "added")?)
-        }
-        "byte" => {
-            held.change(rest);
-            Ok(String::from_str(alloc, "changed")?)
-        }
-        "cut" => {
-            held.cut(rest);
-            Ok(String::from_str(alloc, "cut")?)
-        }
+        "init" | "check" | "audit" => run_command(alloc, held, word, rest),
+        "run" => run_words(alloc, held, rest),
         "bytes" => Ok(format!(in alloc; "{}", held.len(rest))?),
-        _ => Ok(String::from_str(alloc, "no step")?),
+        _ => {
+            let done = change(alloc, held, word, rest)?;
+            Ok(String::from_str(alloc, done)?)
+        }
     }
 }
 

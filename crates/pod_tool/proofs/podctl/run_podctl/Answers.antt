@@ -1,10 +1,12 @@
-use Rattle.std.proofs.Common.{false}
+use Rattle.std.proofs.Common.{refl}
 use Rattle.pod_pipe.proofs.SessionLemmas.{if_some_all}
-use Rattle.pod_tool.proofs.FreshLemmas.{unserved_run}
+use Rattle.pod_tool.proofs.EndLemmas.{has_not_begun, if_some_twice}
 use Rattle.pod_tool.proofs.podctl.run_podctl.Goals as goal
 
 -- no memory was left for the words
 pub returns-in-Err-clause-runs : goal.returns-in-Err-clause-runs
-returns-in-Err-clause-runs g c = if_some_all _ _ (λ owner.
-    unserved_run (g.C.Clock.may_give c.args.clock.now) owner false c.clock_moment-moment.result.0 c.clock_moment-moment.ensures (g.S.Source.rest c.args.input.now) (g.K.Sink.taken c.args.output.now)
-    (g.E.Sink.taken c.args.errors.now) (g.E.Sink.faults c.args.errors.now) (g.S.Source.reads c.args.input.now) (g.S.Source.ends c.args.input.now) c.status.result.0 c.status.ensures)
+returns-in-Err-clause-runs g c = if_some_all _ _ (λ command. if_some_twice c.args.place.now.disks _ (λ disks.
+    has_not_begun g.D.Disk.content g.D.Disk.image g.D.Disk.moment g.D.Disk.left_since g.D.Disk.faults disks.first disks.second (g.C.Clock.may_give c.args.clock.now) _ _ c.status.result.0 c.status.ensures (record {
+      unserved = record { input = refl; reads = refl; output = refl };
+      unwritten = record { output = refl; errors = refl };
+    }) command))

@@ -1,0 +1,94 @@
+-- Commands over the two disks of a store.
+use Rattle.std.specs.Prelude.{◌≡◌, ◌⊎◌, ◌<◌, ℕ, Bool, List, [], length, Option}
+use Rattle.journal_pair.specs.PairMoments.{EachPair, LeavesPairs}
+use Rattle.pod_command.specs.declared.entry.Entry.{Entry}
+use Rattle.pod_command.specs.declared.snapshot.Snapshot.{Snapshot}
+use Rattle.pod_core.specs.Session.{IsClockMoment}
+use Rattle.pod_io.specs.Visible.{IfVisible}
+use Rattle.pod_live.specs.CrashedPods.{StandsFor}
+use Rattle.pod_live.specs.NewStores.{new_history}
+use Rattle.pod_live.specs.OpenedPods.{OpensDisks}
+use Rattle.store_commands.specs.Ends.{IsInitEnd, status_of}
+use Rattle.store_commands.specs.Making.{HoldsBytes}
+use Rattle.store_commands.specs.Prints.{Prints, Tells}
+use Rattle.store_commands.specs.declared.ends.StoreEnd.{StoreEnd}
+use Rattle.store_commands.specs.declared.ends.StoreEnd.TheVariants.{Done, NoMemory, NotEmpty}
+use Rattle.store_pipe.specs.StoreRuns.{IsUnserved, RunsStore, Streams, TokenSource}
+
+-- a disk that tells what it holds, holds something
+abbrev pub HoldsSome : Option (List ℕ) → Type 0
+HoldsSome content = IfVisible content (λ bytes. 0 < length bytes)
+
+-- it holds nothing
+abbrev pub HoldsNothing : Option (List ℕ) → Type 0
+HoldsNothing content = IfVisible content (λ bytes. bytes ≡ [])
+
+-- nothing was written
+pub record IsUnwritten (streams : Streams) : Type 0 where
+  pub output : streams.new_output ≡ streams.old_output
+  pub errors : streams.new_errors ≡ streams.old_errors
+
+-- and nothing was read of the input
+pub record IsIdle (streams : Streams) : Type 0 where
+  pub unserved : IsUnserved streams
+  pub unwritten : IsUnwritten streams
+
+-- Out of memory before it began, a run has left the disks alone.
+pub record IsUnbegun {D : Type 0} (first second first_new second_new : D) (status : ℕ)
+    : Type 0 where
+  pub status_is : status ≡ 7
+  pub first_is : first_new ≡ first
+  pub second_is : second_new ≡ second
+
+module _ {D : Type 0} (content : D → Option (List ℕ)) (image : D → List ℕ → Type 0)
+    (moment : D → ℕ) (left_since : D → ℕ → List ℕ → Type 0) where
+  module _ (first second first_new second_new : D) where
+    -- A store was made on two empty disks, or why not. What other disks held stays as it was.
+    pub record Makes (may_give : ℕ → Type 0) (base owner : List ℕ) (status : ℕ) : Type 0 where
+      pub end : StoreEnd
+      pub is_end : IsInitEnd end
+      pub status_is : status ≡ status_of end
+      pub made : end ≡ Done → (made : ℕ) × IsClockMoment may_give made
+          × EachPair (image first_new) (image second_new)
+          (StandsFor (new_history base owner (record { 0 = made })))
+      pub empty : (end ≡ Done) ⊎ (end ≡ NoMemory)
+          → HoldsNothing (content first) × HoldsNothing (content second)
+      pub not_empty : end ≡ NotEmpty → HoldsSome (content first) ⊎ HoldsSome (content second)
+      pub kept : (end ≡ NotEmpty) ⊎ (end ≡ NoMemory)
+          → (content first_new ≡ content first) × (content second_new ≡ content second)
+      pub left : (end ≡ NotEmpty) ⊎ (end ≡ NoMemory)
+          → LeavesPairs moment left_since first second first_new second_new
+          (λ c d. image first c × image second d)
+      pub stays : HoldsBytes (content first) ⊎ HoldsBytes (content second)
+          → LeavesPairs moment left_since first second first_new second_new
+          (λ c d. image first c × image second d)
+
+    -- what a run of `init` does
+    abbrev pub RunsInit : (ℕ → Type 0) → List ℕ → List ℕ → ℕ → Type 0
+    RunsInit may_give base owner status = IsUnbegun first second first_new second_new status
+        ⊎ Makes may_give base owner status
+
+  module _ (faults : D → ℕ) (first second first_new second_new : D) where
+    -- This text of the store was printed, or why not. The disks are as an opening leaves them.
+    pub record PrintsStore (text : Snapshot → List Entry → List ℕ)
+        (old_output new_output old_errors new_errors : Option (List ℕ)) (before after status : ℕ)
+        : Type 0 where
+      pub end : StoreEnd
+      pub status_is : status ≡ status_of end
+      pub prints : Prints text (content first) (content second) old_output new_output end
+      pub tells : Tells end old_errors new_errors before after
+      pub disks : OpensDisks image moment left_since faults first second first_new second_new
+
+    -- what a run of `check` or `audit` does
+    abbrev pub RunsPrinting : (Snapshot → List Entry → List ℕ) → Streams → ℕ → Type 0
+    RunsPrinting text streams status =
+        (IsUnbegun first second first_new second_new status × IsUnwritten streams)
+        ⊎ PrintsStore text streams.old_output streams.new_output streams.old_errors
+        streams.new_errors streams.old_faults streams.new_faults status
+
+    -- what a run of `pipe` over the store does, with agents by the token table or not
+    abbrev pub RunsStored : (ℕ → Type 0) → Bool → Bool → TokenSource → Streams → ℕ → Type 0
+    RunsStored may_give by_tokens trail tokens streams status =
+        (IsUnbegun first second first_new second_new status × IsIdle streams)
+        ⊎ RunsStore image moment left_since faults may_give by_tokens trail content
+        first second first_new second_new tokens streams status
