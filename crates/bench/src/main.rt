@@ -4,20 +4,27 @@
 //! prints that figure's times.
 #![tactic(auto)]
 
+mod answering;
+mod asking;
 mod building;
 mod coding;
 mod deciding;
 mod documents;
 mod fielding;
+mod held;
 mod joining;
 mod jsonld;
 mod opening;
+mod paging;
 mod patching;
+mod populating;
 mod reading;
 mod serving;
+mod storing;
 mod used;
 mod writing;
 
+use answering::answer_requests;
 use anyhow::bail;
 use building::build_graph;
 use coding::code_snapshots;
@@ -27,11 +34,13 @@ use fielding::read_fields;
 use joining::join_conditions;
 use jsonld::exchange_graph;
 use opening::open_journal;
+use paging::lay_pages;
 use patching::read_patches;
 use reading::{Looks, read_versions};
 use serving::serve_stream;
 use std::alloc::Global;
 use std::env;
+use storing::run_store;
 use writing::write_graph;
 
 /// The argument of that number, or another where there is none or it is no number.
@@ -52,6 +61,8 @@ fn run_small_graphs(rt: &HostRuntime, alloc: Global) -> anyhow::Result<()> {
 fn run_small(rt: &HostRuntime, alloc: Global) -> anyhow::Result<()> {
     run_small_graphs(rt, alloc)?;
     open_journal(rt, alloc, false)?;
+    lay_pages(rt, alloc, 100, 1, false)?;
+    run_store(rt, alloc, 3, false)?;
     serve_stream(rt, alloc, 100, 1, false)?;
     write_graph(rt, alloc, 1_000, false)?;
     exchange_graph(rt, alloc, 1_000, false)?;
@@ -62,7 +73,7 @@ fn run_small(rt: &HostRuntime, alloc: Global) -> anyhow::Result<()> {
     for kind in 0..3 {
         read_fields(rt, alloc, 1, kind)?;
     }
-    Ok(())
+    answer_requests(rt, alloc, 200, 1, false)
 }
 
 /// Prints how many looks gave a version, and the rates if asked.
@@ -91,15 +102,18 @@ fn main(rt: HostRuntime) -> anyhow::Result<()> {
     let first = number(&rt, 2, 0)?;
     match word.as_str() {
         "access" => decide_access(&rt, alloc, first, number(&rt, 3, 1)?, true),
+        "answer" => answer_requests(&rt, alloc, first, number(&rt, 3, 1)?, true),
         "codec" => code_snapshots(&rt, alloc, first, number(&rt, 3, 0)?, true),
         "fields" => read_fields(&rt, alloc, first, number(&rt, 3, 0)?),
         "graph" => build_graph(&rt, alloc, first, true),
         "join" => join_conditions(&rt, alloc, first, true),
         "jsonld" => exchange_graph(&rt, alloc, first, true),
         "journal" => open_journal(&rt, alloc, true),
+        "pages" => lay_pages(&rt, alloc, first, number(&rt, 3, 1)?, true),
         "patch" => read_patches(&rt, alloc, first, number(&rt, 3, 1)?, true),
         "pipe" => serve_stream(&rt, alloc, first, number(&rt, 3, 1)?, true),
         "read" => read_document(&rt, alloc, first, number(&rt, 3, 0)?, true),
+        "store" => run_store(&rt, alloc, first, true),
         "turtle" => write_graph(&rt, alloc, first, true),
         "view" => {
             let looks = read_versions(&rt, alloc, first as u64)?;

@@ -1,9 +1,10 @@
 //! The figure `pipe`: a stream of pipelined requests of 300 bytes is served from memory, in pieces
 //! of a size.
-ghost use Rattle.std.specs.Prelude.{◌≡◌, IfOk, length};
+ghost use Rattle.std.specs.Prelude.{◌≡◌, IfOk, IsSome, length};
 
 use anyhow::bail;
 use pod_base::{Bytes, Mem};
+use pod_disk::{Disks, MemDisk, Place};
 use pod_io::{MemSink, MemSource, SetClock};
 use pod_tool::{Status, run_podctl};
 use std::alloc::Global;
@@ -44,6 +45,18 @@ fn make_words(alloc: Global) -> Mem<Vec<String>> {
     Ok(words)
 }
 
+/// A place with two empty disks and an empty token table, which the command leaves alone.
+fn empty_place(alloc: Global) -> Mem<Place<MemDisk, MemSource>>
+    ensures { IfOk result (λ place. IsSome place.disks) }
+{
+    let first = MemDisk::new(alloc, Vec::new(alloc), Vec::new(alloc))?;
+    let second = MemDisk::new(alloc, Vec::new(alloc), Vec::new(alloc))?;
+    Ok(Place {
+        disks: Some(Disks { first, second }),
+        tokens: MemSource::new(Vec::new(alloc), 1, Vec::new(alloc)),
+    })
+}
+
 /// Serves so many requests in pieces of so many bytes, and prints the length of the responses, and
 /// the time if asked.
 pub fn serve_stream(
@@ -57,6 +70,7 @@ pub fn serve_stream(
     let mut input = MemSource::new(make_stream(alloc, count)?, piece.max(1), Vec::new(alloc));
     let mut output = MemSink::new(alloc, usize::MAX, Vec::new(alloc));
     let mut errors = MemSink::new(alloc, usize::MAX, Vec::new(alloc));
+    let mut place = empty_place(alloc)?;
     let mut clock = SetClock {
         seconds: 784_111_777,
     };
@@ -67,6 +81,7 @@ pub fn serve_stream(
         &mut input,
         &mut output,
         &mut errors,
+        &mut place,
         &mut clock,
     );
     let took = start.elapsed(rt)?.as_micros();

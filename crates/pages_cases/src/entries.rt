@@ -130,6 +130,28 @@ pub fn first(alloc: Global) -> Mem<Snapshot> {
     })
 }
 
+/// A pod with so many rows: the first two, and containers with up to 99 documents.
+pub fn full(alloc: Global, count: usize) -> Mem<Snapshot> {
+    let mut rows = Vec::new(alloc);
+    rows.push(row(alloc, "/", 0)?)?;
+    rows.push(row(alloc, "/.acl", 0)?)?;
+    for number in 0..count.saturating_sub(2) {
+        let (folder, place) = (number / 100, number % 100);
+        let text = if place == 0 {
+            format!(in alloc; "/{folder:05}/")?
+        } else {
+            format!(in alloc; "/{folder:05}/{place:05}")?
+        };
+        rows.push(row(alloc, text.as_str(), number as u64)?)?;
+    }
+    Ok(Snapshot {
+        seq: 0,
+        base: iri(alloc, BASE)?,
+        owner: Text::of(alloc, OWNER)?,
+        rows: List::from_vec(rows),
+    })
+}
+
 /// The edit of a sign and a path.
 fn edit(alloc: Global, word: &str, number: u64) -> Mem<Edit> {
     let modified = Moment(number);

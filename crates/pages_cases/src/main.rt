@@ -7,7 +7,8 @@
 //! path, and the effects that are kept. `random` has a seed, and how many entries of its own making
 //! are to apply; it prints after how many of them the version was as the list, a copy of it too,
 //! and the version before as it was. `window` has a number of entries that touch the root, and
-//! prints which effects are kept after them.
+//! prints which effects are kept after them. `fill` has a number of rows, and prints whether a pod
+//! of so many has a state and a version, and at how many of six paths they have the same.
 #![tactic(auto)]
 
 mod entries;
@@ -22,6 +23,7 @@ fn answer(alloc: Global, fields: &[&str]) -> Result<String, AllocError> {
     let found = match fields {
         ["run", entries @ ..] => runs::run(alloc, entries),
         ["random", seed, count] => runs::random(alloc, seed, count),
+        ["fill", count] => runs::fill(alloc, count),
         ["window", count] => runs::window(alloc, count),
         _ => return String::from_str(alloc, "no case"),
     };

@@ -1,7 +1,7 @@
 //! Cases of a version beside a plain list of rows.
 
-use crate::entries::{entry, first, path};
-use crate::shown::{access_text, effects_text, state_text};
+use crate::entries::{entry, first, full, path};
+use crate::shown::{access_text, effects_text, place_text, state_text};
 use entry_fits::fits as fits_touched;
 use pod_base::{Mem, NoMemory};
 use pod_command::Entry;
@@ -263,4 +263,53 @@ pub fn window(alloc: Global, count: &str) -> Mem<String> {
     };
     let (oldest, kept) = (both.version.oldest(), effects.len());
     Ok(format!(in alloc; "from {oldest}: {kept} effects, the first of {first}")?)
+}
+
+/// Paths of pods with many rows, and one with none.
+const FULL_PATHS: [&str; 6] = [
+    "/",
+    "/.acl",
+    "/00000/",
+    "/00327/00034",
+    "/00655/00033",
+    "/00655/00034",
+];
+
+/// A state of a snapshot, or why there is none.
+fn made<S>(found: Result<S, StateFault>) -> Mem<Option<S>> {
+    match found {
+        Ok(state) => Ok(Some(state)),
+        Err(StateFault::NotWellFormed) => Ok(None),
+        Err(StateFault::NoMemory) => Err(NoMemory),
+    }
+}
+
+/// At how many paths both have the same.
+fn same_places(alloc: Global, plain: &PlainRows, version: &Version) -> Mem<usize> {
+    let mut same: usize = 0;
+    for text in FULL_PATHS {
+        let path = path(alloc, text)?;
+        let wanted = place_text(alloc, plain, &path)?;
+        let found = place_text(alloc, version, &path)?;
+        if found.as_str() == wanted.as_str() {
+            same = same.saturating_add(1);
+        }
+    }
+    Ok(same)
+}
+
+/// Whether there are a state and a version of a pod with so many rows, and at how many paths they
+/// have the same.
+pub fn fill(alloc: Global, count: &str) -> Mem<String> {
+    let snapshot = full(alloc, count.parse().unwrap_or(0))?;
+    let plain = made(PlainRows::of(alloc, &snapshot))?;
+    match (plain, made(Version::of(alloc, &snapshot))?) {
+        (Some(plain), Some(version)) => {
+            let same = same_places(alloc, &plain, &version)?;
+            let (rows, pages) = (plain.count(), version.count());
+            Ok(format!(in alloc; "{rows} and {pages} rows, the same at {same} paths")?)
+        }
+        (None, None) => Ok(String::from_str(alloc, "not well-formed")?),
+        _ => Ok(String::from_str(alloc, "the two differ")?),
+    }
 }

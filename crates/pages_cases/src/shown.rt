@@ -53,7 +53,7 @@ fn row_text(alloc: Global, row: &Row) -> Mem<String> {
     Ok(format!(in alloc; "{} {kind} {moment} {size}", row.path.as_str())?)
 }
 
-/// What a state has at a path.
+/// Appends what a state has at a path.
 fn push_place<S: PodState>(alloc: Global, text: &mut String, state: &S, path: &Path) -> Mem<()> {
     if let Some(row) = state.find(path) {
         let shown = row_text(alloc, row)?;
@@ -71,6 +71,13 @@ fn push_place<S: PodState>(alloc: Global, text: &mut String, state: &S, path: &P
     }
     text.push_str("; ")?;
     Ok(())
+}
+
+/// What a state has at a path.
+pub fn place_text<S: PodState>(alloc: Global, state: &S, path: &Path) -> Mem<String> {
+    let mut text = String::new(alloc);
+    push_place(alloc, &mut text, state, path)?;
+    Ok(text)
 }
 
 /// All that a state has at these paths, and its rows.
