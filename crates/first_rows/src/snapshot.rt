@@ -10,7 +10,7 @@ use iri_ref::Iri;
 use pod_base::{List, Mem, Moment, NoMemory, Text};
 use pod_command::{Content, Kind, Row, Snapshot};
 use pod_path::Path;
-use rdf_graph::Graph;
+use rdf_graph::{Graph, copy_iri};
 use std::alloc::Global;
 
 /// The path that a text is.
@@ -60,16 +60,6 @@ fn first_rows(alloc: Global, base: &Iri, owner: &Iri, modified: Moment) -> Mem<V
     let list = list_row(alloc, base, owner, modified)?;
     rows.push(list)?;
     Ok(rows)
-}
-
-/// An equal IRI.
-fn copy_iri(alloc: Global, iri: &Iri) -> Mem<Iri>
-    ensures { IfOk result (λ copy. copy ≡ iri.now) }
-{
-    match iri.copy(alloc) {
-        Ok(copy) => Ok(copy),
-        Err(_) => Err(NoMemory),
-    }
 }
 
 /// The snapshot of a new pod with that base and that owner, whose rows have that moment: the root,

@@ -14,11 +14,10 @@ ghost use Rattle.jsonld_expanded.specs.declared.fault.Refusal.TheVariants as Ref
 
 use crate::fault::{Refusal, refusal_of};
 use crate::scope::Scope;
-use crate::walk::copy_iri;
 use iri_ref::Iri;
 use itoa::Buffer;
 use pod_base::{Mem, Text};
-use rdf_graph::Term;
+use rdf_graph::{Term, copy_iri};
 use serde_json::{Map, Number, Value};
 use std::alloc::Global;
 use turtle_lex::is_lang_tag;

@@ -17,10 +17,10 @@ ghost use Rattle.jsonld_expanded.specs.declared.fault.Refusal.TheVariants as Ref
 use crate::fault::{Refusal, refusal_of};
 use crate::literals::has_key;
 use crate::scope::Scope;
-use crate::walk::{Walk, copy_iri};
+use crate::walk::Walk;
 use iri_ref::Iri;
 use pod_base::Mem;
-use rdf_graph::Term;
+use rdf_graph::{Term, copy_iri};
 use serde_json::{Map, Value};
 
 impl<'a> Scope<'a> {

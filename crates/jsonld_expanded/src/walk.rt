@@ -8,8 +8,8 @@ ghost use Rattle.jsonld_expanded.specs.Expands.{Says, start};
 ghost use Rattle.jsonld_expanded.specs.Walks.{Advances, Stands};
 
 use iri_ref::Iri;
-use pod_base::{Mem, NoMemory};
-use rdf_graph::{TRIPLES_LIMIT, Term, Triple};
+use pod_base::Mem;
+use rdf_graph::{TRIPLES_LIMIT, Term, Triple, copy_iri};
 use std::alloc::Global;
 
 #[derive(Drop)]
@@ -28,16 +28,6 @@ fn saturating_sum(first: u64, second: u64) -> u64
         → result ≡ saturated (m + n) }
 {
     first.saturating_add(second)
-}
-
-/// A copy, which shares its memory.
-pub(crate) fn copy_iri(alloc: Global, iri: &Iri) -> Mem<Iri>
-    ensures { IfOk result (λ copy. copy ≡ iri.now) }
-{
-    match iri.copy(alloc) {
-        Ok(copy) => Ok(copy),
-        Err(_) => Err(NoMemory),
-    }
 }
 
 /// The triple of these terms.

@@ -5,7 +5,8 @@ ghost use Rattle.pod_command.specs.Bare.{bare_snapshot};
 use crate::row::Row;
 use crate::stored::copy_list;
 use iri_ref::Iri;
-use pod_base::{List, Mem, NoMemory, Text};
+use pod_base::{List, Mem, Text};
+use rdf_graph::copy_iri;
 use std::alloc::Global;
 
 /// A whole pod: the number of its next change, its base and owner, and its rows.
@@ -31,15 +32,5 @@ impl Snapshot {
             owner,
             rows: List::from_vec(rows),
         })
-    }
-}
-
-/// An equal IRI.
-fn copy_iri(alloc: Global, iri: &Iri) -> Mem<Iri>
-    ensures { IfOk result (λ copy. copy ≡ iri.now) }
-{
-    match iri.copy(alloc) {
-        Ok(copy) => Ok(copy),
-        Err(_) => Err(NoMemory),
     }
 }

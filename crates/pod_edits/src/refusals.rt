@@ -12,7 +12,7 @@ ghost use Rattle.pod_rows.specs.Pod.{is_row, is_row_of};
 use crate::place::Place;
 use pod_base::Mem;
 use pod_command::Kind;
-use pod_path::Path;
+use pod_path::{Path, subject_text};
 use pod_rows::{PodState, ROWS_LIMIT, guards, lacks_containment};
 use rdf_graph::Triple;
 use std::alloc::Global;
@@ -69,16 +69,6 @@ pub fn meets_twin<S: PodState>(alloc: Global, state: &S, path: &Path, place: &Pl
         }
     }
     Ok(false)
-}
-
-/// The text of what an access list or a description is about.
-fn subject_text(path: &str) -> Option<&str>
-    ensures { option_copied result ≡ subject_of path.entry.now }
-{
-    match strip_end(path, ".acl") {
-        Some(subject) => Some(subject),
-        None => strip_end(path, ".meta"),
-    }
 }
 
 /// Whether the path is that of an access list or a description whose subject is no row. It takes no

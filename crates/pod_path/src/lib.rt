@@ -26,3 +26,4 @@ mod uri;
 pub use fault::PathFault;
 pub use limits::{PATH_BYTES_LIMIT, PATH_SEGMENTS_LIMIT};
 pub use path::{Path, Taken};
+pub use path_text::{parent_text, subject_text};

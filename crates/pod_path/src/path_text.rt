@@ -50,8 +50,9 @@ fn cut_after_last_slash(text: &str) -> &str
     }
 }
 
-/// The text of the container above a path.
-pub(crate) fn parent_text(path: &str) -> &str
+/// The text of the container above a path, which is a part of it; of the root nothing. It takes no
+/// memory.
+pub fn parent_text(path: &str) -> &str
     ensures { result.now ≡ up_to_last_slash (without_last_slash path.now) }
 {
     cut_after_last_slash(trim_slash(path))
@@ -67,8 +68,9 @@ pub(crate) fn is_inside(path: &str, other: &str) -> bool
     }
 }
 
-/// The text of what an ACL or a description is of.
-pub(crate) fn subject_text(path: &str) -> Option<&str>
+/// The text of what an ACL or a description is of, which is a part of its path; of any other path
+/// none. It takes no memory.
+pub fn subject_text(path: &str) -> Option<&str>
     ensures { option_copied result ≡ subject_of path.now }
 {
     match strip_end(path, ".acl") {

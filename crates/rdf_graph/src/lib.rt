@@ -36,7 +36,7 @@ pub use patch::{Patch, PatchFault, instantiate, the_mapping};
 pub use pattern::{Found, Mapping, Pattern, Slot};
 pub use size::TRIPLES_LIMIT;
 pub use solution_mappings::solutions;
-pub use term::{Term, Written};
+pub use term::{Term, Written, copy_iri};
 pub use triple::Triple;
 pub use triple_line::Line;
 pub use triple_walk::Walk;

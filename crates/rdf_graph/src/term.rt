@@ -164,8 +164,8 @@ impl Term {
     }
 }
 
-/// An equal IRI.
-fn copy_iri(alloc: Global, iri: &Iri) -> Mem<Iri>
+/// The same IRI, which shares the memory of this one, as terms hold it.
+pub fn copy_iri(alloc: Global, iri: &Iri) -> Mem<Iri>
     ensures { IfOk result (λ copy. copy ≡ iri.now) }
 {
     match iri.copy(alloc) {

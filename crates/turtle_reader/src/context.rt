@@ -12,7 +12,7 @@ use crate::lexeme::Lexeme;
 use crate::meaning::{Meaning, plain_meaning};
 use iri_ref::Iri;
 use pod_base::{Mem, NoMemory, Text};
-use rdf_graph::Term;
+use rdf_graph::{Term, copy_iri};
 use std::alloc::Global;
 use turtle_grammar::Symbol;
 use turtle_lex::{Token, TokenKind};
@@ -67,15 +67,6 @@ fn meant_iri(meaning: &Meaning) -> Option<&Iri>
     match meaning {
         Meaning::Term(Term::Iri(iri)) => Some(iri),
         _ => None,
-    }
-}
-
-fn copy_iri(alloc: Global, iri: &Iri) -> Mem<Iri>
-    ensures { IfOk result (λ copy. copy ≡ iri.now) }
-{
-    match iri.copy(alloc) {
-        Ok(copy) => Ok(copy),
-        Err(_) => Err(NoMemory),
     }
 }
 

@@ -7,7 +7,7 @@ ghost use Rattle.turtle_reader.specs.Referents.{term_referent, tagged, typed, re
 use crate::meaning::Meaning;
 use iri_ref::Iri;
 use pod_base::{Mem, NoMemory, Text};
-use rdf_graph::Term;
+use rdf_graph::{Term, copy_iri};
 use std::alloc::Global;
 use turtle_grammar::{Node, SymbolicTriple, Within};
 use turtle_terms::{Vocabulary, Word};
@@ -69,15 +69,6 @@ fn tagged(alloc: Global, string: &Meaning, tag: &Meaning) -> Mem<Referent>
             _ => Err(NoMemory),
         },
         _ => Err(NoMemory),
-    }
-}
-
-fn copy_iri(alloc: Global, iri: &Iri) -> Mem<Iri>
-    ensures { IfOk result (λ copy. copy ≡ iri.now) }
-{
-    match iri.copy(alloc) {
-        Ok(copy) => Ok(copy),
-        Err(_) => Err(NoMemory),
     }
 }
 
