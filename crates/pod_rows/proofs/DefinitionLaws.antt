@@ -96,7 +96,7 @@ row_found (r ∷ rs) row o c =
     (λ d. ap (λ (b : Bool). cond b (Some r) (row_at rs row.path)) (not_twice r row rs (order_first r rs o) d) ∙ row_found rs row (order_rest r rs o) d)
     (contains_cases r rs row c)
 
-all_at : (p : Row → Bool) (rows : List Row) (row : Row) → list_all p rows ≡ true → Contains rows row → p row ≡ true
+pub all_at : (p : Row → Bool) (rows : List Row) (row : Row) → list_all p rows ≡ true → Contains rows row → p row ≡ true
 all_at p [] row h c = absurd (contains_none row c)
 all_at p (r ∷ rs) row h c =
     let parts = and_parts (p r) (list_all p rs) h in

@@ -8,3 +8,4 @@ pub mod Steps
 pub mod Shown
 pub mod Changes
 pub mod DefinitionLaws
+pub mod Relations

@@ -63,6 +63,11 @@ well_formed_from pod order right whole related =
       base = b.0;
     }
 
+-- rows that are right have normal paths
+pub right_paths : (rows : List Row) → are_rows_right rows ≡ true → IsTrue (list_all has_normal_path rows)
+unfolding are_rows_right
+right_paths rows h = (and_parts (list_all has_normal_path rows) (list_all has_right_kind rows && list_all lacks_stored_containment rows) h).0
+
 pub right_rows : (pod : Pod) → WellFormed pod → IsTrue (are_rows_right pod.rows)
 unfolding are_rows_right
 right_rows pod w =

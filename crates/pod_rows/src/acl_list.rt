@@ -1,5 +1,5 @@
 //! The access lists of rows, with their rules, and which of them governs a path.
-ghost use Rattle.std.specs.Prelude.{◌≡◌, ◌++◌, IfOk, OnOk, IfSome, IfNone, List, ℕ, option_copied};
+ghost use Rattle.std.specs.Prelude.{◌≡◌, ◌++◌, IfOk, OnOk, option_copied};
 ghost use Rattle.std.specs.Prelude.{option_to_list};
 ghost use Rattle.std.specs.List.{find};
 ghost use Rattle.pod_path.specs.Hierarchy.{subject_of};
@@ -12,7 +12,7 @@ use acl_rules::{Items, Rules, rules_of};
 use iri_ref::Iri;
 use pod_base::Mem;
 use pod_command::{Content, Row};
-use pod_path::Path;
+use pod_path::{Path, subject_text};
 use std::alloc::Global;
 
 /// An access list: the path whose list it is, and its rules.
@@ -109,27 +109,8 @@ pub(crate) fn inherited<'a>(lists: &'a [AclList], path: &[u8]) -> Option<&'a Acl
     None
 }
 
-/// The text before `end`, where the text ends in it.
-fn strip_end<'a>(text: &'a str, end: &str) -> Option<&'a str>
-    ensures some { IfSome (option_copied result) (λ prefix. text.entry.now ≡ prefix ++ end.now) }
-    ensures none { IfNone (option_copied result) ((prefix : List ℕ)
-        → text.entry.now ≡ prefix ++ end.now → ⊥) }
-{
-    text.strip_suffix(end)
-}
-
-/// The text of what an access list or a description is about.
-fn subject_text(path: &str) -> Option<&str>
-    ensures { option_copied result ≡ subject_of path.entry.now }
-{
-    match strip_end(path, ".acl") {
-        Some(subject) => Some(subject),
-        None => strip_end(path, ".meta"),
-    }
-}
-
 /// What an access list or a description is about, and any other path itself.
-pub(crate) fn about(path: &str) -> &str
+pub fn about(path: &str) -> &str
     ensures { result.now ≡ about path.entry.now (subject_of path.entry.now) }
 {
     match subject_text(path) {

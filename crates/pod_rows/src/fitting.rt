@@ -6,9 +6,9 @@ ghost use Rattle.pod_rows.specs.WellFormed.{pod_of};
 use crate::edits::after_edits;
 use crate::state::PodState;
 use crate::well_formed::is_well_formed;
-use iri_ref::Iri;
-use pod_base::{Mem, NoMemory};
+use pod_base::Mem;
 use pod_command::{Entry, Snapshot};
+use rdf_graph::copy_iri;
 use std::alloc::Global;
 
 /// Whether the entry applies to the state: it has the next number, its edits can be carried out,
@@ -30,16 +30,6 @@ pub fn fits<S: PodState>(alloc: Global, state: &S, entry: &Entry) -> Mem<bool>
     match after_edits(alloc, rows.as_slice(), entry.edits.as_slice())? {
         Some(new) => is_well_formed(alloc, state.base(), state.owner(), new.as_slice()),
         None => Ok(false),
-    }
-}
-
-/// An equal IRI.
-fn copy_iri(alloc: Global, iri: &Iri) -> Mem<Iri>
-    ensures { IfOk result (λ copy. copy ≡ iri.now) }
-{
-    match iri.copy(alloc) {
-        Ok(copy) => Ok(copy),
-        Err(_) => Err(NoMemory),
     }
 }
 

@@ -33,12 +33,13 @@ mod view;
 pub mod vocabulary;
 mod well_formed;
 
+pub use acl_list::about;
 pub use base::is_base;
 pub use edits::{changed_row, with_moment};
 pub use fitting::{fits, snapshot};
 pub use guard::guards;
 pub use limits::{BASE_BYTES_LIMIT, CONTENT_TYPE_BYTES_LIMIT, ROWS_LIMIT};
-pub use plain::{PlainRows, StateFault};
+pub use plain::{PlainRows, StateFault, is_child_of, is_snapshot_well_formed, states_member};
 pub use state::{Effective, PodState};
 pub use view::container_view;
 pub use well_formed::{

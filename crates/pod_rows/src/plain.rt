@@ -17,6 +17,7 @@ use iri_ref::Iri;
 use pod_base::{List, Mem, NoMemory, Text};
 use pod_command::{Content, Entry, Kind, Row, Snapshot};
 use pod_path::{Path, Taken};
+use rdf_graph::copy_iri;
 use std::alloc::Global;
 use std::marker::Model;
 use thiserror::Error;
@@ -112,7 +113,7 @@ impl PlainRows {
 }
 
 /// Whether the snapshot is well-formed.
-fn is_snapshot_well_formed(alloc: Global, snapshot: &Snapshot) -> Mem<bool>
+pub fn is_snapshot_well_formed(alloc: Global, snapshot: &Snapshot) -> Mem<bool>
     ensures sound { IfOk result (λ r. IsTrue r → IsWellFormedSnapshot snapshot.now) }
     ensures complete { IfOk result (λ r. IsWellFormedSnapshot snapshot.now → IsTrue r) }
 {
@@ -127,18 +128,8 @@ fn is_snapshot_well_formed(alloc: Global, snapshot: &Snapshot) -> Mem<bool>
     )
 }
 
-/// An equal IRI.
-fn copy_iri(alloc: Global, iri: &Iri) -> Mem<Iri>
-    ensures { IfOk result (λ copy. copy ≡ iri.now) }
-{
-    match iri.copy(alloc) {
-        Ok(copy) => Ok(copy),
-        Err(_) => Err(NoMemory),
-    }
-}
-
 /// Whether the row is a child of the container.
-fn is_child_of(alloc: Global, container: &Path, row: &Row) -> Mem<bool>
+pub fn is_child_of(alloc: Global, container: &Path, row: &Row) -> Mem<bool>
     ensures { IfOk result (λ r. r ≡ is_child_of container.now row.now) }
 {
     if row.path.is_acl() || row.path.is_meta() {
@@ -165,7 +156,7 @@ fn children_of(alloc: Global, rows: &[Row], container: &Path) -> Mem<Vec<Path>>
 }
 
 /// Whether a document of RDF states that the agent is a member of the group.
-fn states_member(group: &str, agent: &str, row: &Row) -> bool
+pub fn states_member(group: &str, agent: &str, row: &Row) -> bool
     ensures { result ≡ states_member group.now agent.now row.now.kind row.now.content }
 {
     match row.kind {

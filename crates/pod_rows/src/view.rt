@@ -14,7 +14,7 @@ use pod_base::{List, Mem, NoMemory};
 use pod_command::{Content, Row};
 use pod_path::Path;
 use rdf_graph::vocabulary::RDF_TYPE;
-use rdf_graph::{Graph, Term, Triple};
+use rdf_graph::{Graph, Term, Triple, copy_iri};
 use std::alloc::Global;
 
 /// The view of a container (LDP 1.0, section 5.2): its own triples, its three types, and a triple
@@ -63,16 +63,6 @@ fn constant(alloc: Global, text: &str) -> Mem<Iri>
 {
     match Iri::read(alloc, text) {
         Ok(iri) => Ok(iri),
-        Err(_) => Err(NoMemory),
-    }
-}
-
-/// An equal IRI.
-fn copy_iri(alloc: Global, iri: &Iri) -> Mem<Iri>
-    ensures { IfOk result (λ copy. copy ≡ iri.now) }
-{
-    match iri.copy(alloc) {
-        Ok(copy) => Ok(copy),
         Err(_) => Err(NoMemory),
     }
 }

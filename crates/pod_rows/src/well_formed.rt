@@ -1,12 +1,13 @@
 //! Whether rows are those of a well-formed pod, one function for each clause of the definition.
 ghost use Rattle.std.specs.Prelude.{◌≡◌, ◌↔◌, ◌&&◌, IsTrue, IfOk, nat_le, length, option_copied};
-ghost use Rattle.std.specs.Prelude.{List};
+ghost use Rattle.std.specs.Prelude.{List, bytes_eq, not};
 ghost use Rattle.std.specs.List.{list_all};
 ghost use Rattle.pod_command.specs.Encodable.{AreInOrder};
 ghost use Rattle.pod_rows.specs.Apply.{is_before};
 ghost use Rattle.pod_rows.specs.Pod.{Pod};
 ghost use Rattle.pod_rows.specs.WellFormedTests.{in_order, is_before_next, are_rows_right};
 ghost use Rattle.pod_rows.specs.WellFormedTests.{are_rows_related, is_pod_right};
+ghost use Rattle.pod_rows.specs.WellFormedTests.{is_empty, is_known, lacks_container_twin};
 ghost use Rattle.pod_rows.specs.WellFormed.{WellFormed, has_normal_path, has_right_kind, fits_kind};
 ghost use Rattle.pod_rows.specs.WellFormed.{is_content_type, is_printable, has_first_rows};
 ghost use Rattle.pod_rows.specs.WellFormed.{has_parent, lacks_twin, has_subject, is_document};
@@ -27,7 +28,7 @@ use acl_rules::vocabulary::is_iri;
 use iri_ref::Iri;
 use pod_base::{Mem, Text};
 use pod_command::{Content, Kind, Row};
-use pod_path::Path;
+use pod_path::{Path, parent_text};
 use rdf_graph::Triple;
 use std::alloc::Global;
 use std::cmp::Ordering;
@@ -179,43 +180,44 @@ pub(crate) fn guards_row(base: &Iri, owner: &Text, row: Option<&Row>) -> bool
     }
 }
 
-/// Whether the parent of each row but the root is a row.
-pub(crate) fn have_parents(alloc: Global, rows: &[Row]) -> Mem<bool>
-    requires { AreInOrder rows.now }
-    ensures { IfOk result (λ r. r ≡ list_all (has_parent rows.now) rows.now) }
+/// Whether a path's parent is the known one, if one is known.
+fn is_known_parent(known: &str, parent: &str) -> bool
+    ensures { result ≡ (not (is_empty known.now) && bytes_eq known.now parent.now) }
 {
-    for row in rows {
-        if !has_parent(alloc, rows, row)? {
-            return Ok(false);
-        }
-    }
-    Ok(true)
+    !known.is_empty() && known == parent
 }
 
-/// Whether the row is the root, or its parent is a row.
+/// Whether the row is the root, or its parent is a row. One that is known to be a row isn't sought.
 #[tactic(auto, unfolding(crate::specs::WellFormed::has_parent))]
-fn has_parent(alloc: Global, rows: &[Row], row: &Row) -> Mem<bool>
-    requires { AreInOrder rows.now }
-    ensures { IfOk result (λ r. r ≡ has_parent rows.now row.now) }
+fn has_parent(rows: &[Row], known: &str, row: &Row) -> bool
+    requires order { AreInOrder rows.now }
+    requires known { IsTrue (is_known rows.now known.now) }
+    ensures { result ≡ has_parent rows.now row.now }
 {
     if row.path.is_root() {
-        return Ok(true);
+        return true;
     }
-    let parent = row.path.parent(alloc)?;
-    Ok(is_row_of(rows, &parent))
+    let parent = parent_text(row.path.as_str());
+    if is_known_parent(known, parent) {
+        return true;
+    }
+    is_row(rows, parent)
 }
 
-/// Whether no row has a twin that is a row.
-pub(crate) fn lack_twins(alloc: Global, rows: &[Row]) -> Mem<bool>
+/// Whether the parent of each row but the root is a row. Rows of one container follow each other, so
+/// it is mostly the parent of the row before.
+pub(crate) fn have_parents(rows: &[Row]) -> bool
     requires { AreInOrder rows.now }
-    ensures { IfOk result (λ r. r ≡ list_all (lacks_twin rows.now) rows.now) }
+    ensures { result ≡ list_all (has_parent rows.now) rows.now }
 {
+    let mut known = "";
     for row in rows {
-        if !lacks_twin(alloc, rows, row)? {
-            return Ok(false);
+        if !has_parent(rows, known, row) {
+            return false;
         }
+        known = parent_text(row.path.as_str());
     }
-    Ok(true)
+    true
 }
 
 /// Whether the row's twin is no row.
@@ -226,6 +228,41 @@ fn lacks_twin(alloc: Global, rows: &[Row], row: &Row) -> Mem<bool>
 {
     let twin = row.path.twin(alloc)?;
     Ok(!is_row_of(rows, &twin))
+}
+
+/// Whether the row is no container, or its twin is no row.
+fn lacks_container_twin(alloc: Global, rows: &[Row], row: &Row) -> Mem<bool>
+    requires { AreInOrder rows.now }
+    ensures { IfOk result (λ r. r ≡ lacks_container_twin rows.now row.now) }
+{
+    if row.path.is_container() {
+        lacks_twin(alloc, rows, row)
+    } else {
+        Ok(true)
+    }
+}
+
+/// Whether no container has a twin that is a row.
+fn containers_lack_twins(alloc: Global, rows: &[Row]) -> Mem<bool>
+    requires { AreInOrder rows.now }
+    ensures { IfOk result (λ r. r ≡ list_all (lacks_container_twin rows.now) rows.now) }
+{
+    for row in rows {
+        if !lacks_container_twin(alloc, rows, row)? {
+            return Ok(false);
+        }
+    }
+    Ok(true)
+}
+
+/// Whether no row has a twin that is a row. Of two twins one is a container, so only containers are
+/// asked for theirs.
+pub(crate) fn lack_twins(alloc: Global, rows: &[Row]) -> Mem<bool>
+    requires order { AreInOrder rows.now }
+    requires paths { IsTrue (list_all has_normal_path rows.now) }
+    ensures { IfOk result (λ r. r ≡ list_all (lacks_twin rows.now) rows.now) }
+{
+    containers_lack_twins(alloc, rows)
 }
 
 /// Whether the subject of each access list and each description is a row.
@@ -307,10 +344,11 @@ fn are_rows_right(rows: &[Row]) -> bool
 /// Whether the rows that rows need are there, and no others.
 #[tactic(auto, unfolding(crate::specs::WellFormedTests::are_rows_related))]
 fn are_rows_related(alloc: Global, rows: &[Row]) -> Mem<bool>
-    requires { AreInOrder rows.now }
+    requires order { AreInOrder rows.now }
+    requires paths { IsTrue (list_all has_normal_path rows.now) }
     ensures { IfOk result (λ r. r ≡ are_rows_related rows.now) }
 {
-    Ok(have_parents(alloc, rows)? && lack_twins(alloc, rows)? && have_subjects(alloc, rows)?)
+    Ok(have_parents(rows) && lack_twins(alloc, rows)? && have_subjects(alloc, rows)?)
 }
 
 /// Whether the number of rows, the base and the first rows are right.

@@ -1,7 +1,7 @@
 use Rattle.std.proofs.Common.{◌∙◌, sym}
 use Rattle.std.proofs.lemmas.Result.{IfOk-weaker}
 use Rattle.pod_rows.specs.Pod.{Pod}
-use Rattle.pod_rows.proofs.Tests.{in_order_sound, in_order_complete, right_rows, right_pod, related_rows, well_formed_from}
+use Rattle.pod_rows.proofs.Tests.{in_order_sound, in_order_complete, right_paths, right_rows, right_pod, related_rows, well_formed_from}
 use Rattle.pod_rows.proofs.well_formed.is_well_formed.Goals as goal
 
 pub returns-then-not-are_in_order-clause-complete : goal.returns-then-not-are_in_order-clause-complete
@@ -20,7 +20,10 @@ returns-then-not-is_pod_right-clause-complete c =
     λ w. sym (sym c.is_pod_right.ensures ∙ c.if-not-is_pod_right.true) ∙ right_pod _ w
 
 pub are_rows_related-requires : goal.are_rows_related-requires
-are_rows_related-requires c = in_order_sound c.args.rows.now (sym c.are_in_order.ensures ∙ c.if-not-are_in_order.false)
+are_rows_related-requires c = record {
+  order = in_order_sound c.args.rows.now (sym c.are_in_order.ensures ∙ c.if-not-are_in_order.false);
+  paths = right_paths c.args.rows.now (sym c.are_rows_right.ensures ∙ c.if-not-are_rows_right.false);
+}
 
 pub returns-clause-sound : goal.returns-clause-sound
 returns-clause-sound c =
