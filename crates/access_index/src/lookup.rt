@@ -6,12 +6,12 @@ ghost use Rattle.access_index.specs.Listing.{is_listed};
 ghost use Rattle.access_index.specs.Tables.{AreInOrder, keys, container_entry, first_entry};
 ghost use Rattle.access_index.specs.Tables.{resolve};
 
-use crate::reach::about;
 use crate::resolved::{Resolved, SharedResolved};
 use crate::table::{Entry, entry_at};
 use acl_rules::How;
 use pod_base::Mem;
 use pod_path::Path;
+use pod_rows::about;
 use std::alloc::Global;
 
 /// The entry of a text, where the text is a container.

@@ -1,39 +1,11 @@
 //! Which paths a change of access lists reaches.
-ghost use Rattle.std.specs.Prelude.{◌≡◌, ◌++◌, List, ℕ, IfSome, IfNone, option_copied};
+ghost use Rattle.std.specs.Prelude.{◌≡◌};
 ghost use Rattle.pod_path.specs.Hierarchy.{subject_of};
 ghost use Rattle.pod_rows.specs.Access.{about};
 ghost use Rattle.access_index.specs.Reach.{is_within, is_reached};
 
 use pod_path::Path;
-
-/// The text before `end`, where the text ends in it.
-fn strip_end<'a>(text: &'a str, end: &str) -> Option<&'a str>
-    ensures some { IfSome (option_copied result) (λ prefix. text.entry.now ≡ prefix ++ end.now) }
-    ensures none { IfNone (option_copied result) ((prefix : List ℕ)
-        → text.entry.now ≡ prefix ++ end.now → ⊥) }
-{
-    text.strip_suffix(end)
-}
-
-/// The text of what an access list or a description is about.
-fn subject_text(path: &str) -> Option<&str>
-    ensures { option_copied result ≡ subject_of path.entry.now }
-{
-    match strip_end(path, ".acl") {
-        Some(subject) => Some(subject),
-        None => strip_end(path, ".meta"),
-    }
-}
-
-/// What an access list or a description is about, and any other path itself.
-pub(crate) fn about(path: &str) -> &str
-    ensures { result.now ≡ about path.entry.now (subject_of path.entry.now) }
-{
-    match subject_text(path) {
-        Some(subject) => subject,
-        None => path,
-    }
-}
+use pod_rows::about;
 
 /// Whether the path is the other one, or below it.
 fn is_within(path: &[u8], other: &[u8]) -> bool

@@ -3,6 +3,7 @@ pub mod Placing
 pub mod Resolution
 pub mod Listing
 pub mod Marking
+pub mod Walking
 pub mod Freeing
 pub mod Trees
 pub mod Assembled

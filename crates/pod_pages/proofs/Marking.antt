@@ -1,17 +1,18 @@
 -- Items while they are marked anew.
-use Rattle.std.proofs.Common.{◌≡◌, ◌||◌, ◌+◌, ◌<◌, ℕ, Bool, true, false, cond, List, [], ◌∷◌, ◌++◌, length, take, get_or, filter, map, Option, Some, None, refl, sym, ap, ◌∙◌, subst, arith, inl, inr, ◌⊎◌, ⊎_elim}
+use Rattle.std.proofs.Common.{◌≡◌, ◌||◌, ◌+◌, ◌<◌, ℕ, Bool, true, false, cond, List, [], ◌∷◌, ◌++◌, length, take, get_or, Some, None, refl, sym, ap, ◌∙◌, subst, inl, inr, ◌⊎◌, ⊎_elim}
 use Rattle.std.specs.Prelude.{is_some, bytes_eq, nat_eq}
 use Rattle.std.specs.List.{list_any, starts_with}
 use Rattle.std.proofs.lemmas.Bool.{true≢false, false≢true, or_parts}
 use Rattle.std.proofs.lemmas.List.{take_more}
+use Rattle.std.proofs.lemmas.Slice.Eq.{bytes_eq-Decides}
 use Rattle.pod_rows.specs.Pod.{is_row}
 use Rattle.row_pages.specs.Items.{Placed, AreItemsInOrder, item_at, items_below, put_item, rows_of}
-use Rattle.pod_pages.specs.Marks.{mark, path_mark}
+use Rattle.pod_pages.specs.Marks.{mark, path_mark, with_mark}
 use Rattle.pod_pages.specs.Numbering.{AreMarked, HaveMarks, IsMarked, is_below}
 use Rattle.pod_pages.specs.declared.numbers.Mark.{Mark}
-use Rattle.pod_pages.proofs.Found.{find_kept}
-use Rattle.pod_pages.proofs.Listing.{path_of, remarked}
-use Rattle.pod_pages.proofs.Placing.{found_is}
+use Rattle.pod_pages.proofs.Found.{find_kept, found_path}
+use Rattle.pod_pages.proofs.Listing.{path_of, remarked, remarked_beside, remarked_found, remarked_rows}
+use Rattle.pod_pages.proofs.Placing.{found_is, put_again}
 
 abbrev pub Tests : Type 0
 Tests = List ℕ → Bool
@@ -36,58 +37,59 @@ none_done numbers = record { rows = refl; marks = λ p i e. inr (refl, e) }
 pub marks_shared : (numbers : List Placed) (done : Tests) (items items' : List Placed) → items' ≡ items → AreMarked numbers done items → AreMarked numbers done items'
 marks_shared numbers done items items' e a = subst (AreMarked numbers done) (sym e) a
 
--- a path without an item
-pub marked_none : (numbers : List Placed) (done : Tests) (items items' : List Placed) (path : List ℕ) → item_at numbers path ≡ None → items' ≡ items → AreMarked numbers done items
-    → AreMarked numbers (λ p. bytes_eq path p || done p) items'
-marked_none numbers done items items' path none e a =
-    subst (AreMarked numbers (λ p. bytes_eq path p || done p)) (sym e)
-    (fewer_items numbers done (λ p. bytes_eq path p || done p) items (λ p i k d. by_test p i k d (bytes_eq path p) refl) a)
+-- one more path is done, where the item there is marked and the others stay
+marked_here : (numbers : List Placed) (done : Tests) (items items' : List Placed) (path : List ℕ) → rows_of items' ≡ rows_of items
+    → ((p : List ℕ) → bytes_eq path p ≡ false → item_at items' p ≡ item_at items p) → ((x : Placed) → item_at items' path ≡ Some x → IsMarked numbers path x)
+    → AreMarked numbers done items → AreMarked numbers (λ p. bytes_eq path p || done p) items'
+marked_here numbers done items items' path same others here a = record { rows = same ∙ a.rows; marks = λ p x f. by_test p x f (bytes_eq path p) refl }
   where
-    by_test : (p : List ℕ) (i : Placed) → item_at numbers p ≡ Some i → done p ≡ false → (t : Bool) → bytes_eq path p ≡ t → (t || done p) ≡ false
-    by_test p i k d true h =
-        let both : None ≡ Some i = sym none ∙ ap (item_at numbers) ((Rattle.std.proofs.lemmas.Slice.Eq.bytes_eq-Decides path p).0 h) ∙ k in
-        absurd cc
-    by_test p i k d false h = d
+    by_test : (p : List ℕ) (x : Placed) → item_at items' p ≡ Some x → (t : Bool) → bytes_eq path p ≡ t → IsMarked numbers p x ⊎ (((t || done p) ≡ false) × (item_at numbers p ≡ Some x))
+    by_test p x f true h =
+        let is : path ≡ p = (bytes_eq-Decides path p).0 h in
+        inl (subst (λ (q : List ℕ). IsMarked numbers q x) is (here x (ap (item_at items') is ∙ f)))
+    by_test p x f false h = a.marks p x (sym (others p h) ∙ f)
+
+-- a path without an item
+pub marked_none : (numbers : List Placed) (done : Tests) (items items' : List Placed) (path : List ℕ) → item_at items path ≡ None → items' ≡ items → AreMarked numbers done items
+    → AreMarked numbers (λ p. bytes_eq path p || done p) items'
+marked_none numbers done items items' path none is a = marked_here numbers done items items' path (ap rows_of is) (λ p h. ap (λ (xs : List Placed). item_at xs p) is) none_here a
+  where
+    none_here : (x : Placed) → item_at items' path ≡ Some x → IsMarked numbers path x
+    none_here x f = let both : None ≡ Some x = sym none ∙ ap (λ (xs : List Placed). item_at xs path) (sym is) ∙ f in absurd cc
 
 -- a path without a mark is that of no row
-pub marked_lost : (numbers : List Placed) (path : List ℕ) (i : Placed) → HaveMarks numbers → item_at numbers path ≡ Some i → path_mark numbers path ≡ None → ⊥
-marked_lost numbers path i have e none = false≢true (sym (ap is_some none) ∙ have path (sym (found_is numbers path) ∙ ap is_some e))
+pub marked_lost : (numbers items : List Placed) (path : List ℕ) (i : Placed) → HaveMarks numbers → rows_of items ≡ rows_of numbers → item_at items path ≡ Some i → path_mark numbers path ≡ None → ⊥
+marked_lost numbers items path i have same e none =
+    false≢true (sym (ap is_some none) ∙ have path (ap (λ rs. is_row rs path) (sym same) ∙ sym (found_is items path) ∙ ap is_some e))
 
-pub marked_new : (numbers : List Placed) (done : Tests) (items items' : List Placed) (path : List ℕ) (i : Placed) (m : Mark) → AreItemsInOrder items → item_at numbers path ≡ Some i
+-- an item that has the mark already is put as it is
+pub put_has : (items : List Placed) (i : Placed) (m : Mark) → AreItemsInOrder items → item_at items i.row.path ≡ Some i → mark i.list i.own ≡ m → items ≡ put_item items (with_mark i (Some m))
+put_has items i m o e has = sym (put_again items i o e) ∙ ap (λ (y : Mark). put_item items (with_mark i (Some y))) has
+
+-- an item is found at its path
+pub found_self : (items : List Placed) (path : List ℕ) (i : Placed) → item_at items path ≡ Some i → item_at items i.row.path ≡ Some i
+found_self items path i e = ap (item_at items) (found_path path_of items path i e) ∙ e
+
+-- an item with a mark
+pub marked_new : (numbers : List Placed) (done : Tests) (items items' : List Placed) (path : List ℕ) (i : Placed) (m : Mark) → AreItemsInOrder items → item_at items path ≡ Some i
     → path_mark numbers path ≡ Some m → items' ≡ put_item items (remarked i m.list m.own) → AreMarked numbers done items → AreMarked numbers (λ p. bytes_eq path p || done p) items'
 marked_new numbers done items items' path i m o e k new a =
-    subst (AreMarked numbers (λ p. bytes_eq path p || done p)) (sym new)
-    (record {
-      rows = rows_put_same ∙ a.rows;
-      marks = λ p x f. by_test p x (sym (found p) ∙ f) (bytes_eq path p) refl;
-    })
+    marked_here numbers done items items' path
+    (ap rows_of new ∙ remarked_rows items path i m.list m.own o e)
+    (λ p h. ap (λ (xs : List Placed). item_at xs p) new ∙ remarked_beside items path i m.list m.own p e h)
+    new_here a
   where
-    is_path : i.row.path ≡ path
-    is_path = Rattle.pod_pages.proofs.Found.found_path path_of numbers path i e
+    found : item_at items' path ≡ Some (remarked i m.list m.own)
+    found =
+        ap (λ (xs : List Placed). item_at xs path) new
+        ∙ remarked_found items path i m.list m.own path e
+        ∙ ap (λ (t : Bool). cond t (Some (remarked i m.list m.own)) (item_at items path)) ((bytes_eq-Decides path path).1 refl)
 
-    rows_put_same : rows_of (put_item items (remarked i m.list m.own)) ≡ rows_of items
-    rows_put_same =
-        Rattle.pod_pages.proofs.Placing.rows_put items (remarked i m.list m.own)
-        ∙ Rattle.pod_pages.proofs.Placing.put_same (rows_of items) i.row (Rattle.pod_pages.proofs.Placing.rows_order items o)
-        (ap (Rattle.pod_rows.specs.Pod.row_at (rows_of items)) is_path
-        ∙ ap (λ rs. Rattle.pod_rows.specs.Pod.row_at rs path) a.rows
-        ∙ sym (Rattle.pod_pages.proofs.Placing.found_rows numbers path)
-        ∙ ap (Rattle.std.proofs.Common.option_map Rattle.pod_pages.proofs.Placing.row_of) e)
-
-    found : (p : List ℕ) → item_at (put_item items (remarked i m.list m.own)) p ≡ cond (bytes_eq path p) (Some (remarked i m.list m.own)) (item_at items p)
-    found p =
-        Rattle.pod_pages.proofs.Found.put_found path_of items (remarked i m.list m.own) p
-        ∙ ap (λ (q : List ℕ). cond (bytes_eq q p) (Some (remarked i m.list m.own)) (item_at items p)) is_path
-
-    by_test : (p : List ℕ) (x : Placed) → cond (bytes_eq path p) (Some (remarked i m.list m.own)) (item_at items p) ≡ Some x → (t : Bool) → bytes_eq path p ≡ t
-        → IsMarked numbers p x ⊎ (((bytes_eq path p || done p) ≡ false) × (item_at numbers p ≡ Some x))
-    by_test p x f true h =
-        let both : Some (remarked i m.list m.own) ≡ Some x = sym (ap (λ (t : Bool). cond t (Some (remarked i m.list m.own)) (item_at items p)) h) ∙ f in
+    new_here : (x : Placed) → item_at items' path ≡ Some x → IsMarked numbers path x
+    new_here x f =
+        let both : Some (remarked i m.list m.own) ≡ Some x = sym found ∙ f in
         let one : remarked i m.list m.own ≡ x = cc in
-        inl (ap (path_mark numbers) (sym ((Rattle.std.proofs.lemmas.Slice.Eq.bytes_eq-Decides path p).0 h)) ∙ k ∙ ap (λ (y : Placed). Some (mark y.list y.own)) one)
-    by_test p x f false h =
-        ⊎_elim (λ z. inl z) (λ z. inr (ap (λ (t : Bool). t || done p) h ∙ z.0, z.1))
-        (a.marks p x (sym (ap (λ (t : Bool). cond t (Some (remarked i m.list m.own)) (item_at items p)) h) ∙ f))
+        k ∙ ap (λ (y : Placed). Some (mark y.list y.own)) one
 
 -- ---- one more of a list
 

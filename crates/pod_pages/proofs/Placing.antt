@@ -132,14 +132,14 @@ put_same (x ∷ xs) r o h = by_order (bytes_cmp x.path r.path) refl (λ k. put_s
 
 -- ---- each item is found at its path
 
-abbrev FoundIn : List Placed → Placed → Type 0
+abbrev pub FoundIn : List Placed → Placed → Type 0
 FoundIn items i = item_at items i.row.path ≡ Some i
 
 lift : (x : Placed) (xs ys : List Placed) → AreAfter x.row.path ys → AllByRecursion (FoundIn xs) ys → AllByRecursion (FoundIn (x ∷ xs)) ys
 lift x xs [] a h = tt
 lift x xs (y ∷ ys) a h = (ap (λ b. cond b (Some x) (item_at xs y.row.path)) (less_same y.row.path x.row.path a.0) ∙ h.0, lift x xs ys a.1 h.1)
 
-self_found : (items : List Placed) → AreItemsInOrder items → AllByRecursion (FoundIn items) items
+pub self_found : (items : List Placed) → AreItemsInOrder items → AllByRecursion (FoundIn items) items
 self_found [] o = tt
 self_found (i ∷ is) o = (
   ap (λ b. cond b (Some i) (item_at is i.row.path)) (itself i.row.path),
@@ -154,6 +154,17 @@ all_same old (i ∷ is) h =
 
 pub marked_itself : (items : List Placed) → AreItemsInOrder items → AreMarkedBy items items
 marked_itself items o = all_same items items (self_found items o)
+
+-- an item that is there already
+pub put_again : (items : List Placed) (i : Placed) → AreItemsInOrder items → item_at items i.row.path ≡ Some i → put_item items i ≡ items
+put_again items i o e =
+    let f = placed_by items in
+    let is : f i.row ≡ i = ap (λ (x : Option Placed). record { row = i.row; list = list_if x; own = own_mark_if x }) e in
+    let row : row_at (rows_of items) i.row.path ≡ Some i.row = sym (found_rows items i.row.path) ∙ ap (option_map row_of) e in
+    ap (put_item items) (sym is)
+    ∙ marked_put items items i.row (marked_itself items o)
+    ∙ ap (map f) (rows_put items (f i.row) ∙ put_same (rows_of items) i.row (rows_order items o) row)
+    ∙ sym (marked_itself items o)
 
 -- ---- the row of an item that is found
 

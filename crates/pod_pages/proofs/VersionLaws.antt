@@ -36,6 +36,7 @@ use Rattle.pod_pages.proofs.Placing.{map_filter, row_of}
 use Rattle.pod_pages.proofs.Readiness.{ready_after, ready_first}
 use Rattle.pod_pages.proofs.Resolution.{resolve, resolved_has, resolved_lists}
 use Rattle.pod_pages.proofs.Trees.{tree}
+use Rattle.pod_pages.proofs.Walking.{below_all}
 
 -- ---- states with equal parts
 
@@ -129,12 +130,8 @@ always_walked pod items places path w same r h e =
 all_begin : (paths : List ℕ) → starts_with nat_eq paths [] ≡ true
 all_begin paths = refl
 
-keep_all : (items : List Placed) → items_below items [] ≡ items
-keep_all [] = refl
-keep_all (i ∷ is) = ap (λ (xs : List Placed). i ∷ xs) (keep_all is)
-
 pub rows_below_all : (items : List Placed) → rows_of (items_below items []) ≡ rows_of items
-rows_below_all items = ap rows_of (keep_all items)
+rows_below_all items = ap rows_of (below_all items)
 
 parent_is : (container : List ℕ) (o : Option (List ℕ)) → is_the_path container o ≡ true → o ≡ Some container
 parent_is container None h = absurd (false≢true h)
@@ -256,6 +253,11 @@ after_state state entry items now next oldest base owner kept effects a same mos
 
     recent : nat_le oldest_now entry.seq ≡ true
     recent = Rattle.std.proofs.lemmas.Bool.le-leb oldest_now entry.seq (omega (arith, a.number, oldest_most state.oldest state.next most))
+
+-- other effects
+pub kept_with : (next : ℕ) (base owner : List ℕ) (items : List Placed) (effects others : List Effect) (oldest : ℕ) (places : Places) → IsVersion (state_of next base owner items effects oldest) items places
+    → IsVersion (state_of next base owner items others oldest) items places
+kept_with next base owner items effects others oldest places k = record { number = k.number; well_formed = k.well_formed; resolved = k.resolved; kept = k.kept }
 
 -- ---- all of an entry
 

@@ -24,6 +24,15 @@ first_state snapshot = record {
   oldest = snapshot.seq;
 }
 
+-- The version with these effects.
+abbrev pub with_effects : List Effect → VersionState → VersionState
+with_effects effects version = record {
+  pod = version.pod;
+  next = version.next;
+  effects = effects;
+  oldest = version.oldest;
+}
+
 -- The version after an entry: the pod after it, and its effects with those before it that are
 -- recent enough.
 abbrev pub state_after : VersionState → Entry → VersionState

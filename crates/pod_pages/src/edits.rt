@@ -1,9 +1,8 @@
 //! What edits make of rows in pages. The new rows keep the marks that their paths had.
 ghost use Rattle.std.specs.Prelude.{◌≡◌, ◌++◌, IfOk, IsSome, option_copied, Some};
 ghost use Rattle.std.specs.List.{flat_map};
-ghost use Rattle.pod_rows.specs.Apply.{after_edits, changed_row, edited, put_row, remove_row};
-ghost use Rattle.pod_rows.specs.Apply.{change_found, touch_found, remove_found, with_moment};
-ghost use Rattle.pod_rows.specs.GraphSets.{changed_graph};
+ghost use Rattle.pod_rows.specs.Apply.{after_edits, edited, put_row, remove_row};
+ghost use Rattle.pod_rows.specs.Apply.{change_found, touch_found, remove_found};
 ghost use Rattle.pod_rows.specs.Pod.{row_at};
 ghost use Rattle.row_pages.specs.Items.{rows_of};
 ghost use Rattle.pod_pages.specs.Edited.{AreMarkedBy, AreMarkedIf, placed_by, rows_if};
@@ -11,58 +10,12 @@ ghost use Rattle.pod_pages.specs.Effects.{effects_of};
 
 use crate::effects::{Effect, effect_of};
 use pod_base::{Mem, Moment};
-use pod_command::{Content, Edit, Row};
+use pod_command::{Edit, Row};
 use pod_path::Path;
-use rdf_graph::{Change, Graph, changed};
+use pod_rows::{changed_row, with_moment};
+use rdf_graph::Change;
 use row_pages::{Item, Rows};
 use std::alloc::Global;
-
-/// The graph after a change.
-fn changed_graph(alloc: Global, graph: &Graph, change: &Change) -> Mem<Graph>
-    ensures { IfOk result (λ new. new
-        ≡ changed_graph graph.now change.now.removed change.now.added) }
-{
-    let _old = graph.as_slice();
-    let _added = change.added.as_slice();
-    let new = changed(alloc, graph, change)?;
-    let _new = new.as_slice();
-    Ok(new)
-}
-
-/// The row with its graph changed; none where it has no graph, or lacks a removed triple.
-fn changed_row(alloc: Global, row: &Row, change: &Change, modified: Moment) -> Mem<Option<Row>>
-    ensures { IfOk result (λ new. new
-        ≡ changed_row change.now modified row.now row.now.content) }
-{
-    let Content::Graph(graph) = &row.content else {
-        return Ok(None);
-    };
-    if !change.fits(graph) {
-        return Ok(None);
-    }
-    let path = row.path.copy(alloc)?;
-    let graph = changed_graph(alloc, graph, change)?;
-    Ok(Some(Row {
-        path,
-        kind: row.kind,
-        content: Content::Graph(graph),
-        modified,
-    }))
-}
-
-/// The row with this moment.
-fn with_moment(alloc: Global, row: &Row, modified: Moment) -> Mem<Row>
-    ensures { IfOk result (λ new. new ≡ with_moment row.now modified) }
-{
-    let path = row.path.copy(alloc)?;
-    let content = row.content.copy(alloc)?;
-    Ok(Row {
-        path,
-        kind: row.kind,
-        content,
-        modified,
-    })
-}
 
 /// The row at a path.
 pub(crate) fn row_at<'a>(rows: &'a Rows, path: &Path) -> Option<&'a Row>

@@ -105,3 +105,10 @@ pub(crate) fn kept_effects(alloc: Global, effects: &[Effect], oldest: u64) -> Me
     }
     Ok(kept)
 }
+
+/// Drops the effects of the entries before a number. None is copied.
+pub(crate) fn drop_old(effects: &mut Vec<Effect>, oldest: u64)
+    ensures { effects.new.items ≡ kept_effects oldest effects.old.items }
+{
+    effects.retain(|effect| oldest <= effect.seq);
+}

@@ -10,7 +10,8 @@
 //! Contracts see a version as its pod, the number of its next change, and the effects that it
 //! keeps; they say nothing of pages. Proved: `of` refuses exactly the snapshots that aren't
 //! well-formed (`refused`, `well_formed`); a version has all that a [`pod_rows::PodState`] has;
-//! `after` is the version after an entry (`Version::after_entry`); `find_counted` finds the row and
+//! `after` is the version after an entry (`Version::after_entry`, and of a version that isn't needed
+//! any more `Version::into_after`); `find_counted` finds the row and
 //! the access list that governs it, and reads at most 16 paths more than the number of rows has
 //! binary digits (`cost`); a copy is equal (`Version::share`). [`laws`] says what a version is
 //! after a history. No clause says which memory is shared.
@@ -24,6 +25,7 @@ mod effects;
 pub mod laws;
 mod limits;
 mod lists;
+mod mark_all;
 mod numbers;
 mod relist;
 mod remark;

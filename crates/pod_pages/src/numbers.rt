@@ -1,13 +1,13 @@
 //! Which list governs a path, by the marks of rows: a row with a list of its own has its number.
-ghost use Rattle.std.specs.Prelude.{◌≡◌, ◌++◌, ℕ, List, IfSome, IfNone, option_copied};
-ghost use Rattle.pod_path.specs.Hierarchy.{is_container, subject_of};
-ghost use Rattle.pod_rows.specs.Access.{about};
+ghost use Rattle.std.specs.Prelude.{◌≡◌, option_copied};
+ghost use Rattle.pod_path.specs.Hierarchy.{is_container};
 ghost use Rattle.pod_rows.specs.Tree.{ancestors};
 ghost use Rattle.pod_pages.specs.Marks.{container_number, first_number, mark_by, own_of};
-ghost use Rattle.pod_pages.specs.Marks.{own_number};
+ghost use Rattle.pod_pages.specs.Marks.{number_within, own_number};
 ghost use Rattle.pod_pages.specs.Marks.{path_mark, text_mark};
 
 use pod_path::Path;
+use pod_rows::about;
 use row_pages::{Item, Rows};
 
 /// The number of the list that governs a path, and whether it is the path's own.
@@ -18,7 +18,7 @@ pub(crate) struct Mark {
 }
 
 /// The number of an item's list, where it is the item's own.
-fn own_of(item: Option<&Item>) -> Option<u32>
+pub(crate) fn own_of(item: Option<&Item>) -> Option<u32>
     ensures { result ≡ own_of (option_copied item.entry) }
 {
     match item {
@@ -66,8 +66,18 @@ fn number_above(rows: &Rows, path: &[u8]) -> Option<u32>
     None
 }
 
+/// The number of the list of a container, or else that of its nearest ancestor that has one.
+pub(crate) fn number_within(rows: &Rows, container: &[u8]) -> Option<u32>
+    ensures { result ≡ number_within rows.now container.now }
+{
+    match own_number(rows, container) {
+        Some(list) => Some(list),
+        None => number_above(rows, container),
+    }
+}
+
 /// What the own number makes of a path, or else the one above.
-fn mark_by(own: Option<u32>, above: Option<u32>) -> Option<Mark>
+pub(crate) fn mark_by(own: Option<u32>, above: Option<u32>) -> Option<Mark>
     ensures { result ≡ mark_by own above }
 {
     match own {
@@ -95,33 +105,4 @@ pub(crate) fn path_mark(rows: &Rows, path: &Path) -> Option<Mark>
     ensures { result ≡ path_mark rows.now path.now }
 {
     text_mark(rows, about(path.as_str()).as_bytes())
-}
-
-/// The text before `end`, where the text ends in it.
-fn strip_end<'a>(text: &'a str, end: &str) -> Option<&'a str>
-    ensures some { IfSome (option_copied result) (λ prefix. text.entry.now ≡ prefix ++ end.now) }
-    ensures none { IfNone (option_copied result) ((prefix : List ℕ)
-        → text.entry.now ≡ prefix ++ end.now → ⊥) }
-{
-    text.strip_suffix(end)
-}
-
-/// The text of what an access list or a description is about.
-fn subject_text(path: &str) -> Option<&str>
-    ensures { option_copied result ≡ subject_of path.entry.now }
-{
-    match strip_end(path, ".acl") {
-        Some(subject) => Some(subject),
-        None => strip_end(path, ".meta"),
-    }
-}
-
-/// What an access list or a description is about, and any other path itself.
-fn about(path: &str) -> &str
-    ensures { result.now ≡ about path.entry.now (subject_of path.entry.now) }
-{
-    match subject_text(path) {
-        Some(subject) => subject,
-        None => path,
-    }
 }

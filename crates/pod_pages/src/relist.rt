@@ -17,7 +17,8 @@ ghost use Rattle.pod_pages.specs.Numbering.{changed_of, is_changed, is_freed, is
 ghost use Rattle.pod_pages.specs.Numbering.{list_rules, rules_found, rules_if};
 
 use crate::lists::{AccessList, Place, SharedList, free_list, free_number, set_list};
-use crate::numbers::own_number;
+use crate::numbers::{Mark, own_number};
+use crate::remark::put_marked;
 use acl_rules::{Items, Rules, rules_of};
 use iri_ref::Iri;
 use pod_base::{Mem, NoMemory};
@@ -127,8 +128,11 @@ fn with_list(
             let at = subject.copy(alloc)?;
             let list = SharedList::new(alloc, AccessList { at, rules })?;
             set_list(places, number as usize, list)?;
-            let marked = item.governed_by(number, true)?;
-            let next = rows.put(alloc, &marked)?;
+            let mark = Mark {
+                list: number,
+                own: true,
+            };
+            let next = put_marked(alloc, rows, item, mark)?;
             Ok(next)
         }
         None => {
@@ -151,8 +155,11 @@ fn without_list(alloc: Global, rows: &Rows, subject: &Path) -> Mem<Rows>
     rows.are_in_order();
     match rows.find(subject.as_str().as_bytes()) {
         Some(item) => {
-            let marked = item.governed_by(item.list(), false)?;
-            let next = rows.put(alloc, &marked)?;
+            let mark = Mark {
+                list: item.list(),
+                own: false,
+            };
+            let next = put_marked(alloc, rows, item, mark)?;
             Ok(next)
         }
         None => {

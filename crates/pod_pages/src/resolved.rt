@@ -7,6 +7,7 @@ ghost use Rattle.pod_pages.specs.Numbering.{AreMarked, ArePlain, AreReady, AreRe
 ghost use Rattle.pod_pages.specs.Numbering.{is_below};
 
 use crate::lists::ListTable;
+use crate::mark_all::{is_most, marked_whole};
 use crate::relist::{changed_subjects, free_gone, list_subjects, numbered};
 use crate::remark::{marked_below, marked_paths};
 use iri_ref::Iri;
@@ -34,6 +35,10 @@ fn marked(
         (λ p. is_below changed.now p || (is_listed subjects.now p
         || (is_listed touched.now p || false))) new) }
 {
+    if is_most(touched.len(), numbers.len()) {
+        let whole = marked_whole(alloc, numbers)?;
+        return Ok(whole);
+    }
     let first = marked_paths(alloc, numbers, numbers, touched)?;
     let second = marked_paths(alloc, numbers, &first, subjects)?;
     let third = marked_below(alloc, numbers, &second, changed)?;

@@ -1,32 +1,36 @@
 //! [`Version`]: a state of a pod in pages that versions share.
 ghost use Rattle.std.specs.Prelude.{◌≡◌, ◌+◌, ◌<◌, ◌≤◌, ◌^◌, ℕ, [], IfOk, IfNone, IfSome, IsErrOf};
-ghost use Rattle.std.specs.Prelude.{IsTrue, None, Some, filter, is_some, length, map, refl, true};
+ghost use Rattle.std.specs.Prelude.{List as ListOf, None, Some, filter, is_some, length, map, refl, true};
 ghost use Rattle.pod_command.specs.Encodable.{AreInOrder};
 ghost use Rattle.pod_command.specs.declared.row.Row.{Row};
 ghost use Rattle.pod_rows.specs.Access.{effective_of, governed, rules_at};
 ghost use Rattle.pod_rows.specs.Apply.{Applies};
-ghost use Rattle.pod_rows.specs.Members.{is_member_at, states_member};
+ghost use Rattle.pod_rows.specs.Members.{is_member_at};
 ghost use Rattle.pod_rows.specs.Pod.{is_row, row_at};
 ghost use Rattle.pod_rows.specs.Tree.{is_child_of};
 ghost use Rattle.pod_rows.specs.WellFormed.{IsWellFormedSnapshot, pod_of};
 ghost use Rattle.row_pages.specs.Items.{Placed, rows_of};
 ghost use Rattle.pod_pages.specs.Lists.{list_at};
 ghost use Rattle.pod_pages.specs.Marks.{how_of};
-ghost use Rattle.pod_pages.specs.State.{first_state, state_after};
+ghost use Rattle.pod_pages.specs.Effects.{kept_effects, oldest_after};
+ghost use Rattle.pod_pages.specs.State.{first_state, state_after, with_effects};
 ghost use Rattle.pod_pages.specs.Versions.{path_of_edit, unmarked};
+ghost use Rattle.pod_pages.specs.declared.effects.Effect.{Effect as EffectValue};
 
 use crate::edits::{after_edits, row_at};
-use crate::effects::{Effect, is_row, kept_effects, oldest_after};
+use crate::effects::{Effect, drop_old, is_row, kept_effects, oldest_after};
 use crate::lists::ListTable;
 use crate::numbers::path_mark;
 use crate::resolved::marked_again;
-use acl_rules::vocabulary::VCARD_HAS_MEMBER;
 use acl_rules::{Groups, How};
 use iri_ref::Iri;
-use pod_base::{List, Mem, NoMemory, Text};
-use pod_command::{Content, Edit, Entry, Kind, Row, Snapshot};
+use pod_base::{List, Mem, Text};
+use pod_command::{Edit, Entry, Row, Snapshot};
 use pod_path::{Path, Taken};
-use pod_rows::{Effective, PodState, StateFault, is_well_formed};
+use pod_rows::{
+    Effective, PodState, StateFault, is_child_of, is_snapshot_well_formed, states_member,
+};
+use rdf_graph::copy_iri;
 use row_pages::{Item, Rows, Steps};
 use std::alloc::Global;
 use std::marker::Model;
@@ -166,32 +170,6 @@ fn first_version(alloc: Global, snapshot: &Snapshot) -> Mem<Version>
     })
 }
 
-/// Whether the snapshot is well-formed.
-fn is_snapshot_well_formed(alloc: Global, snapshot: &Snapshot) -> Mem<bool>
-    ensures sound { IfOk result (λ r. IsTrue r → IsWellFormedSnapshot snapshot.now) }
-    ensures complete { IfOk result (λ r. IsWellFormedSnapshot snapshot.now → IsTrue r) }
-{
-    if snapshot.seq > 1 << 63 {
-        return Ok(false);
-    }
-    is_well_formed(
-        alloc,
-        &snapshot.base,
-        &snapshot.owner,
-        snapshot.rows.as_slice(),
-    )
-}
-
-/// An equal IRI.
-fn copy_iri(alloc: Global, iri: &Iri) -> Mem<Iri>
-    ensures { IfOk result (λ copy. copy ≡ iri.now) }
-{
-    match iri.copy(alloc) {
-        Ok(copy) => Ok(copy),
-        Err(_) => Err(NoMemory),
-    }
-}
-
 /// The rows without marks.
 fn first_rows(alloc: Global, rows: &[Row]) -> Mem<Rows>
     requires { AreInOrder rows.now }
@@ -271,19 +249,6 @@ fn access(table: &ListTable, number: u32, own: bool) -> Effective<'_>
     }
 }
 
-/// Whether the row is a child of the container.
-fn is_child_of(alloc: Global, container: &Path, row: &Row) -> Mem<bool>
-    ensures { IfOk result (λ r. r ≡ is_child_of container.now row.now) }
-{
-    if row.path.is_acl() || row.path.is_meta() {
-        return Ok(false);
-    }
-    match row.path.parent(alloc)? {
-        Some(parent) => Ok(parent.as_str() == container.as_str()),
-        None => Ok(false),
-    }
-}
-
 /// The paths of a container's children among items, in their order.
 fn children_among(alloc: Global, items: &[Item], container: &Path) -> Mem<Vec<Path>>
     ensures { IfOk result (λ paths. paths.items
@@ -310,19 +275,6 @@ fn copy_rows(alloc: Global, items: &[Item]) -> Mem<Vec<Row>>
         rows.push(row)?;
     }
     Ok(rows)
-}
-
-/// Whether a document of RDF states that the agent is a member of the group.
-fn states_member(group: &str, agent: &str, row: &Row) -> bool
-    ensures { result ≡ states_member group.now agent.now row.now.kind row.now.content }
-{
-    match row.kind {
-        Kind::Graph => match &row.content {
-            Content::Graph(graph) => graph.has_iris(group, VCARD_HAS_MEMBER, agent),
-            Content::Bytes { ctype: _, bytes: _ } => false,
-        },
-        Kind::Container | Kind::Acl | Kind::Bytes | Kind::Meta => false,
-    }
 }
 
 impl Taken for Version {
@@ -415,10 +367,56 @@ impl Version {
         requires { Applies self.now.pod self.now.next entry.now }
         ensures { IfOk result (λ version. version ≡ state_after self.now entry.now) }
     {
-        let next = self.next + 1;
-        let oldest = oldest_after(self.oldest, next);
+        let oldest = oldest_after(self.oldest, self.next + 1);
+        let kept = kept_effects(alloc, self.effects.as_slice(), oldest)?;
+        self.after_with(alloc, entry, oldest, kept)
+    }
+
+    /// [`Version::after_entry`] of a version that nobody needs any more: its effects aren't copied.
+    pub fn into_after(self, alloc: Global, entry: &Entry) -> Mem<Version>
+        requires { Applies self.pod self.next entry.now }
+        ensures { IfOk result (λ version. version ≡ state_after self entry.now) }
+    {
+        let oldest = oldest_after(self.oldest, self.next + 1);
+        let (bare, mut kept) = self.into_bare(alloc);
+        drop_old(&mut kept, oldest);
+        bare.after_with(alloc, entry, oldest, kept)
+    }
+
+    /// The version without its effects, and these.
+    fn into_bare(self, alloc: Global) -> (Version, Vec<Effect>)
+        ensures bare { result.0 ≡ with_effects [] self }
+        ensures effects { result.1.items ≡ self.effects }
+    {
+        let bare = Version {
+            next: self.next,
+            base: self.base,
+            owner: self.owner,
+            rows: self.rows,
+            table: self.table,
+            effects: Vec::new(alloc),
+            oldest: self.oldest,
+        };
+        (bare, self.effects)
+    }
+
+    /// The version after an entry that applies. What is kept of the effects before it is given.
+    fn after_with(
+        &self,
+        alloc: Global,
+        entry: &Entry,
+        oldest: u64,
+        kept: Vec<Effect>,
+    ) -> Mem<Version>
+        requires applies { Applies self.now.pod self.now.next entry.now }
+        requires oldest { oldest ≡ oldest_after self.now.oldest (self.now.next + 1) }
+        requires kept { (before : ListOf EffectValue) × (kept.items ≡ kept_effects oldest before) }
+        ensures { IfOk result (λ version. (before : ListOf EffectValue)
+            → kept.items ≡ kept_effects oldest before
+            → version ≡ state_after (with_effects before self.now) entry.now) }
+    {
         let edits = entry.edits.as_slice();
-        let mut effects = kept_effects(alloc, self.effects.as_slice(), oldest)?;
+        let mut effects = kept;
         let after = after_edits(alloc, entry.seq, &self.rows, edits, &mut effects)?;
         match after {
             Some(rows) => {
@@ -434,7 +432,7 @@ impl Version {
                 let base = copy_iri(alloc, &self.base)?;
                 let owner = self.owner.copy(alloc)?;
                 Ok(Version {
-                    next,
+                    next: self.next + 1,
                     base,
                     owner,
                     rows: resolved.rows,

@@ -1,12 +1,15 @@
 use Rattle.std.proofs.Common.{rules, ◌||◌, take, subst, List}
-use Rattle.std.specs.Prelude.{bytes_eq}
+use Rattle.std.specs.Prelude.{bytes_eq, is_some}
 use Rattle.std.specs.List.{list_any}
-use Rattle.row_pages.specs.Items.{Placed}
+use Rattle.row_pages.specs.Items.{Placed, item_at}
 use Rattle.pod_pages.specs.Numbering.{AreMarked}
 use Rattle.pod_pages.proofs.Marking.{items_step, marks_shared, marked_found}
 use Rattle.std.proofs.Common.{arith}
 use Rattle.std.proofs.lemmas.List.{take_all}
 use Rattle.pod_pages.proofs.remark.marked_items.Goals as goal
+
+pub returns-then-is_most : goal.returns-then-is_most
+returns-then-is_most c = λ done have a. c.in_ok-whole.ensures (λ p. is_some (item_at c.args.items.now p) || done p) have
 
 pub loop-item-init : goal.loop-item-init
 loop-item-init c = λ done have a. marks_shared c.args.numbers.now done c.args.rows.now c.in_ok-now.now c.in_ok-now.ensures a
