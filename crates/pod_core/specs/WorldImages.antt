@@ -17,7 +17,7 @@ start_snapshot history = record {
   seq = history.start;
   base = history.first.base;
   owner = history.first.owner;
-  rows = listed history.first.rows 0;
+  rows = listed (history.first.rows) 0;
 }
 
 -- the records of a history in format 2: its first pod and its entries
