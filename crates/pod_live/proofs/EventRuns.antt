@@ -1,13 +1,13 @@
 -- A commit as steps of a world.
-use Rattle.std.proofs.Common.{◌≡◌, ◌⊎◌, inl, inr, ℕ, true, false, IsTrue, List, [], ◌∷◌, ◌++◌, Option, Some, None, refl, sym, ap, subst}
+use Rattle.std.proofs.Common.{◌≡◌, inl, inr, ℕ, true, false, IsTrue, List, [], ◌∷◌, ◌++◌, Option, Some, None, refl, sym, ap, subst}
 use Rattle.pod_base.specs.declared.moment.Stamp.{Stamp}
 use Rattle.pod_base.specs.declared.request.Request.{Request}
 use Rattle.pod_base.specs.declared.response.Response.{Response}
 use Rattle.pod_command.specs.declared.entry.Entry.{Entry}
 use Rattle.pod_core.specs.History.{History, longer}
 use Rattle.pod_core.specs.KeeperSteps.{Holder, Phase, KeeperView, KeeperEvent, KeeperRun, TakesChange, IsReplyAtEnd, item_at_end, held_by, free, taken, written, opened, take, repair, body, gate}
-use Rattle.pod_live.specs.Commits.{FollowsReply, IsCommitted, IsCommitFaulted, IsLeftFaulted, IsLeftInDoubt}
-use Rattle.pod_live.specs.CommitEvents.{entry_in_doubt, view_of, StandsForView, events_done, events_failed, repairs, FailedStep, at_repair, at_body, at_gate, IsDoneByEvents, IsFailedByEvents}
+use Rattle.pod_live.specs.Commits.{FollowsReply, IsCommitted, IsCommitFaulted, IsLeftInDoubt}
+use Rattle.pod_live.specs.CommitEvents.{entry_in_doubt, view_of, StandsForView, events_done, events_failed, repairs, at_repair, at_body, at_gate, IsDoneByEvents, IsFailedByEvents}
 use Rattle.pod_live.specs.Kept.{Doubt, certain, entered, checkpointed, IsKept}
 use Rattle.pod_live.specs.KeeperState.{KeeperState}
 use Rattle.pod_reply.specs.Replies.{Reply}

@@ -91,8 +91,6 @@ impl<D: Disk> Keeper<D> {
             → IsKept D.image self.old history place doubt
             → IsFailedByEvents D.image self.new history doubt request.now
             (asked_view asked.now) stamp }
-
-        // The response can be written, and is no server error.
         ensures sent { IfOk result (λ done. IsSent done.response) }
         ensures status { IfOk result (λ done. IsNoFailure done.response.status) }
 

@@ -1,5 +1,5 @@
 -- How an opening fails.
-use Rattle.std.proofs.Common.{◌≡◌, ◌⊎◌, inl, inr, ◌+◌, ◌<◌, ◌^◌, ℕ, List, [], ◌∷◌, ◌++◌, length, Option, Some, None, Result, Ok, Err, IfOk, IfErr, refl, sym, ◌∙◌, ap, subst, arith, length-append}
+use Rattle.std.proofs.Common.{◌≡◌, inl, inr, ℕ, List, [], ◌∷◌, length, Option, Result, Ok, Err, IfOk, IfErr, refl, sym, ap, subst, arith, length-append}
 use Rattle.std.specs.List.{sum_by}
 use Rattle.std.proofs.lemmas.List.Sums.{sum_by-cons}
 use Rattle.journal_log.specs.CleanJournal.{IsClean}
@@ -14,7 +14,7 @@ use Rattle.journal_pair.specs.Causes.{IfBothVisible, HasStoreCause}
 use Rattle.journal_pair.specs.PairState.{PairState}
 use Rattle.journal_pair.specs.Stores.{StoreStands}
 use Rattle.pod_records.specs.OpenedStores.{HasPodCause, HasContentCause}
-use Rattle.pod_records.specs.PodStores.{BreaksAfter, gate_after}
+use Rattle.pod_records.specs.PodStores.{gate_after}
 
 -- the last gate of a journal is after all its records
 opened_len : (bodies : List (List ℕ)) → length (opened bodies) ≡ sum_by frame_len bodies

@@ -1,5 +1,5 @@
 -- One record more is read.
-use Rattle.std.proofs.Common.{◌≡◌, ◌⊎◌, inl, inr, ℕ, zero, suc, ◌+◌, List, [], ◌∷◌, ◌++◌, length, map, Option, Some, None, refl, sym, ap, subst, ◌∙◌, arith, rules, length-append}
+use Rattle.std.proofs.Common.{◌≡◌, inl, inr, ℕ, ◌+◌, List, [], ◌∷◌, ◌++◌, length, map, Option, Some, None, refl, sym, ap, subst, ◌∙◌, arith, rules, length-append}
 use Rattle.std.specs.List.{AllByRecursion}
 use Rattle.pod_base.specs.declared.moment.Moment.{Moment}
 use Rattle.pod_command.specs.StoredForms.{snapshot_bytes}
@@ -8,12 +8,12 @@ use Rattle.pod_command.specs.declared.snapshot.Snapshot.{Snapshot}
 use Rattle.pod_rows.specs.Apply.{Applies, AllApply, applied, replayed, after_edits, with_rows_if}
 use Rattle.pod_rows.specs.Pod.{Pod}
 use Rattle.pod_rows.specs.WellFormed.{pod_of}
-use Rattle.pod_records.specs.PodStores.{BreaksAfter, gate_after}
+use Rattle.pod_records.specs.PodStores.{BreaksAfter}
 use Rattle.pod_pages.specs.State.{VersionState, first_state, state_after, states_after}
 use Rattle.pod_pages.proofs.History.{pod_replayed, next_replayed}
 use Rattle.pod_records.specs.Readings.{IsReadTo, IsSnapshotOf, IsSnapshotRead, IsEntryOf, IsEntryRead, HasNoEntry}
-use Rattle.pod_records.specs.Records.{entry_text, last_after, Holds, IsEntryIn, IsReadable}
-use Rattle.pod_records.proofs.Entries.{replayed_more, last_more, apply_more, apply_split, all_more, all_split, map_more, EndsIn, ends_in}
+use Rattle.pod_records.specs.Records.{entry_text, Holds, IsEntryIn, IsReadable}
+use Rattle.pod_records.proofs.Entries.{replayed_more, last_more, apply_more, apply_split, all_more, all_split, map_more, ends_in}
 
 -- entries with the same edits make the same pod
 same_pod : (pod : Pod) (a b : Entry) → a.edits.items ≡ b.edits.items → applied pod a ≡ applied pod b
@@ -109,6 +109,16 @@ not_read format bodies text version last h none readable =
     let more = holds_more format (snapshot_bytes s) (map (entry_text format) es) text other others (subst (λ l. Holds format (l ++ text ∷ []) other others) h.holds.texts readable.2) in
     let front = h.only other more.front (subst (λ l. Holds format l other more.front) (sym h.holds.texts) more.holds) in
     none more.last more.is (subst (λ p. Applies p version.next more.last) front.0 (subst (λ n. Applies (replayed (pod_of other) more.front) n more.last) front.1 more.applies))
+
+-- an entry applies where one with the same number and edits does
+pub applies_alike : (pod : Pod) (next : ℕ) (entry other : Entry) → (other.seq ≡ entry.seq) × (other.edits.items ≡ entry.edits.items) → Applies pod next other → Applies pod next entry
+applies_alike pod next entry other same a = record {
+  number = sym same.0 ∙ a.number;
+  numbered = a.numbered;
+  rows = a.rows;
+  edits = ap (after_edits (Some pod.rows)) (sym same.1) ∙ a.edits;
+  well_formed = a.well_formed;
+}
 
 -- the first record is read
 pub read_first : (format : ℕ) (text : List ℕ) (version : VersionState) → IsSnapshotRead text version → IsReadTo format (text ∷ []) version None

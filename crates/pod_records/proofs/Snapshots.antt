@@ -1,5 +1,5 @@
 -- Well-formed snapshots have texts.
-use Rattle.std.proofs.Common.{◌≡◌, ◌&&◌, Bool, true, false, ℕ, List, [], ◌∷◌, Option, Some, None, IfSome, Result, Ok, Err, IfOk, map, refl, sym, ◌∙◌, ap}
+use Rattle.std.proofs.Common.{◌≡◌, true, false, ℕ, List, [], ◌∷◌, Option, Some, None, IfSome, Result, Ok, Err, IfOk, refl, sym, ◌∙◌, ap}
 use Rattle.std.specs.List.{AllByRecursion, list_all}
 use Rattle.std.proofs.lemmas.Bool.{and_parts, false≢true}
 use Rattle.pod_command.specs.Bare.{bare_snapshot}
@@ -16,7 +16,7 @@ use Rattle.pod_path.specs.Hierarchy.{is_container, is_acl, is_meta}
 use Rattle.pod_rows.specs.WellFormed.{IsWellFormedSnapshot, fits_kind, has_right_kind, is_document, pod_of}
 use Rattle.pod_pages.specs.State.{VersionState, first_state}
 use Rattle.pod_records.specs.Readings.{IsSnapshotRead}
-use Rattle.pod_records.specs.Records.{Holds, IsSnapshotText}
+use Rattle.pod_records.specs.Records.{IsSnapshotText}
 
 fits_content : (path : List ℕ) (kind : Kind) (content : Content) → fits_kind path kind content ≡ true → FitsKind kind content
 fits_content path kinds.Container (contents.Graph triples) e = tt

@@ -1,5 +1,5 @@
 -- What is known while the records of a journal are read.
-use Rattle.std.specs.Prelude.{◌≡◌, ℕ, ◌+◌, List, [], ◌∷◌, ◌++◌, length, Option, None}
+use Rattle.std.specs.Prelude.{◌≡◌, ℕ, ◌+◌, List, length, Option, None}
 use Rattle.pod_base.specs.declared.moment.Moment.{Moment}
 use Rattle.pod_command.specs.Storable.{IsStorableSnapshot}
 use Rattle.pod_command.specs.StoredForms.{snapshot_bytes}

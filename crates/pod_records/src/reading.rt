@@ -1,6 +1,6 @@
 //! Reading the records of a journal: each is decoded and applied once.
 ghost use Rattle.std.specs.Prelude.{◌≡◌, ◌+◌, ◌<◌, ◌^◌, ◌++◌, ◌∷◌, [], ◌⊎◌, List, ℕ, Option, Some, None};
-ghost use Rattle.std.specs.Prelude.{IfOk, IfErr, IfSome, OnOk, OnErr};
+ghost use Rattle.std.specs.Prelude.{IfOk, IfErr, IfSome};
 ghost use Rattle.pod_base.specs.declared.moment.Moment.{Moment as MomentValue};
 ghost use Rattle.journal_log.specs.Frames.{frame_len};
 ghost use Rattle.pod_command.specs.Storable.{IsStorable};
@@ -127,16 +127,16 @@ fn read_entry(alloc: Global, format: u8, text: &[u8]) -> Mem<Option<Entry>>
 }
 
 /// The version after an entry. None where the entry doesn't apply.
-fn version_after(alloc: Global, version: &Version, entry: &Entry) -> Mem<Option<Version>>
+fn version_after(alloc: Global, version: Version, entry: &Entry) -> Mem<Option<Version>>
     ensures applies { IfOk result (λ found. IfSome found
-        (λ _. Applies version.now.pod version.now.next entry.now)) }
+        (λ _. Applies version.pod version.next entry.now)) }
     ensures after { IfOk result
-        (λ found. IfSome found (λ after. after ≡ state_after version.now entry.now)) }
+        (λ found. IfSome found (λ after. after ≡ state_after version entry.now)) }
     ensures none { IfOk result (λ found. found ≡ None
-        → Applies version.now.pod version.now.next entry.now → ⊥) }
+        → Applies version.pod version.next entry.now → ⊥) }
 {
-    if fits(alloc, version, entry)? {
-        let after = version.after_entry(alloc, entry)?;
+    if fits(alloc, &version, entry)? {
+        let after = version.into_after(alloc, entry)?;
         Ok(Some(after))
     } else {
         Ok(None)
@@ -148,16 +148,16 @@ fn version_after(alloc: Global, version: &Version, entry: &Entry) -> Mem<Option<
 fn read_next(
     alloc: Global,
     format: u8,
-    version: &Version,
+    version: Version,
     text: &[u8],
 ) -> Mem<Option<(Version, Moment)>>
     requires { (format ≡ 1) ⊎ (format ≡ 2) }
     ensures some { IfOk result (λ found. IfSome found (λ next.
         (bodies : List (List ℕ)) (last : Option MomentValue)
-        → IsReadTo format bodies version.now last
+        → IsReadTo format bodies version last
         → IsReadTo format (bodies ++ text.now ∷ []) next.0 (Some next.1))) }
     ensures none { IfOk result (λ found. found ≡ None
-        → HasNoEntry format text.now version.now.pod version.now.next) }
+        → HasNoEntry format text.now version.pod version.next) }
 {
     match read_entry(alloc, format, text)? {
         Some(entry) => match version_after(alloc, version, &entry)? {
@@ -188,27 +188,27 @@ impl Reading {
         }
     }
 
-    /// Reads the next record.
-    fn read(&mut self, alloc: Global, format: u8, text: &[u8]) -> Result<(), RecordFault>
+    /// What it holds with the next record.
+    fn after(self, alloc: Global, format: u8, text: &[u8]) -> Result<Reading, RecordFault>
         requires format { (format ≡ 1) ⊎ (format ≡ 2) }
-        requires room { self.old.at + frame_len text.now < 2 ^ 64 }
-        ensures read { OnOk result ((bodies : List (List ℕ))
-            → IsReadTo format bodies self.old.version self.old.last
-            → IsReadTo format (bodies ++ text.now ∷ []) self.new.version self.new.last) }
-        ensures at { OnOk result (self.new.at ≡ self.old.at + frame_len text.now) }
+        requires room { self.at + frame_len text.now < 2 ^ 64 }
+        ensures read { IfOk result (λ next. (bodies : List (List ℕ))
+            → IsReadTo format bodies self.version self.last
+            → IsReadTo format (bodies ++ text.now ∷ []) next.version next.last) }
+        ensures at { IfOk result (λ next. next.at ≡ self.at + frame_len text.now) }
         ensures cause { IfErr result (λ fault. (bodies rest : List (List ℕ))
-            → IsReadTo format bodies self.old.version self.old.last
-            → self.old.at ≡ gate_after bodies
+            → IsReadTo format bodies self.version self.last
+            → self.at ≡ gate_after bodies
             → HasRecordCause format (bodies ++ text.now ∷ rest) fault) }
     {
-        match read_next(alloc, format, &self.version, text)? {
-            Some((version, moment)) => {
-                self.version = version;
-                self.last = Some(moment);
-                self.at += FRAME_LEN + text.len() as u64;
-                Ok(())
-            }
-            None => Err(RecordFault::Damaged { at: self.at }),
+        let at = self.at;
+        match read_next(alloc, format, self.version, text)? {
+            Some((version, moment)) => Ok(Reading {
+                version,
+                last: Some(moment),
+                at: at + FRAME_LEN + text.len() as u64,
+            }),
+            None => Err(RecordFault::Damaged { at }),
         }
     }
 }
@@ -233,7 +233,8 @@ pub fn read_records(
 {
     let mut reading = Reading::begin(alloc, snapshot)?;
     for record in entries {
-        reading.read(alloc, format, record.as_slice())?;
+        let next = reading.after(alloc, format, record.as_slice())?;
+        reading = next;
     }
     Ok(reading)
 }

@@ -1,4 +1,4 @@
-use Rattle.std.proofs.Common.{arith, ◌≡◌, ◌+◌}
+use Rattle.std.proofs.Common.{arith}
 use Rattle.journal_pair.specs.Causes.{IfBothVisible}
 use Rattle.journal_pair.specs.Stores.{StoreStands}
 use Rattle.pod_records.proofs.OpenCauses.{gate_within, if_ok_has, of_frames}

@@ -6,19 +6,19 @@ use Rattle.pod_records.proofs.reading.read_records.Goals as goal
 pub returns-in_err-reading-clause-cause : goal.returns-in_err-reading-clause-cause
 returns-in_err-reading-clause-cause c = search (rules, c.in_err-reading.ensures.cause c.args.format c.args.entries.now)
 
-pub read-requires-clause-room : goal.read-requires-clause-room
-read-requires-clause-room c = room_here c.args.snapshot.now c.args.entries.now c.loop-record.record-index c.record-item.result c.as_slice.result.now c.loop-record-test.true c.record-item.is c.as_slice.ensures c.loop-record.reading.at c.loop-record.invariant.at c.requires.room
+pub after-requires-clause-room : goal.after-requires-clause-room
+after-requires-clause-room c = room_here c.args.snapshot.now c.args.entries.now c.loop-record.record-index c.record-item.result c.as_slice.result.now c.loop-record-test.true c.record-item.is c.as_slice.ensures c.loop-record.reading.at c.loop-record.invariant.at c.requires.room
 
-pub returns-in_err-read-clause-cause : goal.returns-in_err-read-clause-cause
-returns-in_err-read-clause-cause c =
+pub returns-in_err-next-clause-cause : goal.returns-in_err-next-clause-cause
+returns-in_err-next-clause-cause c =
     let whole = split_here c.args.snapshot.now c.args.entries.now c.loop-record.record-index c.record-item.result c.as_slice.result.now c.loop-record-test.true c.record-item.is c.as_slice.ensures in
-    let cause = c.in_err-read.ensures.cause (c.args.snapshot.now ∷ take c.loop-record.record-index c.args.entries.now) (drop (c.loop-record.record-index + 1) c.args.entries.now) c.loop-record.invariant.read c.loop-record.invariant.at in
-    search (rules, subst (λ l. HasRecordCause c.args.format l c.in_err-read.field-0.0) (sym whole) cause)
+    let cause = c.in_err-next.ensures.cause (c.args.snapshot.now ∷ take c.loop-record.record-index c.args.entries.now) (drop (c.loop-record.record-index + 1) c.args.entries.now) c.loop-record.invariant.read c.loop-record.invariant.at in
+    search (rules, subst (λ l. HasRecordCause c.args.format l c.in_err-next.field-0.0) (sym whole) cause)
 
 pub loop-record-preserved : goal.loop-record-preserved
 loop-record-preserved c =
     let next = taken c.args.snapshot.now c.args.entries.now c.loop-record.record-index c.record-item.result c.as_slice.result.now c.loop-record-test.true c.record-item.is c.as_slice.ensures in record {
-      read = subst (λ l. IsReadTo c.args.format l c.read.new.self.version c.read.new.self.last) (sym next)
-          (c.in_ok-read.ensures.read (c.args.snapshot.now ∷ take c.loop-record.record-index c.args.entries.now) c.loop-record.invariant.read);
-      at = gate_next c.args.snapshot.now c.args.entries.now c.loop-record.record-index c.record-item.result c.as_slice.result.now c.loop-record-test.true c.record-item.is c.as_slice.ensures c.loop-record.reading.at c.read.new.self.at c.loop-record.invariant.at c.in_ok-read.ensures.at;
+      read = subst (λ l. IsReadTo c.args.format l c.in_ok-next.next.version c.in_ok-next.next.last) (sym next)
+          (c.in_ok-next.ensures.read (c.args.snapshot.now ∷ take c.loop-record.record-index c.args.entries.now) c.loop-record.invariant.read);
+      at = gate_next c.args.snapshot.now c.args.entries.now c.loop-record.record-index c.record-item.result c.as_slice.result.now c.loop-record-test.true c.record-item.is c.as_slice.ensures c.loop-record.reading.at c.in_ok-next.next.at c.loop-record.invariant.at c.in_ok-next.ensures.at;
     }
