@@ -9,8 +9,9 @@
 //!
 //! Each trait counts its faults, and a source its reads. A call fails only where the count of
 //! faults increased, and no count falls (`faults`, `reads`). Contracts see the bytes of objects in
-//! memory (`rest`, `taken`). Those of the host's objects they don't see: these are thin, and
-//! trusted.
+//! memory (`rest`, `taken`). What an object of the host takes or gives is what its writer takes or
+//! its reader gives, as far as that shows it (`written`, `given`). A terminal, a pipe and a socket
+//! show nothing, and are trusted.
 #![tactic(auto)]
 
 mod calls;
