@@ -26,4 +26,6 @@ pub use pod_pipe::Status;
 pub use podctl::run_podctl;
 
 #[cfg(test)]
+mod dialogue;
+#[cfg(test)]
 mod tests;

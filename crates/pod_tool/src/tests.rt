@@ -1,12 +1,14 @@
-//! Runs of which a call of the outside fails. All other runs are cases of `http_cases` and
-//! `run_cases`.
+//! Runs of which a call of the outside fails, and the order of reads and writes. All other runs are
+//! cases of `http_cases` and `tool_cases`.
 ghost use Rattle.std.specs.Prelude.{IfOk, IsSome};
 
 use super::*;
+use crate::dialogue::{Listener, Speaker};
 use pod_base::Mem;
 use pod_disk::{Disks, MemDisk, Place};
-use pod_io::{MemSink, MemSource, SetClock};
+use pod_io::{MemSink, MemSource, SetClock, Sink, Source, StdSink, StdSource};
 use std::alloc::Global;
+use std::cell::RefCell;
 use std::test::Fail;
 
 const PUT: &str =
@@ -39,31 +41,34 @@ fn empty_place(alloc: Global) -> Mem<Place<MemDisk, MemSource>>
     })
 }
 
-/// A run over a PUT and a GET in pieces of that size, whose reads and writes of those numbers fail.
-fn run(alloc: Global, piece: usize, failing_read: u64, failing_write: u64) -> Mem<Left> {
+/// The status of `pipe --fresh` over these streams.
+fn run<S: Source, K: Sink, E: Sink>(
+    alloc: Global,
+    input: &mut S,
+    output: &mut K,
+    errors: &mut E,
+) -> Mem<u8> {
     let mut words = Vec::new(alloc);
     for word in ["pipe", "--fresh", "https://alice.example/#me"] {
         words.push(String::from_str(alloc, word)?)?;
     }
+    let mut place = empty_place(alloc)?;
+    let mut clock = SetClock {
+        seconds: 784_111_777,
+    };
+    let Status(status) = run_podctl(alloc, &words, input, output, errors, &mut place, &mut clock);
+    Ok(status)
+}
+
+/// A run over a PUT and a GET in pieces of that size, whose reads and writes of those numbers fail.
+fn run_failing(alloc: Global, piece: usize, failing_read: u64, failing_write: u64) -> Mem<Left> {
     let mut bytes = Vec::new(alloc);
     bytes.extend_from_slice(PUT.as_bytes())?;
     bytes.extend_from_slice(GET.as_bytes())?;
     let mut input = MemSource::new(bytes, piece.max(1), vec![in alloc; failing_read]?);
     let mut output = MemSink::new(alloc, piece.max(1), vec![in alloc; failing_write]?);
     let mut errors = MemSink::new(alloc, piece.max(1), Vec::new(alloc));
-    let mut place = empty_place(alloc)?;
-    let mut clock = SetClock {
-        seconds: 784_111_777,
-    };
-    let Status(status) = run_podctl(
-        alloc,
-        &words,
-        &mut input,
-        &mut output,
-        &mut errors,
-        &mut place,
-        &mut clock,
-    );
+    let status = run(alloc, &mut input, &mut output, &mut errors)?;
     Ok(Left {
         status,
         output,
@@ -71,15 +76,40 @@ fn run(alloc: Global, piece: usize, failing_read: u64, failing_write: u64) -> Me
     })
 }
 
+/// The status of a run over a PUT and a GET. A read of the GET fails unless the answer to the PUT
+/// was written before. What the run writes is appended to `written`.
+fn run_dialogue(alloc: Global, written: &RefCell<Vec<u8>>) -> Mem<u8> {
+    let mut input = StdSource::new(Speaker {
+        first: PUT.as_bytes(),
+        second: GET.as_bytes(),
+        answer_len: CREATED.len(),
+        written,
+    });
+    let mut output = StdSink::new(Listener { written });
+    let mut errors = MemSink::new(alloc, 1_000, Vec::new(alloc));
+    run(alloc, &mut input, &mut output, &mut errors)
+}
+
 #[test]
 fn faults_have_their_statuses(rt: HostRuntime) -> Result<(), Fail> {
     let alloc = rt.alloc();
-    let read = run(alloc, PUT.len(), 2, 0)?;
+    let read = run_failing(alloc, PUT.len(), 2, 0)?;
     assert_eq!(rt; read.status, 3);
     assert_eq!(rt; read.output.taken(), CREATED.as_bytes());
     assert_eq!(rt; read.errors.taken(), b"".as_slice());
-    let write = run(alloc, 1_000, 0, 2)?;
+    let write = run_failing(alloc, 1_000, 0, 2)?;
     assert_eq!(rt; write.status, 4);
     assert_eq!(rt; write.output.taken(), CREATED.as_bytes());
+    Ok(())
+}
+
+#[test]
+fn each_piece_is_answered_before_the_next_is_read(rt: HostRuntime) -> Result<(), Fail> {
+    let alloc = rt.alloc();
+    let written = RefCell::new(Vec::new(alloc));
+    assert_eq!(rt; run_dialogue(alloc, &written)?, 0);
+    let written = written.into_inner();
+    assert!(rt; written.starts_with(CREATED.as_bytes()));
+    assert!(rt; written.ends_with(b"\r\n\r\nhello".as_slice()));
     Ok(())
 }
