@@ -8,6 +8,7 @@ use crate::populating::{document_count, make_snapshot};
 use crate::used::used_micros;
 use anyhow::bail;
 use pod_base::{Mem, Moment, Request, Response, Stamp};
+use pod_command::Snapshot;
 use pod_core::{Replied, answer};
 use pod_pages::{EFFECTS_ENTRIES_LIMIT, Version};
 use pod_rows::PodState;
@@ -46,18 +47,28 @@ fn take(alloc: Global, version: &Version, request: &Request) -> Mem<(Response, O
     }
 }
 
-/// A version of so many rows, after as many changes as versions keep the effects of.
-fn make_version(alloc: Global, rows: usize) -> anyhow::Result<Version> {
-    let snapshot = make_snapshot(alloc, rows)?;
-    let mut version = Version::of(alloc, &snapshot)?;
+/// The version after a PUT of a document.
+fn after_put(alloc: Global, version: &Version) -> anyhow::Result<Option<Version>> {
+    let request = make_request(alloc, Asking::Put, 0, b"")?;
+    let (_response, after) = take(alloc, version, &request)?;
+    Ok(after)
+}
+
+/// The version of a snapshot, after as many changes as versions keep the effects of.
+fn changed_version(alloc: Global, snapshot: &Snapshot) -> anyhow::Result<Version> {
+    let mut version = Version::of(alloc, snapshot)?;
     for _ in 0..EFFECTS_ENTRIES_LIMIT {
-        let request = make_request(alloc, Asking::Put, 0, b"")?;
-        let (_response, after) = take(alloc, &version, &request)?;
-        if let Some(after) = after {
+        if let Some(after) = after_put(alloc, &version)? {
             version = after;
         }
     }
     Ok(version)
+}
+
+/// A version of so many rows, after as many changes as versions keep the effects of.
+fn make_version(alloc: Global, rows: usize) -> anyhow::Result<Version> {
+    let snapshot = make_snapshot(alloc, rows)?;
+    changed_version(alloc, &snapshot)
 }
 
 /// The value of the tag that the replies about documents have.
@@ -156,6 +167,22 @@ fn answer_kind(
     Ok(())
 }
 
+/// Answers the requests of each kind so many times over a version.
+fn answer_kinds(
+    rt: &HostRuntime,
+    alloc: Global,
+    version: &Version,
+    rows: usize,
+    rounds: usize,
+    times: bool,
+) -> anyhow::Result<()> {
+    println!(rt; "a version of {} rows", version.count())?;
+    for number in 0..KINDS {
+        answer_kind(rt, alloc, version, Asking::of(number), rows, rounds, times)?;
+    }
+    Ok(())
+}
+
 /// Answers the requests of each kind so many times over a version of so many rows, and prints what
 /// the replies were, and the times if asked.
 pub fn answer_requests(
@@ -166,9 +193,5 @@ pub fn answer_requests(
     times: bool,
 ) -> anyhow::Result<()> {
     let version = make_version(alloc, rows)?;
-    println!(rt; "a version of {} rows", version.count())?;
-    for number in 0..KINDS {
-        answer_kind(rt, alloc, &version, Asking::of(number), rows, rounds, times)?;
-    }
-    Ok(())
+    answer_kinds(rt, alloc, &version, rows, rounds, times)
 }

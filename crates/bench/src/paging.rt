@@ -6,13 +6,16 @@ use crate::used::{memory, used_micros};
 use anyhow::bail;
 use entry_fits::fits;
 use pod_base::{Agent, List, Method, Moment};
-use pod_command::{Edit, Entry, Row};
+use pod_command::{Edit, Entry, Row, Snapshot};
 use pod_pages::Version;
 use pod_rows::PodState;
 use std::alloc::Global;
 
 /// How many searches there are for each PUT of a document.
 const SEARCHES: usize = 1_000;
+
+/// How many rows are searched again and again.
+const CHOSEN: usize = 64;
 
 /// How many PUTs of a document there are for each PUT of a list.
 const PUTS: usize = 100;
@@ -39,7 +42,8 @@ fn is_found(version: &Version, row: &Row) -> bool {
     version.find(&row.path).is_some() && !version.effective(&row.path).rules.list.is_empty()
 }
 
-/// Searches rows all over the pod, so many times in all, and returns how many were found.
+/// Searches these rows in turn, in steps of 7919 rows, so many times in all, and returns how many
+/// were found.
 fn count_found(version: &Version, rows: &[Row], times: usize) -> usize {
     let mut found: usize = 0;
     for number in 0..times {
@@ -50,6 +54,18 @@ fn count_found(version: &Version, rows: &[Row], times: usize) -> usize {
         }
     }
     found
+}
+
+/// Some rows of all, as far from each other as can be.
+fn choose_rows(alloc: Global, rows: &[Row]) -> anyhow::Result<Vec<Row>> {
+    let apart = (rows.len() / CHOSEN).max(1);
+    let mut chosen = Vec::new(alloc);
+    for number in 0..CHOSEN {
+        if let Some(row) = rows.get(number.saturating_mul(apart)) {
+            chosen.push(row.copy(alloc)?)?;
+        }
+    }
+    Ok(chosen)
 }
 
 /// Tests so many times whether an entry applies, and returns whether it did at last.
@@ -97,7 +113,8 @@ fn measure_entry(
     Ok(())
 }
 
-/// Searches a version so many times, and prints how often a row was found, and the time if asked.
+/// Searches a version for these rows so many times, and prints how often one was found, and the
+/// time if asked.
 fn measure_searches(
     rt: &HostRuntime,
     version: &Version,
@@ -108,15 +125,42 @@ fn measure_searches(
     let start = used_micros(rt)?;
     let found = count_found(version, rows, searches);
     let searched = used_micros(rt)?.saturating_sub(start);
-    println!(rt; "{} rows, {found} of {searches} found", version.count())?;
+    println!(rt; "{} rows, {found} of {searches} found", rows.len())?;
     if times {
         println!(rt; "searched in {searched} microseconds")?;
     }
     Ok(())
 }
 
-/// Searches a version, and makes those after a PUT of a document, so many times, and after a list
-/// above all documents.
+/// Searches a version so many times for some rows, and for all.
+fn search_version(
+    rt: &HostRuntime,
+    alloc: Global,
+    version: &Version,
+    rows: &[Row],
+    searches: usize,
+    times: bool,
+) -> anyhow::Result<()> {
+    let chosen = choose_rows(alloc, rows)?;
+    measure_searches(rt, version, chosen.as_slice(), searches, times)?;
+    measure_searches(rt, version, rows, searches, times)
+}
+
+/// Tests and applies the PUT of a row so many times.
+fn put_row(
+    rt: &HostRuntime,
+    alloc: Global,
+    version: &Version,
+    row: Row,
+    rounds: usize,
+    times: bool,
+) -> anyhow::Result<()> {
+    let entry = make_entry(alloc, version, row)?;
+    measure_entry(rt, alloc, version, &entry, rounds, times)
+}
+
+/// Searches a version, for some rows and for all, and makes those after a PUT of a document, so many
+/// times, and after a list above all documents.
 fn use_version(
     rt: &HostRuntime,
     alloc: Global,
@@ -125,11 +169,52 @@ fn use_version(
     rounds: usize,
     times: bool,
 ) -> anyhow::Result<()> {
-    measure_searches(rt, version, rows, rounds.saturating_mul(SEARCHES), times)?;
-    let entry = make_entry(alloc, version, make_document(alloc, 1)?)?;
-    measure_entry(rt, alloc, version, &entry, rounds, times)?;
-    let entry = make_entry(alloc, version, make_list_above(alloc)?)?;
-    measure_entry(rt, alloc, version, &entry, rounds.div_ceil(PUTS), times)
+    search_version(
+        rt,
+        alloc,
+        version,
+        rows,
+        rounds.saturating_mul(SEARCHES),
+        times,
+    )?;
+    put_row(rt, alloc, version, make_document(alloc, 1)?, rounds, times)?;
+    let list = make_list_above(alloc)?;
+    put_row(rt, alloc, version, list, rounds.div_ceil(PUTS), times)
+}
+
+/// Prints the memory that rows and their version take, and how long it took to make the version.
+fn print_made(
+    rt: &HostRuntime,
+    count: usize,
+    before: u64,
+    filled: u64,
+    start: u128,
+) -> anyhow::Result<()> {
+    let made = used_micros(rt)?.saturating_sub(start);
+    let rows = filled.saturating_sub(before);
+    let pages = memory(rt)?.saturating_sub(filled);
+    println!(rt; "{count} rows take {rows} KiB, their version {pages} KiB more")?;
+    println!(rt; "made in {made} microseconds")?;
+    Ok(())
+}
+
+/// Makes the version of a snapshot, which took memory from that `before` on, and uses it.
+fn lay_snapshot(
+    rt: &HostRuntime,
+    alloc: Global,
+    snapshot: &Snapshot,
+    before: u64,
+    rounds: usize,
+    times: bool,
+) -> anyhow::Result<()> {
+    let rows = snapshot.rows.as_slice();
+    let filled = memory(rt)?;
+    let start = used_micros(rt)?;
+    let version = Version::of(alloc, snapshot)?;
+    if times {
+        print_made(rt, rows.len(), before, filled, start)?;
+    }
+    use_version(rt, alloc, &version, rows, rounds, times)
 }
 
 /// Makes the version of a pod of so many rows, and uses it.
@@ -142,15 +227,5 @@ pub fn lay_pages(
 ) -> anyhow::Result<()> {
     let before = memory(rt)?;
     let snapshot = make_snapshot(alloc, count)?;
-    let filled = memory(rt)?;
-    let start = used_micros(rt)?;
-    let version = Version::of(alloc, &snapshot)?;
-    let made = used_micros(rt)?.saturating_sub(start);
-    if times {
-        let rows = filled.saturating_sub(before);
-        let pages = memory(rt)?.saturating_sub(filled);
-        println!(rt; "{count} rows take {rows} KiB, their version {pages} KiB more")?;
-        println!(rt; "made in {made} microseconds")?;
-    }
-    use_version(rt, alloc, &version, snapshot.rows.as_slice(), rounds, times)
+    lay_snapshot(rt, alloc, &snapshot, before, rounds, times)
 }

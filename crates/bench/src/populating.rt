@@ -174,18 +174,39 @@ fn make_member(alloc: Global, number: usize) -> anyhow::Result<Row> {
     make_document(alloc, number.saturating_sub(container).saturating_sub(1))
 }
 
+/// The row of the root's list.
+fn make_root_list(alloc: Global) -> anyhow::Result<Row> {
+    let list = Content::Graph(make_list(alloc, BASE)?);
+    make_row(alloc, "/.acl", Kind::Acl, list)
+}
+
+/// The row of the graph.
+fn make_graph_row(alloc: Global) -> anyhow::Result<Row> {
+    let graph = Content::Graph(make_graph(alloc)?);
+    make_row(alloc, GRAPH, Kind::Graph, graph)
+}
+
+/// Appends a row.
+fn push_row(rows: &mut Vec<Row>, row: Row) -> anyhow::Result<()> {
+    rows.push(row)?;
+    Ok(())
+}
+
+/// Appends so many rows, in the order of their paths.
+fn push_rows(alloc: Global, rows: &mut Vec<Row>, count: usize) -> anyhow::Result<()> {
+    push_row(rows, make_container(alloc, "/")?)?;
+    push_row(rows, make_root_list(alloc)?)?;
+    push_row(rows, make_container(alloc, DOCUMENTS)?)?;
+    for number in 0..count.saturating_sub(OTHER_ROWS) {
+        push_row(rows, make_member(alloc, number)?)?;
+    }
+    push_row(rows, make_graph_row(alloc)?)
+}
+
 /// So many rows, in the order of their paths.
 fn make_rows(alloc: Global, count: usize) -> anyhow::Result<List<Row>> {
-    let list = Content::Graph(make_list(alloc, BASE)?);
-    let graph = Content::Graph(make_graph(alloc)?);
     let mut rows = Vec::new(alloc);
-    rows.push(make_container(alloc, "/")?)?;
-    rows.push(make_row(alloc, "/.acl", Kind::Acl, list)?)?;
-    rows.push(make_container(alloc, DOCUMENTS)?)?;
-    for number in 0..count.saturating_sub(OTHER_ROWS) {
-        rows.push(make_member(alloc, number)?)?;
-    }
-    rows.push(make_row(alloc, GRAPH, Kind::Graph, graph)?)?;
+    push_rows(alloc, &mut rows, count)?;
     Ok(List::from_vec(rows))
 }
 

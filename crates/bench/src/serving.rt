@@ -57,6 +57,26 @@ fn empty_place(alloc: Global) -> Mem<Place<MemDisk, MemSource>>
     })
 }
 
+/// Serves the input as a connection of a pod in memory, and returns the status.
+fn run_pipe(alloc: Global, input: &mut MemSource, output: &mut MemSink) -> Mem<u8> {
+    let words = make_words(alloc)?;
+    let mut place = empty_place(alloc)?;
+    let mut errors = MemSink::new(alloc, usize::MAX, Vec::new(alloc));
+    let mut clock = SetClock {
+        seconds: 784_111_777,
+    };
+    let Status(status) = run_podctl(
+        alloc,
+        &words,
+        input,
+        output,
+        &mut errors,
+        &mut place,
+        &mut clock,
+    );
+    Ok(status)
+}
+
 /// Serves so many requests in pieces of so many bytes, and prints the length of the responses, and
 /// the time if asked.
 pub fn serve_stream(
@@ -66,24 +86,10 @@ pub fn serve_stream(
     piece: usize,
     times: bool,
 ) -> anyhow::Result<()> {
-    let words = make_words(alloc)?;
     let mut input = MemSource::new(make_stream(alloc, count)?, piece.max(1), Vec::new(alloc));
     let mut output = MemSink::new(alloc, usize::MAX, Vec::new(alloc));
-    let mut errors = MemSink::new(alloc, usize::MAX, Vec::new(alloc));
-    let mut place = empty_place(alloc)?;
-    let mut clock = SetClock {
-        seconds: 784_111_777,
-    };
     let start = Instant::now(rt)?;
-    let Status(status) = run_podctl(
-        alloc,
-        &words,
-        &mut input,
-        &mut output,
-        &mut errors,
-        &mut place,
-        &mut clock,
-    );
+    let status = run_pipe(alloc, &mut input, &mut output)?;
     let took = start.elapsed(rt)?.as_micros();
     if status != 0 {
         bail!("status {status}");

@@ -10,12 +10,14 @@ use pod_disk::{Disk, Disks, FileDisk};
 use pod_io::Failed;
 use pod_rows::PodState;
 use std::alloc::Global;
-use std::fs;
 use std::time::Instant;
 use token_table::Asked;
 
 /// How many documents are put in turn.
 const DOCUMENTS: usize = 10;
+
+/// How many bytes of a file are read at a time.
+const PIECE_LEN: u64 = 65_536;
 
 /// How many bytes the record of a change has, with its length and its gate.
 const RECORD_LEN: usize = 524;
@@ -99,36 +101,89 @@ fn open(rt: &HostRuntime, alloc: Global) -> anyhow::Result<Held<FileDisk<HostRun
     }
 }
 
-/// Reads the first file of the store, and returns its length and the microseconds of processor time
-/// that it took.
-fn read_file(rt: &HostRuntime) -> anyhow::Result<(usize, u128)> {
-    let start = used_micros(rt)?;
-    let len = fs::read(rt, "store.a")?.len();
-    let took = used_micros(rt)?.saturating_sub(start);
+/// Reads a disk from its start to its end, in pieces, and returns how many bytes there are.
+fn read_whole(disk: &mut FileDisk<HostRuntime>) -> anyhow::Result<u64> {
+    let Ok(len) = disk.len() else {
+        bail!("no length");
+    };
+    let mut piece = [0u8; PIECE_LEN as usize];
+    for number in 0..len.div_ceil(PIECE_LEN) {
+        let at = number.saturating_mul(PIECE_LEN);
+        let count = len.saturating_sub(at).min(PIECE_LEN);
+        if disk.read(at, &mut piece[..count as usize]).is_err() {
+            bail!("no bytes");
+        }
+    }
+    Ok(len)
+}
+
+/// Reads the first file of the store as opening reads it, from the disk and not from the system's
+/// copies of its pages, and returns its length and the microseconds that it took.
+fn read_file(rt: &HostRuntime, alloc: Global) -> anyhow::Result<(u64, u128)> {
+    let mut disk = FileDisk::new(rt.clone()?, Text::of(alloc, "store.a")?);
+    let start = Instant::now(rt)?;
+    let len = read_whole(&mut disk)?;
+    let took = start.elapsed(rt)?.as_micros();
     Ok((len, took))
 }
 
-/// Opens the store, and prints how many rows it has and the number of its next entry, and if asked
-/// the processor time and the memory that it took, beside the time of reading the file.
+/// What was there before a store is opened.
+#[derive(Drop)]
+struct Before {
+    len: u64,
+    read: u128,
+    start: Instant,
+    used: u128,
+    memory: u64,
+}
+
+/// Reads the store's file, and looks at the clock and the memory.
+fn look_before(rt: &HostRuntime, alloc: Global) -> anyhow::Result<Before> {
+    let (len, read) = read_file(rt, alloc)?;
+    forget_peak(rt)?;
+    let memory = memory(rt)?;
+    let used = used_micros(rt)?;
+    let start = Instant::now(rt)?;
+    Ok(Before {
+        len,
+        read,
+        start,
+        used,
+        memory,
+    })
+}
+
+/// Prints how many rows a store has that was just opened, and the number of its next entry, and if
+/// asked the time and the memory that it took, beside the time of reading the file.
+fn print_opened(
+    rt: &HostRuntime,
+    held: &Held<FileDisk<HostRuntime>>,
+    before: &Before,
+    costs: bool,
+) -> anyhow::Result<()> {
+    let took = before.start.elapsed(rt)?.as_micros();
+    let used = used_micros(rt)?.saturating_sub(before.used);
+    let (rows, next) = (held.version().count(), held.seq());
+    println!(rt; "{rows} rows, next {next}, {} bytes", before.len)?;
+    if costs {
+        let most = peak_memory(rt)?.saturating_sub(before.memory);
+        let kept = memory(rt)?.saturating_sub(before.memory);
+        let read = before.read;
+        println!(rt; "opened in {took} microseconds, {used} of a processor, read in {read}")?;
+        println!(rt; "they take {kept} KiB, opening took at most {most} KiB")?;
+    }
+    Ok(())
+}
+
+/// Opens the store, and prints what it has, and what that took if asked.
 fn open_store(
     rt: &HostRuntime,
     alloc: Global,
     costs: bool,
 ) -> anyhow::Result<Held<FileDisk<HostRuntime>>> {
-    let (len, read) = read_file(rt)?;
-    forget_peak(rt)?;
-    let before = memory(rt)?;
-    let start = used_micros(rt)?;
+    let before = look_before(rt, alloc)?;
     let held = open(rt, alloc)?;
-    let took = used_micros(rt)?.saturating_sub(start);
-    let (rows, next) = (held.version().count(), held.seq());
-    println!(rt; "{rows} rows, next {next}, {len} bytes")?;
-    if costs {
-        let most = peak_memory(rt)?.saturating_sub(before);
-        let kept = memory(rt)?.saturating_sub(before);
-        println!(rt; "opened in {took} microseconds, read in {read}")?;
-        println!(rt; "they take {kept} KiB, opening took at most {most} KiB")?;
-    }
+    print_opened(rt, &held, &before, costs)?;
     Ok(held)
 }
 

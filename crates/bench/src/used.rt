@@ -25,15 +25,28 @@ pub fn forget_peak(rt: &HostRuntime) -> anyhow::Result<()> {
     Ok(())
 }
 
+/// The number after a name, where the line begins with the name.
+fn number_in(line: &str, name: &str) -> Option<u64> {
+    let value = line.strip_prefix(name)?;
+    let word = value.split_whitespace().next()?;
+    word.parse().ok()
+}
+
+/// The number in the first line that begins with the name.
+fn number_of(text: &str, name: &str) -> Option<u64> {
+    for line in text.lines() {
+        if let Some(number) = number_in(line, name) {
+            return Some(number);
+        }
+    }
+    None
+}
+
 /// The number of kibibytes in a line of the process's status (Linux, proc_pid_status).
 fn status(rt: &HostRuntime, name: &str) -> anyhow::Result<u64> {
     let text = fs::read_to_string(rt, "/proc/self/status")?;
-    for line in text.lines() {
-        if let Some(value) = line.strip_prefix(name) {
-            if let Some(Ok(number)) = value.split_whitespace().next().map(str::parse::<u64>) {
-                return Ok(number);
-            }
-        }
+    match number_of(text.as_str(), name) {
+        Some(number) => Ok(number),
+        None => bail!("the status of the process has no such number"),
     }
-    bail!("the status of the process has no such number")
 }
