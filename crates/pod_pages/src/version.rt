@@ -257,7 +257,7 @@ fn children_among(alloc: Global, items: &[Item], container: &Path) -> Mem<Vec<Pa
 {
     let mut paths = Vec::new(alloc);
     for item in items {
-        if is_child_of(alloc, container, item.row())? {
+        if is_child_of(container, item.row()) {
             let path = item.row().path.copy(alloc)?;
             paths.push(path)?;
         }

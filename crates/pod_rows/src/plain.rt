@@ -16,7 +16,7 @@ use acl_rules::{Groups, How};
 use iri_ref::Iri;
 use pod_base::{List, Mem, NoMemory, Text};
 use pod_command::{Content, Entry, Kind, Row, Snapshot};
-use pod_path::{Path, Taken};
+use pod_path::{Path, Taken, parent_text};
 use rdf_graph::copy_iri;
 use std::alloc::Global;
 use std::marker::Model;
@@ -128,17 +128,14 @@ pub fn is_snapshot_well_formed(alloc: Global, snapshot: &Snapshot) -> Mem<bool>
     )
 }
 
-/// Whether the row is a child of the container.
-pub fn is_child_of(alloc: Global, container: &Path, row: &Row) -> Mem<bool>
-    ensures { IfOk result (λ r. r ≡ is_child_of container.now row.now) }
+/// Whether the row is a child of the container. It takes no memory.
+pub fn is_child_of(container: &Path, row: &Row) -> bool
+    ensures { result ≡ is_child_of container.now row.now }
 {
-    if row.path.is_acl() || row.path.is_meta() {
-        return Ok(false);
+    if row.path.is_acl() || row.path.is_meta() || row.path.is_root() {
+        return false;
     }
-    match row.path.parent(alloc)? {
-        Some(parent) => Ok(parent.as_str() == container.as_str()),
-        None => Ok(false),
-    }
+    parent_text(row.path.as_str()) == container.as_str()
 }
 
 /// The paths of a container's children among the rows, in their order.
@@ -147,7 +144,7 @@ fn children_of(alloc: Global, rows: &[Row], container: &Path) -> Mem<Vec<Path>>
 {
     let mut paths = Vec::new(alloc);
     for row in rows {
-        if is_child_of(alloc, container, row)? {
+        if is_child_of(container, row) {
             let path = row.path.copy(alloc)?;
             paths.push(path)?;
         }

@@ -68,11 +68,11 @@ fn constant(alloc: Global, text: &str) -> Mem<Iri>
 }
 
 /// The triple of three IRIs.
-fn iri_triple(alloc: Global, subject: &Iri, property: &str, object: Iri) -> Mem<Triple>
+fn iri_triple(alloc: Global, subject: &Iri, property: &Iri, object: Iri) -> Mem<Triple>
     ensures { IfOk result (λ t. t ≡ iri_triple subject.now property.now object) }
 {
     let subject = copy_iri(alloc, subject)?;
-    let property = constant(alloc, property)?;
+    let property = copy_iri(alloc, property)?;
     Ok(Triple {
         s: Term::Iri(subject),
         p: Term::Iri(property),
@@ -86,7 +86,8 @@ fn with_type(alloc: Global, triples: Vec<Triple>, uri: &Iri, class: &str) -> Mem
         ≡ triples.items ++ iri_triple uri.now rdf_type class.now ∷ []) }
 {
     let class = constant(alloc, class)?;
-    let triple = iri_triple(alloc, uri, RDF_TYPE, class)?;
+    let property = constant(alloc, RDF_TYPE)?;
+    let triple = iri_triple(alloc, uri, &property, class)?;
     let mut all = triples;
     all.push(triple)?;
     Ok(all)
@@ -113,10 +114,11 @@ fn with_children(
     ensures { IfOk result (λ all. all.items
         ≡ triples.items ++ child_triples base.now uri.now children.now) }
 {
+    let contains = constant(alloc, LDP_CONTAINS)?;
     let mut all = triples;
     for child in children {
         let object = child.uri(alloc, base)?;
-        let triple = iri_triple(alloc, uri, LDP_CONTAINS, object)?;
+        let triple = iri_triple(alloc, uri, &contains, object)?;
         all.push(triple)?;
     }
     Ok(all)
