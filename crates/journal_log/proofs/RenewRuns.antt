@@ -1,12 +1,12 @@
 -- What the parts of a renewal leave.
 use Rattle.std.proofs.Common.{◌≡◌, ◌≢◌, inl, inr, ⊎_elim, ℕ, ◌+◌, ◌≤◌, ◌^◌, List, Option, [], ◌∷◌, ◌++◌, length, take, drop, get_or, min, ◌-◌, false, refl, sym, ◌∙◌, ap, subst, arith, append_assoc, length-append, take-append-drop}
-use Rattle.std.proofs.lemmas.List.{drop_at, drop_more, drop-drop, append-nil, length-take-le}
+use Rattle.std.proofs.lemmas.List.{drop_all, drop_at, drop_more, drop-drop, append-nil, length-take-le}
 use Rattle.pod_io.specs.Visible.{IfVisible}
 use Rattle.pod_disk.specs.Disk.{EachImage, Torn, LeavesOnly, overwritten}
 use Rattle.pod_disk.proofs.Moments.{both, weaker, joined, holds_now}
 use Rattle.pod_disk.proofs.TornWrites.{torn_inside}
 use Rattle.journal_log.specs.Frames.{framed_of}
-use Rattle.journal_log.specs.Heads.{encoded_head, IsKnownHead}
+use Rattle.journal_log.specs.Heads.{encoded_head, IsClosedHead, IsKnownHead}
 use Rattle.journal_log.specs.Gates.{IsFirstGateClosed, IsGated}
 use Rattle.journal_log.specs.Classes.{IsClosedImage}
 use Rattle.journal_log.specs.JournalState.{JournalState}
@@ -211,3 +211,9 @@ closed_from content epoch bytes c most is over =
       known = known_2 epoch most;
       closed = (begun.0, over.2 ∙ begun.1);
     }
+
+-- on an empty disk there is nothing else
+pub closed_alone : (content : Option (List ℕ)) (epoch : ℕ) (bytes c : List ℕ) → IfVisible content (λ b. b ≡ []) → bytes ≡ encoded_head 2 epoch ++ 0 ∷ [] → IsOverwritten content 0 bytes c → IsClosedHead epoch c
+closed_alone content epoch bytes c empty is (was, held, over) =
+    over ∙ ap (λ (l : List ℕ). overwritten 0 bytes l) (empty was held)
+    ∙ ap (λ (l : List ℕ). bytes ++ l) (drop_all (0 + length bytes) [] (omega arith)) ∙ append-nil bytes ∙ is

@@ -18,6 +18,10 @@ pub record IsKnownHead (format epoch : ℕ) : Type 0 where
   pub most : epoch ≤ EPOCH_LIMIT
   pub old : format ≡ 1 → epoch < EPOCH_LIMIT
 
+-- a head of format 2 with this epoch, a gate 0 after it, and nothing else
+abbrev pub IsClosedHead : ℕ → List ℕ → Type 0
+IsClosedHead epoch image = image ≡ encoded_head 2 epoch ++ 0 ∷ []
+
 -- the bytes don't begin with a right head
 abbrev pub NoHead : List ℕ → Type 0
 NoHead bytes = (format epoch : ℕ) (rest : List ℕ) → IsKnownHead format epoch

@@ -6,7 +6,7 @@ ghost use Rattle.pod_io.specs.Counts.{CountsFaults};
 ghost use Rattle.pod_io.specs.Visible.{IfVisible};
 ghost use Rattle.pod_disk.specs.Disk.{EachImage, LeavesOnly};
 ghost use Rattle.journal_log.specs.Frames.{framed_of};
-ghost use Rattle.journal_log.specs.Heads.{encoded_head};
+ghost use Rattle.journal_log.specs.Heads.{encoded_head, IsClosedHead};
 ghost use Rattle.journal_log.specs.Gates.{IsFirstGateClosed, IsGated};
 ghost use Rattle.journal_log.specs.Classes.{HasClass};
 ghost use Rattle.journal_log.specs.CleanJournal.{IsClean};
@@ -58,12 +58,14 @@ impl Journal {
     }
 
     /// Writes a head of format 2 with this epoch, which is at most 2^63, and a closed first gate to
-    /// an empty disk, and syncs. Such a disk has no records. A crash inside this call may leave
-    /// anything.
+    /// an empty disk, and syncs. The disk then holds these bytes alone, and has no records. A crash
+    /// inside this call may leave anything.
     pub fn init_closed<D: Disk>(disk: &mut D, epoch: u64) -> Result<(), DiskFault>
         requires empty { IfVisible (D.content disk.old) (λ b. b ≡ []) }
         requires most { epoch ≤ 2 ^ 63 }
         ensures closed { OnOk result (EachImage (D.image disk.new) (HasClass DiskClass.Closed)) }
+        ensures alone { OnOk result (EachImage (D.image disk.new) (IsClosedHead epoch)) }
+        ensures reads { OnOk result (IfVisible (D.content disk.new) (IsClosedHead epoch)) }
         ensures faults { CountsFaults result (D.faults disk.old) (D.faults disk.new) }
     {
         write_through(disk, 0, &head_and_gate(epoch, 0))?;

@@ -3,7 +3,8 @@
 ghost use Rattle.std.specs.Prelude.{◌≡◌, ◌⊎◌, ◌+◌, ◌≤◌, ◌^◌, ◌++◌, ◌∷◌, [], ◌||◌, List, ℕ, length};
 ghost use Rattle.std.specs.Prelude.{IfOk, OnOk, OnErr, IsTrue, true, false};
 ghost use Rattle.pod_io.specs.Visible.{IfVisible};
-ghost use Rattle.pod_disk.specs.Disk.{LeavesOnly};
+ghost use Rattle.pod_disk.specs.Disk.{EachImage, LeavesOnly};
+ghost use Rattle.journal_log.specs.Heads.{IsClosedHead};
 ghost use Rattle.journal_log.specs.Images.{IsEither};
 ghost use Rattle.journal_log.specs.Renewing.{IsNewJournal};
 ghost use Rattle.journal_pair.specs.Sides.{active_of, other_of};
@@ -53,8 +54,8 @@ impl Model for Pair {
 
 impl Pair {
     /// Begins a store on two empty disks: a journal of format 2 and epoch 1 with this snapshot on
-    /// the first, and a closed head of epoch 0 on the second. A crash inside this call may leave
-    /// anything.
+    /// the first, and on the second a head of format 2 and epoch 0 with a closed gate, and nothing
+    /// else. A crash inside this call may leave anything.
     pub fn init<D: Disk>(
         first: &mut D,
         second: &mut D,
@@ -66,6 +67,7 @@ impl Pair {
             (λ pair. IsPairClean D.image first.new second.new pair (snapshot.now ∷ [])) }
         ensures passed { IfOk result (λ pair. IsPassedBeside D.image first.new second.new pair) }
         ensures long { IfOk result (λ pair. IsLongBeside D.image first.new second.new pair) }
+        ensures second { OnOk result (EachImage (D.image second.new) (IsClosedHead 0)) }
         ensures active { IfOk result (λ pair. pair.active ≡ Side.First) }
         ensures format { IfOk result (λ pair. pair.journal.format ≡ 2) }
         ensures epoch { IfOk result (λ pair. pair.journal.epoch ≡ 1) }

@@ -1,4 +1,5 @@
 pub mod Disk
 pub mod NotedCalls
+pub mod Tears
 -- internal: cited by private clauses alone
 pub mod Laws

@@ -11,14 +11,15 @@ mod file_disk;
 mod lazy_file;
 mod mem_disk;
 mod place;
+mod tear;
 mod write;
 
 pub use call::{Call, NotedCall};
-pub use crash::Tear;
 pub use disk::{Disk, LENGTH_LIMIT};
 pub use file_disk::FileDisk;
 pub use mem_disk::MemDisk;
 pub use place::{Disks, Place};
+pub use tear::Tear;
 
 #[cfg(test)]
 mod tests;

@@ -12,10 +12,12 @@ ghost use Rattle.pod_disk.specs.Disk.{overwritten, Torn, TornCut, Unchanged, Pas
 ghost use Rattle.pod_disk.specs.NotedCalls.{noted_as, done_by, content_of, visible_content, Step};
 ghost use Rattle.pod_disk.specs.NotedCalls.{IsCrashImage, MayLeave, moment_of, LeftSince};
 ghost use Rattle.pod_disk.specs.NotedCalls.{MakesCall, LeavesContent};
+ghost use Rattle.pod_disk.specs.Tears.{crash_of};
 
 use crate::call::{Call, NotedCall};
-use crate::crash::{Tear, crashed};
+use crate::crash::crashed;
 use crate::disk::{Disk, LENGTH_LIMIT};
+use crate::tear::Tear;
 use crate::write::perform;
 use pod_base::{Bytes, Mem};
 use pod_io::{Calls, Failed};
@@ -109,6 +111,8 @@ impl MemDisk {
         ensures image { IfOk result
             (λ image. IsCrashImage self.now.first (take count self.now.noted) image.items) }
         ensures left { IfOk result (λ image. LeftSince self.now count image.items) }
+        ensures tears { IfOk result (λ image. image.items
+            ≡ crash_of self.now.first (take count self.now.noted) tears.now) }
     {
         crashed(alloc, &self.first, &self.noted[..count], tears)
     }
