@@ -6,3 +6,4 @@ pub mod Telling
 pub mod Taking
 pub mod Ending
 pub mod OneSpelled
+pub mod VariableLemmas

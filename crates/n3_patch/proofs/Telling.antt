@@ -1,4 +1,4 @@
--- Which fault is told, by what was read.
+-- Which fault is reported, by what was read.
 use Rattle.std.proofs.Common.{◌≡◌, ◌≢◌, ◌⊎◌, ℕ, ◌<◌, ◌≤◌, lit≤, List, ◌∷◌, ◌++◌, length, Option, Some, None, Result, Ok, Err}
 use Rattle.std.proofs.Common.{inl, inr, refl, sym, ap, ◌∙◌, subst, arith}
 use Rattle.std.proofs.lemmas.Bool.{cases_lt}
@@ -24,7 +24,7 @@ use Rattle.n3_patch.specs.declared.document.Document.{Document}
 use Rattle.n3_patch.specs.Faults.{IsFaultAt, HasFaultAt, HasNoFault, IsFirstFault}
 use Rattle.n3_patch.specs.Reading.{IsSoFar}
 
--- the first tokens and what a lexer says after them
+-- the first tokens and what a lexer returns after them
 pub first_of : (bytes : List ℕ) (base : List ℕ) (tokens : List Token) (at : ℕ) (d : Document) (next : Answer) → IsSoFar base bytes tokens at d
     → IsListedAnswer bytes at d.after_string next → AreFirst bytes tokens next
 first_of bytes base tokens at d next h (answer, answers, is) =
@@ -139,7 +139,7 @@ least_end base bytes tokens (Bad at Why.Depth) is = absurd is
 least_end base bytes tokens (TooLarge at) is = absurd is
 least_end base bytes tokens NoMemory is = absurd is
 
--- The fault of a lexer is told.
+-- The fault of a lexer is reported.
 module _ (base bytes : List ℕ) (tokens : List Token) (at : ℕ) (d : Document) (h : IsSoFar base bytes tokens at d) (next : Answer) (first : AreFirst bytes tokens next) where
   pub not_text : (place : ℕ) → next ≡ Err (lex.NotText place) → IsFirstFault base bytes (Bad place Why.NotText)
   not_text place is = told_here base bytes tokens at d h next first (Bad place Why.NotText)

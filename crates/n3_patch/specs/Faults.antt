@@ -1,4 +1,4 @@
--- Why a text spells no patch, and which fault is told.
+-- Why a text is not a patch document, and which fault is reported.
 --
 -- A fault of syntax has an index: the number of tokens before it. The least index is the least
 -- position.
@@ -36,14 +36,14 @@ abbrev pub HasNoFault : List ℕ → List ℕ → Type 0
 HasNoFault base bytes =
     (index : ℕ) (fault : TurtleFault) → HasFaultAt base bytes index fault → ⊥
 
--- The fault that is told: none has a lesser index, and none of this index a lesser rank.
+-- The fault that is reported: none has a lesser index, and none of this index a lesser rank.
 pub record IsFirstFault (base bytes : List ℕ) (fault : TurtleFault) : Type 0 where
   pub index : ℕ
   pub has : HasFaultAt base bytes index fault
   pub first : (other : ℕ) (one : TurtleFault) → HasFaultAt base bytes other one
       → (index < other) ⊎ ((index ≡ other) × (rank fault ≤ rank one))
 
--- a fault of syntax as it is told
+-- a fault of syntax as it is reported
 abbrev pub told_as : TurtleFault → N3Fault
 told_as (turtle.Bad at kind) = Syntax at
 told_as (turtle.TooLarge at) = Syntax at
@@ -54,8 +54,8 @@ pub record HasSyntax (base bytes : List ℕ) (triples : List PatchTriple) : Type
   pub spells : SpellsTriples base bytes triples
   pub sound : HasNoFault base bytes
 
--- Why the bytes spell no patch: the first fault of syntax, else the first broken rule, else their
--- size.
+-- Why the bytes parse to no patch: the first fault of syntax, else the first broken rule, else
+-- their size.
 abbrev pub IsN3Fault : List ℕ → List ℕ → N3Fault → Type 0
 IsN3Fault base bytes (Syntax at) =
     (fault : TurtleFault) × IsFirstFault base bytes fault × (told_as fault ≡ Syntax at)
@@ -75,7 +75,7 @@ abbrev pub IsPatchOrNoMemory : Result Patch N3Fault → Patch → Type 0
 IsPatchOrNoMemory (Ok found) patch = SamePatch found patch
 IsPatchOrNoMemory (Err fault) patch = fault ≡ NoMemory
 
--- Where the bytes spell a patch and no bracket is too deep, it is this patch, or out of memory.
+-- Where the bytes parse to a patch and no bracket is too deep, it is this patch, or out of memory.
 abbrev pub HasOnlyPatch : List ℕ → List ℕ → Result Patch N3Fault → Type 0
 HasOnlyPatch base bytes result = (patch : Patch) → PatchSpells base bytes patch
     → IsShallow base bytes → IsPatchOrNoMemory result patch

@@ -26,7 +26,7 @@ abbrev pub PatchBreaksNone : Type 0
 PatchBreaksNone = (triples : List PatchTriple) (patch : Patch) (broken : PatchRule)
     → IsJudged triples patch → IsFirstBroken triples broken → ⊥
 
--- A text spells at most one patch.
+-- A text parses to at most one patch.
 abbrev pub HasOneSpelledPatch : Type 0
 HasOneSpelledPatch = (base bytes : List ℕ) (a b : Patch) → PatchSpells base bytes a
     → PatchSpells base bytes b → SamePatch a b

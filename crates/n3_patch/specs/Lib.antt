@@ -8,3 +8,4 @@ pub mod Faults
 -- internal: cited by private clauses alone
 pub mod Progress
 pub mod Reading
+pub mod VariableNames

@@ -39,7 +39,7 @@ abbrev pub is_blank : PatchNode → Bool
 is_blank (Term t) = is_blank_term t
 is_blank node = false
 
--- whether a triple stands in a formula, and in the one of this `{`
+-- whether a triple is in a formula, and in the one of this `{`
 abbrev pub is_some_formula : Option ℕ → Bool
 is_some_formula None = false
 is_some_formula (Some i) = true

@@ -65,8 +65,8 @@ with_pattern patterns None = patterns
 with_pattern patterns (Some x) =
     if list_any (eq_by_cmp pattern_cmp x) patterns then patterns else patterns ++ x ∷ []
 
--- the patterns with those of the triples in this formula, each once, in the order in which they
--- stand
+-- the patterns with those of the triples in this formula, each once, in the order of
+-- their first occurrence
 abbrev pub with_formula : ℕ → List PatchTriple → List Pattern → List Pattern
 with_formula i [] patterns = patterns
 with_formula i (t ∷ triples) patterns = with_formula i triples

@@ -1,4 +1,4 @@
--- What the code keeps while it judges.
+-- Invariants of the code that judges the rules.
 use Rattle.std.specs.Prelude.{◌≡◌, ◌<◌, ◌≤◌, ℕ, List, length, Option, Some, if◌then◌else◌}
 use Rattle.std.specs.List.{list_any}
 use Rattle.std.specs.BTreeSet.{BTreeSet, contains}
@@ -47,7 +47,7 @@ abbrev pub AddsPattern : BTreeSet Pattern → List Pattern → Option Pattern �
 AddsPattern seen patterns x seen_after patterns_after = HasPatterns seen patterns
     → TakesPattern seen patterns x seen_after patterns_after
 
--- the same with the pattern of a triple, if it stands in the formula
+-- the same with the pattern of a triple, if it is in the formula
 pub record TakesIfInside (i : ℕ) (t : PatchTriple) (patterns : List Pattern)
     (seen_after : BTreeSet Pattern) (patterns_after : List Pattern) : Type 0 where
   pub patterns_are : patterns_after

@@ -65,7 +65,7 @@ TakesOn bytes token old new =
     → token ≡ listed_token old.after_string next
     → IsSoFar base bytes (tokens ++ token ∷ []) next.to new
 
--- Whatever was read before, this is the fault that is told.
+-- Whatever was read before, this is the fault that is reported.
 abbrev pub IsRefusedAfter : List ℕ → Token → Document → TurtleFault → Type 0
 IsRefusedAfter bytes token old fault =
     (base : List ℕ) (tokens : List Token) (at : ℕ) (next : Token)
@@ -73,7 +73,7 @@ IsRefusedAfter bytes token old fault =
     → token ≡ listed_token old.after_string next
     → IsFirstFault base bytes fault
 
--- Whatever was read before, this is the fault that is told where the next token was wanted.
+-- Whatever was read before, this is the fault that is reported where the next token was wanted.
 abbrev pub IsRefusedNext : List ℕ → ℕ → Document → TurtleFault → Type 0
 IsRefusedNext bytes from d fault =
     (base : List ℕ) (tokens : List Token) → IsSoFar base bytes tokens from d

@@ -1,4 +1,4 @@
--- The rules of a patch document, in the order in which they are told (Solid Protocol, N3 Patch).
+-- The rules of a patch document, in order of precedence (Solid Protocol, N3 Patch).
 use Rattle.std.specs.Prelude.{◌≡◌, ◌<◌, ◌≤◌, ◌&&◌, ◌||◌, ℕ, Bool, true, false, not, List, [], ◌∷◌}
 use Rattle.std.specs.Prelude.{length, Option, Some, None}
 use Rattle.std.specs.Prelude.{if◌then◌else◌}

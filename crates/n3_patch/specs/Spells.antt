@@ -1,4 +1,4 @@
--- Which bytes spell a patch (Solid Protocol, N3 Patch).
+-- Which bytes parse to a patch (Solid Protocol, N3 Patch).
 use Rattle.std.specs.Prelude.{◌≡◌, ℕ, List, [], ◌∷◌, Option, Some, None}
 use Rattle.rdf_graph.specs.declared.term.Term.TheVariants.{Blank}
 use Rattle.rdf_graph.specs.declared.patch.Patch.{Patch}
@@ -61,8 +61,8 @@ AreTriplesOf bytes meanings (Triple symbolic ∷ productions) triples =
     (first : PatchTriple) × (rest : List PatchTriple) × (triples ≡ first ∷ rest)
     × IsTripleOf bytes meanings symbolic first × AreTriplesOf bytes meanings productions rest
 
--- The bytes spell these triples under a base, in order of production: their tokens derive a patch
--- document, and each token has a meaning under the directives before it.
+-- The bytes parse to these triples under a base, in order of production: their tokens derive a
+-- patch document, and each token has a meaning under the directives before it.
 pub record SpellsTriples (base bytes : List ℕ) (triples : List PatchTriple) : Type 0 where
   pub tokens : List Token
   pub productions : List Production
@@ -72,7 +72,7 @@ pub record SpellsTriples (base bytes : List ℕ) (triples : List PatchTriple) : 
   pub means : AreMeanings bytes (at_start base) (lexemes_of tokens) meanings
   pub are_triples : AreTriplesOf bytes meanings productions triples
 
--- The bytes spell the patch of these triples, which break no rule.
+-- The bytes parse to the patch of these triples, which break no rule.
 pub record PatchSpells (base bytes : List ℕ) (patch : Patch) : Type 0 where
   pub triples : List PatchTriple
   pub spells : SpellsTriples base bytes triples

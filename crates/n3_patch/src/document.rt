@@ -1,4 +1,4 @@
-//! What was read of a patch document so far.
+//! The parse of a patch document so far.
 
 ghost use Rattle.std.specs.Prelude.{◌≡◌, ◌≢◌, [], ℕ, List as ListOf, IfOk, IfErr, OnOk};
 ghost use Rattle.turtle_lex.specs.Tokens.{IsTokenOf, is_string};
@@ -16,7 +16,7 @@ use turtle_lex::Token;
 use turtle_reader::{Lexeme, Reader};
 use turtle_terms::TurtleFault;
 
-/// What was read of a patch document so far.
+/// The parse of a patch document so far.
 #[derive(Drop)]
 pub(crate) struct Document {
     pub(crate) reader: Reader,

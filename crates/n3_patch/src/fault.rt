@@ -1,26 +1,26 @@
-//! Why a text is no patch.
+//! The faults of a patch document.
 
 use thiserror::Error;
 
 /// The most conditions of a patch, each counted once.
 pub const CONDITIONS_LIMIT: usize = 16;
 
-/// A rule of patch documents, in the order in which they are told.
+/// A rule of patch documents, in order of precedence: the first broken rule is reported.
 #[derive(Clone, Copy, Debug, PartialEq, Eq)]
 pub enum PatchRule {
-    /// Nothing is a patch.
+    /// No resource is typed as a patch.
     NoPatch,
-    /// More than one thing is a patch.
+    /// More than one resource is typed as a patch.
     ManyPatches,
     /// A part of the patch has two formulas.
     Repeated,
-    /// A part of the patch is no formula.
+    /// The value of a part of the patch is not a formula.
     NotFormula,
-    /// A formula is no part of the patch.
+    /// A formula is not a part of the patch.
     Stray,
-    /// A formula stands in a formula.
+    /// A formula is nested in a formula.
     Nested,
-    /// A blank node stands in a formula.
+    /// A formula contains a blank node.
     BlankNode,
     /// A variable of the deletions or insertions isn't in the conditions.
     FreeVariable,
@@ -28,7 +28,7 @@ pub enum PatchRule {
     TooManyConditions,
 }
 
-/// Why triples are no patch.
+/// Why triples are not a patch.
 #[derive(Clone, Copy, Debug, PartialEq, Eq)]
 pub enum Judgement {
     /// The first rule that they break.
@@ -38,7 +38,7 @@ pub enum Judgement {
     NoMemory,
 }
 
-/// Why a text spells no patch, in the order in which the faults are told.
+/// Why a text is not a patch document, in the order in which faults are reported.
 #[derive(Clone, Copy, Debug, PartialEq, Eq, Error)]
 pub enum N3Fault {
     /// The first fault of syntax is at this byte.

@@ -1,6 +1,6 @@
-//! Which patch triples are, or which rule they break first.
+//! The patch of triples, or the first rule that they break.
 
-ghost use Rattle.std.specs.Prelude.{◌≡◌, IfOk, IfErr, IfSome, IfNone};
+ghost use Rattle.std.specs.Prelude.{◌≡◌, ◌↔◌, IfOk, IfErr, IfSome, IfNone, IsTrue};
 ghost use Rattle.rdf_graph.specs.Patch.{IsBound};
 ghost use Rattle.n3_patch.specs.Parts.{IsPatchOf};
 ghost use Rattle.n3_patch.specs.Rules.{IsJudged, IsFaultOf};
@@ -8,6 +8,7 @@ ghost use Rattle.n3_patch.specs.Progress.{BreaksLast, IsFaultFrom, IsKeptPatch, 
 ghost use Rattle.n3_patch.specs.Progress.{KeepsLast, KeepsTests};
 
 use crate::fault::{CONDITIONS_LIMIT, Judgement, PatchRule};
+use crate::free_variables::is_bound;
 use crate::patterns::part_patterns;
 use crate::rules::{broken_test, first_typing};
 use crate::size::is_too_large;
@@ -31,12 +32,14 @@ fn patch_of(alloc: Global, resource: &PatchNode, triples: &[PatchTriple]) -> Mem
     })
 }
 
-/// The first broken rule of those about the patterns.
-fn broken_last(patch: &Patch) -> Option<PatchRule>
+/// The first broken rule of those about the patterns, where `bound` is whether the patch is without
+/// free variables.
+fn broken_last(bound: bool, patch: &Patch) -> Option<PatchRule>
+    requires { IsTrue bound ↔ IsBound patch.now }
     ensures broken { IfSome result (BreaksLast patch.now) }
     ensures kept { IfNone result (KeepsLast patch.now) }
 {
-    if !patch.is_bound() {
+    if !bound {
         Some(PatchRule::FreeVariable)
     } else if patch.conditions.len() > CONDITIONS_LIMIT {
         Some(PatchRule::TooManyConditions)
@@ -58,9 +61,12 @@ fn judge_patterns(
 {
     match patch_of(alloc, resource, triples) {
         Err(NoMemory) => Err(Judgement::NoMemory),
-        Ok(patch) => match broken_last(&patch) {
-            Some(rule) => Err(Judgement::Broken(rule)),
-            None => Ok(patch),
+        Ok(patch) => match is_bound(alloc, &patch) {
+            Err(NoMemory) => Err(Judgement::NoMemory),
+            Ok(bound) => match broken_last(bound, &patch) {
+                Some(rule) => Err(Judgement::Broken(rule)),
+                None => Ok(patch),
+            },
         },
     }
 }

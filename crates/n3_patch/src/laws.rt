@@ -1,4 +1,4 @@
-//! Laws of patch documents, for the proofs of what stands on them.
+//! Laws of patch documents, for the proofs of crates that depend on this one.
 //!
 //! Each is the contract of a function that does nothing.
 
@@ -11,7 +11,7 @@ pub fn one_judgement()
     ensures either { PatchBreaksNone }
 {}
 
-/// A text spells at most one patch.
+/// A text parses to at most one patch.
 pub fn one_spelled_patch()
     ensures { HasOneSpelledPatch }
 {}

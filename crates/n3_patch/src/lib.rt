@@ -1,4 +1,4 @@
-//! N3 Patch (Solid Protocol, section 5.3.1): the patch that a text spells.
+//! N3 Patch (Solid Protocol, section 5.3.1): the patch that a text parses to.
 //!
 //! ```text
 //! match read(alloc, &base, b"_:p a <http://www.w3.org/ns/solid/terms#InsertDeletePatch> .") {
@@ -8,14 +8,14 @@
 //! }
 //! ```
 //!
-//! Proved: [`read`] returns the patch that the text spells (`PatchSpells` of `specs/Spells.antt`,
+//! Proved: [`read`] returns the patch that the text parses to (`PatchSpells` of `specs/Spells.antt`,
 //! clause `spells`), else the first fault of syntax, else the first broken rule, and `TooLarge`
 //! last (clause `fault`, `IsN3Fault` of `specs/Faults.antt`). [`judge`] does the same over triples
 //! (clauses `patch`, `fault`; `specs/Parts.antt`, `specs/Rules.antt`, `specs/Size.antt`). Each part
-//! is a set, in the order in which its patterns stand. Where the text spells a patch and no bracket
-//! is too deep, it is returned, or out of memory (clause `only`). What both return meets what
-//! `rdf_graph::instantiate` requires (clause `bound`). [`laws`] has what follows from the
-//! definitions.
+//! is a set, in the order of the first occurrences of its patterns. Where the text parses to a
+//! patch and no bracket is too deep, the result is that patch, or out of memory (clause `only`).
+//! The result of both meets what `rdf_graph::instantiate` requires (clause `bound`). [`laws`] has
+//! what follows from the definitions.
 //!
 //! It depends on `turtle_reader` for what the tokens of a document mean, on `turtle_labels` for its
 //! unnamed nodes, and on `rdf_graph` for terms and patches.
@@ -23,6 +23,7 @@
 
 mod document;
 mod fault;
+mod free_variables;
 mod judging;
 pub mod laws;
 mod made;

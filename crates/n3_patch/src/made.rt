@@ -1,4 +1,4 @@
-//! The triples of a patch document as they are made.
+//! The triples of a patch document, as the parser produces them.
 
 ghost use Rattle.std.specs.Prelude.{◌≡◌, ◌++◌, ◌∷◌, [], ℕ, List as ListOf, Some, IfOk, OnOk};
 ghost use Rattle.turtle_reader.specs.Readings.{produced_last};

@@ -68,7 +68,7 @@ fn add_pattern(
     }
 }
 
-/// Whether the triple stands in the formula of this index.
+/// Whether the triple is in the formula of this index.
 fn stands_in(index: usize, triple: &PatchTriple) -> bool
     ensures { result ≡ is_this_formula index triple.now.formula }
 {
@@ -78,7 +78,7 @@ fn stands_in(index: usize, triple: &PatchTriple) -> bool
     }
 }
 
-/// Appends the pattern of a triple, if it stands in the formula and is new.
+/// Appends the pattern of a triple, if it is in the formula and is new.
 fn add_if_inside(
     alloc: Global,
     seen: &mut BTreeSet<Pattern>,
@@ -96,7 +96,7 @@ fn add_if_inside(
     }
 }
 
-/// The patterns of a formula, each once, in the order in which they stand.
+/// The patterns of a formula, each once, in the order of their first occurrence.
 fn formula_patterns(alloc: Global, index: usize, triples: &[PatchTriple]) -> Mem<List<Pattern>>
     ensures { IfOk result (λ patterns. patterns.items ≡ with_formula index triples.now []) }
 {

@@ -1,4 +1,4 @@
-//! The reading of a patch document.
+//! Parses patch documents.
 
 ghost use Rattle.std.specs.Prelude.{◌≡◌, ◌≢◌, Ok, IfOk, IfErr, IfSome, OnOk};
 ghost use Rattle.rdf_graph.specs.Patch.{IsBound};
@@ -60,7 +60,7 @@ fn read_triples(alloc: Global, base: &Iri, bytes: &[u8]) -> Result<List<PatchTri
     }
 }
 
-/// A fault of syntax as it is told: by its position alone.
+/// A fault of syntax as it is reported: by its position alone.
 fn syntax(fault: TurtleFault) -> N3Fault
     ensures { result ≡ told_as fault }
 {
@@ -71,13 +71,13 @@ fn syntax(fault: TurtleFault) -> N3Fault
     }
 }
 
-/// The patch that the bytes spell under a base.
+/// The patch that the bytes parse to under a base IRI.
 ///
 /// # Errors
 ///
 /// `Syntax` with the position of the first fault of syntax, by the position and then in the order
 /// of `turtle_terms::TurtleKind`; else `Constraint` with the first rule that is broken; else
-/// `TooLarge`. There is one exactly where the bytes spell no patch, or brackets are too deep.
+/// `TooLarge`. There is one exactly where the bytes parse to no patch, or brackets are too deep.
 pub fn read(alloc: Global, base: &Iri, bytes: &[u8]) -> Result<Patch, N3Fault>
     ensures spells { IfOk result (PatchSpells base.now bytes.now) }
     ensures sound { OnOk result (HasNoFault base.now bytes.now) }

@@ -112,14 +112,14 @@ fn pattern_from(s: Option<Slot>, p: Option<Slot>, o: Option<Slot>) -> Option<Pat
 }
 
 impl PatchTriple {
-    /// Whether it stands in a formula.
+    /// Whether it is in a formula.
     pub(crate) fn is_inside(&self) -> bool
         ensures { result ≡ is_inside self.now }
     {
         self.formula.is_some()
     }
 
-    /// Whether it stands outside formulas.
+    /// Whether it is outside formulas.
     pub(crate) fn is_outside(&self) -> bool
         ensures { result ≡ is_outside self.now }
     {
