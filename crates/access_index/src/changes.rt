@@ -51,7 +51,7 @@ pub(crate) fn list_subjects(alloc: Global, paths: &[Path]) -> Mem<Vec<Path>>
     Ok(subjects)
 }
 
-/// Adds the list of a subject to the table of the access lists, if it isn't there.
+/// Adds the list of a subject to the table of the access lists, unless it is in it.
 fn add_list(alloc: Global, lists: &mut Vec<Entry>, subject: &Path) -> Mem<()>
     requires { AreInOrder lists.old.items }
     ensures { OnOk result (lists.new.items ≡ add_lists lists.old.items (subject.now ∷ [])) }
@@ -77,7 +77,7 @@ pub(crate) fn add_lists(alloc: Global, lists: &mut Vec<Entry>, subjects: &[Path]
     Ok(())
 }
 
-/// Adds a path, if it isn't there, with what the lists resolve for it.
+/// Adds a path, unless it is in the table, with what the lists resolve for it.
 fn add_path(alloc: Global, lists: &[Entry], entries: &mut Vec<Entry>, path: &Path) -> Mem<()>
     requires order { AreInOrder entries.old.items }
     requires lists { AreInOrder lists.now }

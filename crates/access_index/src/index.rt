@@ -47,8 +47,8 @@ impl AccessIndex {
         changed(alloc, &[], &[], paths.as_slice(), &none)
     }
 
-    /// The access list in force for a path of the index, and none for any other path. It halves the
-    /// paths, and takes no memory.
+    /// The access list in force for a path of the index, and none for any other path. It is a
+    /// binary search, and takes no memory.
     pub fn find(&self, path: &Path) -> Option<&Resolved>
         ensures listed { is_some (option_copied result) ≡ is_listed self.now path.now }
         ensures governs { IfSome (option_copied result)
@@ -63,8 +63,8 @@ impl AccessIndex {
     /// The index of the paths without the removed and with the added ones, in any order. `/.acl`
     /// is not among the removed ones. A path that is added and removed is a path of the new index.
     ///
-    /// What lies below an added or removed access list is resolved anew. All other entries share
-    /// their path and what is resolved with this index.
+    /// Paths at and below the subjects of added and removed access lists are resolved anew. All
+    /// other entries share their path and what is resolved with this index.
     pub fn after(&self, alloc: Global, added: &List<Path>, removed: &List<Path>) -> Mem<AccessIndex>
         requires { is_listed removed.now.items (list_path root) ≡ false }
         ensures paths { IfOk result (λ index. IsListOf

@@ -47,14 +47,14 @@ pub fn within_law()
         → IsTrue (is_within path other) ↔ ((path ≡ other) ⊎ IsInside path other) }
 {}
 
-/// What a change of access lists leaves, and what it makes of the rest.
+/// Which lists a change of access lists leaves in force, and which it changes.
 pub fn changes_law()
     // Where a path is not reached, its list stays.
     ensures stays { (before after : List ℕ → Bool) (subjects : List (List ℕ)) (path : List ℕ)
         → AgreeBeside before after subjects → is_reached subjects path ≡ false
         → effective_among before path ≡ effective_among after path }
 
-    // A list that is nearer than the one that comes or goes stays.
+    // A list that is nearer than the added or removed one stays.
     ensures nearer { (before after : List ℕ → Bool) (subject path : List ℕ) (list : Governs)
         → AgreeBeside before after (subject ∷ []) → effective_among before path ≡ Some list
         → IsInside list.at subject → effective_among after path ≡ Some list }

@@ -8,9 +8,9 @@
 //!
 //! Proved: `of` is the index of its paths (clause `paths`), and `after` that of the paths without
 //! the removed and with the added ones (`paths`). `find` finds exactly the paths of an index
-//! (`listed`), and what it finds is the list in force among them (`governs`). [`laws`] ties that
-//! definition to the one of `pod_rows`, and says what a change of lists leaves and what it makes of
-//! the rest. The crate stands on `pod_rows`, `acl_rules`, `pod_path` and `pod_base`.
+//! (`listed`), and what it finds is the list in force among them (`governs`). [`laws`] relates that
+//! definition to the one of `pod_rows`, and states which lists a change leaves in force and which
+//! it changes. The crate depends on `pod_rows`, `acl_rules`, `pod_path` and `pod_base`.
 #![tactic(auto)]
 
 mod changes;

@@ -14,8 +14,8 @@ fn is_within(path: &[u8], other: &[u8]) -> bool
     path == other || (other.ends_with(b"/") && path.starts_with(other))
 }
 
-/// Whether a path is, or is about, one of these subjects of access lists, or below one: a list of
-/// that subject that comes or goes may change which list governs the path. It takes no memory.
+/// Whether a path is, or is about, one of these subjects of access lists, or below one: adding or
+/// removing the subject's list may change which list governs the path. It takes no memory.
 pub fn is_reached(subjects: &[Path], path: &Path) -> bool
     ensures { result ≡ is_reached subjects.now path.now }
 {

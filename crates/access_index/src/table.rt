@@ -16,7 +16,7 @@ pub(crate) struct Entry {
     pub resolved: SharedResolved,
 }
 
-/// How many entries are before the path. It halves what is left.
+/// How many entries are before the path, by binary search.
 fn rank(entries: &[Entry], path: &[u8]) -> usize
     requires { AreInOrder entries.now }
     ensures { result ≡ rank path.now entries.now }

@@ -45,7 +45,7 @@ target_byte b = if is_visible b then b ∷ [] else percent_encode_byte b
 abbrev pub target_word : List ℕ → List ℕ
 target_word target = flat_map target_byte target
 
--- what both lines begin with: a number, the moment, who asked, and by which method
+-- what both lines begin with: a number, the moment, the agent and the method
 abbrev pub first_words : ℕ → Moment → Agent → Method → List (List ℕ)
 first_words number moment agent method =
     decimal number ∷ decimal moment.0 ∷ agent_word agent ∷ method_word method ∷ []

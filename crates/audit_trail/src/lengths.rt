@@ -1,4 +1,4 @@
-//! How much memory a line takes. Nothing rests on these numbers: a line grows where it has to.
+//! The capacity that a line is made with. No clause depends on it: a line grows where it has to.
 
 use itoa::Buffer;
 

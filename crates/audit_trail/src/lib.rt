@@ -8,10 +8,10 @@
 //! ```
 //!
 //! Proved: [`session_line`] and [`entry_line`] are the definitions of these names, and
-//! [`append_basis`] appends `basis_text`. A line is written once, into memory that is taken at
+//! [`append_basis`] appends `basis_text`. A line is written once, into memory that is allocated at
 //! once.
 //!
-//! It stands on `pod_command`, on `rdf_graph` and `turtle_write` for the text of a rule, on
+//! It depends on `pod_command`, on `rdf_graph` and `turtle_write` for the text of a rule, on
 //! `percent_encoding` and on `itoa`.
 #![tactic(auto)]
 

@@ -43,9 +43,9 @@ fn append_outcome(line: &mut Vec<u8>, target: &[u8], status: u16) -> Mem<()>
 /// The line of a request that was answered at a place of the history.
 ///
 /// It has the place, the moment, the agent, the method, the target and the status, one space
-/// between, and ends in LF. Anybody is `-`, also who asked with a token that was refused. A method
-/// that the server doesn't know is `OTHER`. Bytes of the target outside `!` to `~` are escaped by
-/// `%` and two upper-case digits.
+/// between, and ends in LF. Anybody is `-`, also where a token was refused. A method that the
+/// server doesn't know is `OTHER`. Bytes of the target outside `!` to `~` are escaped by `%` and
+/// two upper-case digits.
 pub fn session_line(
     alloc: Global,
     place: u64,

@@ -42,7 +42,7 @@ pub(crate) fn append_word(line: &mut Vec<u8>, word: &[u8]) -> Mem<()>
     Ok(())
 }
 
-/// Appends what a line begins with: a number, a moment, who asked, and by which method.
+/// Appends what a line begins with: a number, a moment, the agent and the method.
 pub(crate) fn append_first(
     line: &mut Vec<u8>,
     number: u64,

@@ -35,14 +35,14 @@ is_subject_there found (Some subject) = is_there found subject
 abbrev pub has_subject : (List ℕ → Option Row) → List ℕ → Bool
 has_subject found path = is_subject_there found (subject_of path)
 
--- The rows that a row at the path needs are there, and its twin isn't.
+-- The rows that a row at the path needs exist, and its twin doesn't.
 unfoldable pub is_placed : (List ℕ → Option Row) → List ℕ → Bool
 is_placed found path = has_parent found path && (lacks_twin found path && has_subject found path)
 
 abbrev pub none_there : (List ℕ → Option Row) → List (List ℕ) → Bool
 none_there found paths = list_all (λ path. not (is_there found path)) paths
 
--- No child that a container had is there.
+-- No child that a container had exists.
 unfoldable pub lacks_children : List Row → (List ℕ → Option Row) → List ℕ → Bool
 lacks_children old found path = none_there found (children_of old path)
 
@@ -59,7 +59,7 @@ unfoldable pub is_free : List Row → (List ℕ → Option Row) → List ℕ →
 is_free old found path = not (is_kept path)
     && (lacks_children old found path && lacks_auxiliaries found path)
 
--- A row is right by itself.
+-- A row is valid by itself.
 unfoldable pub is_right : Row → Bool
 is_right row = has_normal_path row && (has_right_kind row && lacks_stored_containment row)
 

@@ -69,7 +69,7 @@ fn has_subject<S: PodState>(alloc: Global, state: &S, made: &[Made], path: &Path
     }
 }
 
-/// Whether the rows that a row at the path needs are there, and no twin.
+/// Whether the rows that a row at the path needs exist, and no twin.
 #[tactic(auto, unfolding(crate::specs::Touched::is_placed))]
 fn is_placed<S: PodState>(alloc: Global, state: &S, made: &[Made], path: &Path) -> Mem<bool>
     ensures { IfOk result (λ r. r
@@ -89,7 +89,7 @@ fn none_there<S: PodState>(state: &S, made: &[Made], paths: &[Path]) -> bool
     paths.iter().all(|path| !is_there(state, made, path))
 }
 
-/// Whether no child that a container had is there.
+/// Whether no child that a container had exists.
 #[tactic(auto, unfolding(crate::specs::Touched::lacks_children))]
 fn lacks_children<S: PodState>(alloc: Global, state: &S, made: &[Made], path: &Path) -> Mem<bool>
     ensures { IfOk result (λ r. r ≡ lacks_children (S.pod state.now).rows
@@ -103,7 +103,7 @@ fn lacks_children<S: PodState>(alloc: Global, state: &S, made: &[Made], path: &P
     Ok(none_there(state, made, children.as_slice()))
 }
 
-/// Whether neither an access list nor a description of the path is there.
+/// Whether neither an access list nor a description of the path exists.
 #[tactic(auto, unfolding(crate::specs::Touched::lacks_auxiliaries))]
 fn lacks_auxiliaries<S: PodState>(alloc: Global, state: &S, made: &[Made], path: &Path) -> Mem<bool>
     ensures { IfOk result (λ r. r ≡ lacks_auxiliaries
@@ -124,7 +124,7 @@ fn is_kept(path: &Path) -> bool
     path.is_root() || is_root_list(path)
 }
 
-/// Whether a path may have no row: every pod can be without it, and no row that is there needs it.
+/// Whether a path may have no row: every pod can be without it, and no existing row needs it.
 #[tactic(auto, unfolding(crate::specs::Touched::is_free))]
 fn is_free<S: PodState>(alloc: Global, state: &S, made: &[Made], path: &Path) -> Mem<bool>
     ensures { IfOk result (λ r. r ≡ is_free (S.pod state.now).rows

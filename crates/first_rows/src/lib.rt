@@ -10,8 +10,8 @@
 //! (`number`); [`first_pods_are_well_formed`] is the law that such a pod is well-formed, where its
 //! base has the form that a base has.
 //!
-//! It stands on `pod_rows` and `pod_command` for pods, on `acl_rules` and `rdf_graph` for the rule,
-//! and on `pod_path`, `iri_ref` and `pod_base`.
+//! It depends on `pod_rows` and `pod_command` for pods, on `acl_rules` and `rdf_graph` for the
+//! rule, and on `pod_path`, `iri_ref` and `pod_base`.
 #![tactic(auto)]
 
 mod owner_rule;

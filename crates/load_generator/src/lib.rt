@@ -10,7 +10,7 @@
 //! Proved: [`stream`] has the bytes of the definition `stream`, [`summary_line`] is the definition
 //! of that name, and [`owner`] is `load_owner`.
 //!
-//! It stands on `itoa`, `hex`, `sha2`, `iri_ref` and `pod_base`.
+//! It depends on `itoa`, `hex`, `sha2`, `iri_ref` and `pod_base`.
 #![tactic(auto)]
 
 mod requests;

@@ -1,4 +1,4 @@
--- what a patch, and an update, make of a row's graph; laws of both
+-- what a patch, and an update, do to a row's graph; laws of both
 pub mod Outcomes
 pub mod Updates
 pub mod Laws

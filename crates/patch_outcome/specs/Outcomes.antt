@@ -1,4 +1,4 @@
--- What a patch makes of the graph of a row, or why it is refused (Solid Protocol, section 5.3.1).
+-- What a patch does to the graph of a row, or why it is refused (Solid Protocol, section 5.3.1).
 -- The children of a container are no triples of its own, so no patch of it names `ldp:contains`.
 use Rattle.std.specs.Prelude.{◌⊎◌, ℕ, Bool, IsTrue, List, Option, Some, None, Result, Ok, Err}
 use Rattle.std.specs.Prelude.{codes}
@@ -34,11 +34,11 @@ pub record HasSolvedContainment (g : List Triple) (patch : Patch) : Type 0 where
 abbrev pub TouchesContainment : List Triple → Patch → Type 0
 TouchesContainment g patch = HasFixedContainment patch ⊎ HasSolvedContainment g patch
 
--- A patch of a container leaves its children alone.
+-- A patch of a container doesn't touch containment.
 abbrev pub KeepsContainment : Bool → List Triple → Patch → Type 0
 KeepsContainment container g patch = IsTrue container → TouchesContainment g patch → ⊥
 
--- the fault of the patch that a refusal tells; none where it is about containment
+-- the fault of the patch that a refusal reports; none where it is about containment
 abbrev pub fault_of : PatchRefusal → Option PatchFault
 fault_of Contains = None
 fault_of NoMatch = Some faults.NoMatch
@@ -51,7 +51,7 @@ IsRefusedBy container g patch None = IsTrue container × TouchesContainment g pa
 IsRefusedBy container g patch (Some fault) =
     KeepsContainment container g patch × IsFaultOf g patch fault
 
--- why a patch of a row with the graph g is refused; the first of these that holds is told
+-- why a patch of a row with the graph g is refused; the first of these that holds is reported
 abbrev pub IsRefusal : Bool → List Triple → Patch → PatchRefusal → Type 0
 IsRefusal container g patch refusal = IsRefusedBy container g patch (fault_of refusal)
 

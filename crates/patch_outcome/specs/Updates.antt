@@ -1,4 +1,4 @@
--- What an update of SPARQL data makes of the graph of a row, or why it is refused. Containment is
+-- What an update of SPARQL data does to the graph of a row, or why it is refused. Containment is
 -- judged by all triples that it names.
 use Rattle.std.specs.Prelude.{Bool, false, ◌&&◌, IsTrue, ◌⊎◌, List, Result, Err}
 use Rattle.std.specs.List.{list_any}

@@ -1,4 +1,4 @@
-//! What a patch makes of the graph of a row, or why it is refused (Solid Protocol 0.11, section
+//! What a patch does to the graph of a row, or why it is refused (Solid Protocol 0.11, section
 //! 5.3.1).
 //!
 //! ```ignore
@@ -13,7 +13,7 @@
 //! data, by the patch that it spells at the graph (`IsUpdateOutcome` of `specs/Updates.antt`).
 //! There is at most one outcome ([`laws`]).
 //!
-//! It stands on `rdf_graph` for patches, on `sparql_patch` for updates, and on `pod_rows` for the
+//! It depends on `rdf_graph` for patches, on `sparql_patch` for updates, and on `pod_rows` for the
 //! vocabulary of containers.
 #![tactic(auto)]
 

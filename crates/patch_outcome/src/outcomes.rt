@@ -1,4 +1,4 @@
-//! [`outcome`]: what a patch makes of a graph.
+//! [`outcome`]: what a patch does to a graph.
 
 ghost use Rattle.std.specs.Prelude.{IfOk, IfErr, IsTrue};
 ghost use Rattle.rdf_graph.specs.Patch.{IsBound, IsChangeOf, IsFaultOf};

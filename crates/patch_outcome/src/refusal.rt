@@ -6,7 +6,7 @@ ghost use Rattle.patch_outcome.specs.Outcomes as spec;
 use pod_base::{Mem, NoMemory};
 use rdf_graph::PatchFault;
 
-/// Why a patch, or an update, is refused. It is told as 409 with this word.
+/// Why a patch, or an update, is refused. It is answered by 409 with this word.
 #[derive(Clone, Copy, Debug, PartialEq, Eq)]
 pub enum PatchRefusal {
     /// It is about the children of a container, which are no triples of its own.
@@ -22,7 +22,7 @@ pub enum PatchRefusal {
 }
 
 impl PatchRefusal {
-    /// The word that tells it.
+    /// Its word in the response.
     pub fn word(self) -> &'static str
         ensures { result.now ≡ spec.word_of self }
     {
@@ -36,7 +36,7 @@ impl PatchRefusal {
     }
 }
 
-/// The refusal that tells a fault of a patch.
+/// The refusal of a fault of a patch.
 pub(crate) fn refusal_of(fault: PatchFault) -> Mem<PatchRefusal>
     ensures { IfOk result (λ refusal. spec.fault_of refusal ≡ Some fault) }
 {

@@ -1,4 +1,4 @@
-//! [`update_outcome`]: what an update of SPARQL data makes of a graph.
+//! [`update_outcome`]: what an update of SPARQL data does to a graph.
 
 ghost use Rattle.std.specs.Prelude.{◌≡◌, IfOk};
 ghost use Rattle.patch_outcome.specs.Updates as spec;

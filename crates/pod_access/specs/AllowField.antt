@@ -20,7 +20,7 @@ abbrev pub modes_by : Pod → Agent → Governs → List Bool
 modes_by pod agent list =
     granted_modes (membership pod) (rules_at pod list.at) list.how list.at agent
 
--- Control of what an access list is about grants all modes of the list.
+-- Control of an access list's subject grants all modes of the list.
 abbrev pub control_by : Pod → Agent → Governs → List Bool
 control_by pod agent list = four (is_some (ground_by pod agent Control list))
 

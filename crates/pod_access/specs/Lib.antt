@@ -1,4 +1,4 @@
--- whom a pod grants what, and with which bases; what `WAC-Allow` tells
+-- whom a pod grants what, and with which bases; the value of `WAC-Allow`
 pub mod PodGrants
 pub mod Bases
 pub mod AllowField

@@ -1,4 +1,4 @@
-//! [`allow_field`].
+//! [`allow_field`]: the value of `WAC-Allow`.
 
 ghost use Rattle.std.specs.Prelude.{◌≡◌, IfOk};
 ghost use Rattle.pod_access.specs.AllowField.{allow_field, control_by, modes_at, modes_by};
@@ -12,7 +12,7 @@ use pod_rows::PodState;
 use std::alloc::Global;
 use wac_decide::{granted_modes, wac_allow};
 
-/// All modes of an access list, where Control of what it is about is granted, else none.
+/// All modes of an access list, where Control of its subject is granted, else none.
 fn list_modes<S: PodState>(
     state: &S,
     rules: &Rules,
@@ -53,9 +53,9 @@ fn modes_at<S: PodState>(state: &S, path: &Path, agent: &Agent) -> [bool; 4]
     }
 }
 
-/// The value of `WAC-Allow` for a path: what the agent and what everyone may do there. Of an access
-/// list all four modes are told where Control of what it is about is granted, else none; of a
-/// description those of what it is about.
+/// The value of `WAC-Allow` for a path: what the agent and what everyone may do there. For an
+/// access list it lists all four modes where Control of its subject is granted, else none; for a
+/// description those of its subject.
 pub fn allow_field<S: PodState>(alloc: Global, state: &S, path: &Path, agent: &Agent) -> Mem<Bytes>
     ensures { IfOk result (λ value. value ≡ allow_field (S.pod state.now) agent.now path.now) }
 {

@@ -96,7 +96,8 @@ pub fn is_granted<S: PodState>(state: &S, agent: &Agent, need: &Need) -> bool
     ensures basis { result ≡ is_some (basis_of (S.pod state.now) agent.now need.now) }
 
     // It is what the graph of the access list grants.
-    ensures grants { IsTrue result ↔ PodGrants (S.pod state.now) agent.now need.now.path need.now.mode }
+    ensures grants { IsTrue result
+        ↔ PodGrants (S.pod state.now) agent.now need.now.path need.now.mode }
 {
     state.is_well_formed();
     let effective = state.effective(&need.path);

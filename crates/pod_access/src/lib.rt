@@ -9,12 +9,12 @@
 //! ```
 //!
 //! Proved, for every state of a pod: [`decide`] returns a basis for each need exactly where all are
-//! granted (`bases_of` of `specs/Bases.antt`); [`allow_field`] tells what the agent and the public
+//! granted (`bases_of` of `specs/Bases.antt`); [`allow_field`] lists what the agent and the public
 //! are granted; and a need has a basis exactly where the graph of the access list that governs its
 //! path grants the mode ([`is_granted`], clause `grants`, by `PodGrants` of
 //! `specs/PodGrants.antt`).
 //!
-//! It stands on `pod_rows` for the states of a pod, and on `wac_decide` for one access list.
+//! It depends on `pod_rows` for the states of a pod, and on `wac_decide` for one access list.
 #![tactic(auto)]
 
 mod allow_value;

@@ -41,7 +41,7 @@ AllAnsweredAlike (item ∷ items) (other ∷ others) =
     AnsweredAlike item other × AllAnsweredAlike items others
 AllAnsweredAlike _ _ = ⊥
 
--- Equal responses at equal moments give equal bytes.
+-- Equal responses at equal moments have equal bytes.
 abbrev pub AlikeWritesSame : Type 0
 AlikeWritesSame = (events : List Heard) (items others : List Item) (refused : Option ℕ)
     → AllAnsweredAlike items others → output_of events items refused

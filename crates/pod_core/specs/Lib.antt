@@ -1,5 +1,5 @@
--- a history of a pod, what one connection asks and is answered at places of it, and the bytes of
--- that
+-- a history of a pod, the requests of one connection with their answers at places of it, and the
+-- bytes of these
 pub mod History
 pub mod Session
 pub mod Output

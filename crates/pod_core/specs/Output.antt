@@ -14,7 +14,7 @@ use Rattle.pod_core.specs.Session.{Outcome, answered, no_memory, disk_fault, Ite
 use Rattle.pod_core.specs.Session.{upgrades}
 
 -- whether the connection closes after a request of that number: it asks for that, or it is the last
--- that is heard
+-- of a connection
 abbrev pub closes_after : Request → ℕ → Bool
 closes_after request number = closes_connection request || number == REQUEST_LIMIT
 
@@ -28,7 +28,7 @@ outcome_text item disk_fault = disk_text
 abbrev pub item_text : Item → List ℕ
 item_text item = outcome_text item item.outcome
 
--- the word of the refusal of bytes that are no message
+-- the word of the refusal of a malformed message
 abbrev pub refusal_word : ℕ → List ℕ
 refusal_word status =
     if status == 400 then codes "message"
@@ -39,13 +39,13 @@ refusal_word status =
 abbrev pub refusal_of : ℕ → Response
 refusal_of status = refusal status (refusal_word status)
 
--- the refusal of bytes that are no message, where there is one
+-- the refusal of a malformed message, where there is one
 abbrev pub refusal_text : ℕ → Option ℕ → List ℕ
 refusal_text status (Some moment) = response_text (refusal_of status) (date_text moment) true
 refusal_text status None = []
 
--- In the order of what is heard: the interims up to the first request without an item, and for each
--- request the bytes of its item. Behind all items comes the refusal, where there is one. Nothing
+-- In the order of the events: the interims up to the first request without an item, and for each
+-- request the bytes of its item. After all items comes the refusal, where there is one. Nothing
 -- follows a switch of protocols.
 abbrev pub output_of : List Heard → List Item → Option ℕ → List ℕ
 output_of [] items refused = []

@@ -1,4 +1,4 @@
--- A session: what one connection asks, and what it is answered at places of one history.
+-- A session: the requests of one connection, and their answers at places of one history.
 use Rattle.std.specs.Prelude.{◌≡◌, ◌⊎◌, ℕ, ◌+◌, ◌≤◌, Bool, true, false, ◌==◌, if◌then◌else◌, min}
 use Rattle.std.specs.Prelude.{max}
 use Rattle.std.specs.Prelude.{IsTrue, List, [], ◌∷◌, length, map, Option, Some, None, is_some}
@@ -17,15 +17,15 @@ use Rattle.pod_reply.specs.Reply.{IsReply}
 use Rattle.reply_laws.specs.Granted.{is_change}
 use Rattle.pod_core.specs.History.{History, IsPlace, entry_at, pod_at, moment_before}
 
--- How a request ended: it was answered at a place; or no memory was left for it; or, for a change,
--- its commit met a disk fault.
+-- How a request ended: it was answered at a place; or memory ran out; or, for a change, its commit
+-- met a disk fault.
 pub data Outcome : Type 0 where
   answered : (place : ℕ) (reply : Reply) → Outcome
   no_memory : Outcome
   disk_fault : Outcome
 
--- One request of a connection, with its number from 1, how its agent was asked, the moment at which
--- it was taken up in seconds since 1970, and how it ended.
+-- One request of a connection, with its number from 1, how its agent was authenticated, the moment
+-- at which it was taken up in seconds since 1970, and how it ended.
 pub record Item : Type 0 where
   pub request : Request
   pub number : ℕ
@@ -33,22 +33,22 @@ pub record Item : Type 0 where
   pub moment : ℕ
   pub outcome : Outcome
 
--- What happened on one connection: its number, its items, the moment at which bytes that are no
--- message were refused, and the history of which the items are places.
+-- What happened on one connection: its number, its items, the moment at which a malformed message
+-- was refused, and the history at whose places the items were answered.
 pub record Session : Type 0 where
   pub conn : ℕ
   pub items : List Item
   pub refusal : Option ℕ
   pub history : History
 
--- the requests that are heard
+-- the requests among events
 abbrev pub requests_of : List Heard → List Request
 requests_of [] = []
 requests_of (heard.TheVariants.Request request ∷ others) = request ∷ requests_of others
 requests_of (heard.TheVariants.Interim ∷ others) = requests_of others
 requests_of (heard.TheVariants.Bad status ∷ others) = requests_of others
 
--- the status of the bytes that are no message, where what is heard ends with such
+-- the status of the malformed message, where the events end with one
 abbrev pub bad_status : List Heard → Option ℕ
 bad_status [] = None
 bad_status (heard.TheVariants.Bad status ∷ others) = Some status
@@ -87,14 +87,14 @@ abbrev pub stamp_of : ℕ → Item → Stamp
 stamp_of conn item =
     record { conn = conn; number = item.number; moment = record { 0 = item.moment } }
 
--- a clock's moment: the seconds that it gives, and no later than the last second of the year 9999
+-- a clock's moment: the seconds that it returns, and no later than the last second of the year 9999
 abbrev pub IsClockMoment : (ℕ → Type 0) → ℕ → Type 0
 IsClockMoment may_give moment =
     (seconds : ℕ) × may_give seconds × (moment ≡ min seconds 253_402_300_799)
 
 module _ (may_give : ℕ → Type 0) (conn : ℕ) (history : History) where
   -- The place is one of the history, the reply is that of the pod there, and its entry, where it
-  -- has one, is the one that stands there.
+  -- has one, is the one at that place.
   pub record IsAnswered (item : Item) (place : ℕ) (reply : Reply) : Type 0 where
     pub there : IsPlace history place
     pub reply_is : IsReply (pod_at history place) item.request item.asked place (stamp_of conn item)
@@ -118,7 +118,7 @@ module _ (may_give : ℕ → Type 0) (conn : ℕ) (history : History) where
   abbrev pub IsItem : Item → Type 0
   IsItem item = Owes item item.outcome
 
--- the place of an outcome, and the next one where an entry stands there
+-- the place of an outcome, and the next one where it made an entry
 abbrev pub places_on : Outcome → List ℕ
 places_on (answered place reply) =
     place ∷ (if is_some reply.entry then (place + 1) ∷ [] else [])
@@ -137,8 +137,8 @@ entries_on disk_fault = []
 abbrev pub entries_of : Item → List Entry
 entries_of item = entries_on item.outcome
 
--- Bytes that are no message were refused at a moment of the clock: all requests had an item, and
--- none was upgraded.
+-- A malformed message was refused at a moment of the clock: all requests had an item, and none was
+-- upgraded.
 pub record IsRefused (may_give : ℕ → Type 0) (events : List Heard) (items : List Item) (moment : ℕ)
     : Type 0 where
   pub bad : has_bad events ≡ true
@@ -146,8 +146,8 @@ pub record IsRefused (may_give : ℕ → Type 0) (events : List Heard) (items : 
   pub open_still : ends_upgraded items ≡ false
   pub clock : IsClockMoment may_give moment
 
--- A session over what was heard, from a place to a place of its history. It may end before each
--- request has an item. `asking` says how the agent of a request is asked.
+-- A session over events, from a place to a place of its history. It may end before each request has
+-- an item. `asking` authenticates the agent of a request.
 pub record IsSession (may_give : ℕ → Type 0) (asking : Request → AskedAgent) (events : List Heard)
     (before : ℕ) (session : Session) (after : ℕ) : Type 0 where
   -- the items are those of the first requests, in order, none skipped
@@ -156,14 +156,14 @@ pub record IsSession (may_give : ℕ → Type 0) (asking : Request → AskedAgen
       ≡ range_with_len 1 (length session.items)
   pub asked : AllByRecursion (λ (item : Item). item.asked ≡ asking item.request) session.items
   pub answers : AllByRecursion (IsItem may_give session.conn session.history) session.items
-  -- places never fall, and each place behind an entry is greater than the entry's
+  -- places never decrease, and each place after an entry is greater than the entry's
   pub places : NeverFalls before (flat_map places_of session.items) after
   -- nothing follows a switch of protocols
   pub last : UpgradesLast session.items
   pub refused : IfSome session.refusal (IsRefused may_give events session.items)
 
--- A session is whole where it was upgraded, or where each request has an item, and bytes that are
--- no message were refused.
+-- A session is whole where it was upgraded, or where each request has an item, and a malformed
+-- message was refused.
 abbrev pub IsWhole : List Heard → Session → Type 0
 IsWhole events session = (ends_upgraded session.items ≡ true)
     ⊎ ((length session.items ≡ length (requests_of events))

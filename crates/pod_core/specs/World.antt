@@ -1,5 +1,5 @@
--- The world: connections that read and write, and one keeper with one history. It goes on by events
--- in any order, each of which is one atomic step of a running server.
+-- The world: connections that read and write, and one keeper with one history. It advances by
+-- events in any order, each of which is one atomic step of a running server.
 use Rattle.std.specs.Prelude.{◌≡◌, ◌⊎◌, ℕ, ◌+◌, ◌≤◌, ◌==◌, Bool, true, false, if◌then◌else◌}
 use Rattle.std.specs.Prelude.{List, [], ◌∷◌, ◌++◌, length, Option, Some, None}
 use Rattle.http_conn.specs.Messages.{Messages}
@@ -122,7 +122,7 @@ first_world history numbers = record {
 }
 
 -- Bytes arrive at a connection; a connection looks at a published place, at a moment of the clock,
--- or takes the lock; the holder of the lock goes on, or fails; its entry is published; the world
+-- or takes the lock; the holder of the lock continues, or fails; its entry is published; the world
 -- stops with an image.
 pub data Event : Type 0 where
   arrive : (conn : ℕ) (piece : List ℕ) → Event
@@ -181,7 +181,7 @@ after_take world conn connection item None =
     with_connection world conn (with_answer connection item (end_of world.keeper.history))
 after_take world conn connection item (Some entry) = world
 
--- The holder of the lock has met a disk fault, and that is written to it.
+-- The holder of the lock has met a disk fault, and the response to that is written.
 pub record FaultsHolder (to : KeeperView) (old new : World) : Type 0 where
   pub holder : Holder
   pub held : holder_in old.keeper.phase ≡ Some holder
@@ -222,8 +222,8 @@ pub record DoesStop (image : List ℕ) (old new : World) : Type 0 where
   pub allowed : IsAllowedImage old.keeper image
   pub new_is : new ≡ record old { stopped = true }
 
--- `may_give` holds the seconds that the clock may give, and `asking` says how the agent of a
--- request is asked.
+-- `may_give` holds of the seconds that the clock may return, and `asking` authenticates the agent
+-- of a request.
 module _ (may_give : ℕ → Type 0) (asking : Request → AskedAgent) where
   -- A request that is no change is answered by its reply at the place.
   pub record AnswersRead (history : History) (conn place moment : ℕ) (old new : Connection)
@@ -281,7 +281,7 @@ module _ (may_give : ℕ → Type 0) (asking : Request → AskedAgent) where
   DoesEvent old publish new = DoesPublish old new
   DoesEvent old (stop image) new = DoesStop image old new
 
-  -- One step of a world that hasn't stopped. At its end the interims that are next go out.
+  -- One step of a world that hasn't stopped. At its end the interims that are next are written.
   pub record WorldStep (old : World) (event : Event) (new : World) : Type 0 where
     pub runs : old.stopped ≡ false
     pub done : World

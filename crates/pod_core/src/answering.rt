@@ -39,13 +39,13 @@ pub fn answer<S: PodState>(
     // Its bytes can be written: the status has three digits, and each field is one line.
     ensures sent { IfOk result (λ replied. IsSent replied.response) }
 
-    // It is no server error: these come of memory and of disks alone.
+    // It is no server error: these come from memory and disks alone.
     ensures status { IfOk result (λ replied. IsNoFailure replied.response.status) }
 
     // It has an entry exactly where a change succeeded.
     ensures complete { IfOk result (λ replied. IsComplete request.now.method (reply_of replied)) }
 
-    // Each pod that is alike for the agent has the same reply: nothing is told of what the agent
+    // Each pod that is alike for the agent has the same reply: nothing is revealed that the agent
     // may not read.
     ensures alike { IfOk result (λ replied. IsReplyOfAlike (S.pod state.now) request.now
         (asked_view asked.now) seq stamp (reply_of replied)) }

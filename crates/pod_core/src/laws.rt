@@ -11,7 +11,7 @@ pub fn sessions_stay<C: Clock>(clock: &C)
     let _clock = clock;
 }
 
-/// Equal responses at equal moments give equal bytes.
+/// Equal responses at equal moments have equal bytes.
 pub fn bytes_follow_answers()
     ensures { AlikeWritesSame }
 {}

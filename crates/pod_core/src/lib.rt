@@ -14,7 +14,7 @@
 //! `specs/World.antt` says what many connections and one keeper may do, event by event, and
 //! `specs/KeeperSteps.antt` which of these are the keeper's.
 //!
-//! It stands on `pod_reply` for the reply, on `pod_rows` for states, on `http_conn` and `http_out`
+//! It depends on `pod_reply` for the reply, on `pod_rows` for states, on `http_conn` and `http_out`
 //! for messages, on `moment_date` for dates, on `request_target` for targets, and on `journal_log`
 //! for the bytes of a journal.
 #![tactic(auto)]

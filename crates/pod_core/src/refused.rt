@@ -1,4 +1,4 @@
-//! How a connection ends: after its last request, or with the refusal of bytes that are no message.
+//! How a connection ends: after its last request, or with the refusal of a malformed message.
 ghost use Rattle.std.specs.Prelude.{◌≡◌, ◌≤◌, ◌<◌, IfOk};
 ghost use Rattle.http_out.specs.Text.{AreFieldLines};
 ghost use Rattle.pod_core.specs.Output as spec;
@@ -16,7 +16,7 @@ pub fn closes_after(request: &Request, number: u64) -> bool
     closes(request.minor, &request.fields) || number == REQUEST_LIMIT
 }
 
-/// The word of the refusal of bytes that are no message.
+/// The word of the refusal of a malformed message.
 fn refusal_word(status: u16) -> &'static [u8]
     ensures { result.now ≡ spec.refusal_word status }
 {
@@ -28,7 +28,7 @@ fn refusal_word(status: u16) -> &'static [u8]
     }
 }
 
-/// The refusal of bytes that are no message.
+/// The refusal of a malformed message.
 pub fn refusal_of(alloc: Global, status: u16) -> Mem<Response>
     ensures response { IfOk result (λ response. response ≡ spec.refusal_of status) }
     ensures lines { IfOk result (λ response. AreFieldLines response.fields) }

@@ -1,4 +1,4 @@
--- Which changes a pod takes: nothing is in the way of them, and new content is right by itself.
+-- Which changes a pod accepts: no test refuses them, and new content is valid by itself.
 use Rattle.std.specs.Prelude.{◌≡◌, ℕ, false, IsTrue, List, Some, Ok}
 use Rattle.pod_command.specs.declared.entry.Entry.{Entry}
 use Rattle.pod_base.specs.declared.moment.Moment.{Moment}
@@ -26,7 +26,7 @@ pub record HasNumber (next : ℕ) (entry : Entry) : Type 0 where
   pub seq : entry.seq ≡ next
   pub number : lacks_number next ≡ false
 
--- A row is right by itself.
+-- A row is valid by itself.
 pub record IsFitting (row : Row) : Type 0 where
   pub path : norm row.path ≡ Ok row.path
   pub kind : IsTrue (has_right_kind row)

@@ -1,4 +1,4 @@
--- What a change makes of the rows of a pod: its edits, in their order.
+-- What a change does to the rows of a pod: its edits, in their order.
 use Rattle.std.specs.Prelude.{ℕ, List, [], ◌∷◌, ◌++◌, map, if◌then◌else◌, Option, Some, None}
 use Rattle.pod_base.specs.declared.moment.Moment.{Moment}
 use Rattle.pod_command.specs.declared.edit.Edit.{Edit}

@@ -12,7 +12,7 @@ abbrev pub document_kind : Content → Kind
 document_kind (contents.Graph triples) = kinds.Graph
 document_kind (contents.Bytes ctype bytes) = kinds.Bytes
 
--- The end of a path tells the kind of containers, access lists and descriptions.
+-- The end of a path decides the kind of containers, access lists and descriptions.
 unfoldable pub kind_of : List ℕ → Content → Kind
 kind_of path content = if is_container path then kinds.Container
     else (if is_acl path then kinds.Acl

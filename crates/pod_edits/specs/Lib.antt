@@ -1,4 +1,4 @@
--- where a new row goes, what is in the way of a change, and its edits
+-- where a new row goes, which tests refuse a change, and its edits
 pub mod Places
 pub mod Refusals
 pub mod Edits

@@ -1,4 +1,4 @@
--- What is in the way of a change: one test for each refusal by the place in the tree or by content.
+-- The tests that refuse a change: one for each refusal by the place in the tree or by content.
 use Rattle.std.specs.Prelude.{ℕ, suc, Bool, true, false, not, ◌&&◌, ◌+◌, ◌^◌, nat_lt, nat_le}
 use Rattle.std.specs.Prelude.{bytes_eq, if◌then◌else◌, List, [], ◌∷◌, length, codes}
 use Rattle.std.specs.List.{list_any}

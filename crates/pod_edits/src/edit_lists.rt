@@ -28,7 +28,7 @@ fn container_row(alloc: Global, path: &Path, modified: Moment) -> Mem<Row>
 }
 
 /// One edit as a list.
-fn one(alloc: Global, edit: Edit) -> Mem<List<Edit>>
+fn single_edit(alloc: Global, edit: Edit) -> Mem<List<Edit>>
     ensures { IfOk result (λ edits. edits.items ≡ edit ∷ []) }
 {
     let mut edits = Vec::with_capacity(alloc, 1)?;
@@ -55,14 +55,14 @@ pub fn creation(alloc: Global, row: Row, place: Place) -> Mem<List<Edit>>
 pub fn replacement(alloc: Global, row: Row) -> Mem<List<Edit>>
     ensures { IfOk result (λ edits. edits.items ≡ put_edits row) }
 {
-    one(alloc, Edit::Put(row))
+    single_edit(alloc, Edit::Put(row))
 }
 
 /// The edits of a PATCH of a row.
 pub fn change(alloc: Global, path: Path, change: Change, modified: Moment) -> Mem<List<Edit>>
     ensures { IfOk result (λ edits. edits.items ≡ change_edits path change modified) }
 {
-    one(
+    single_edit(
         alloc,
         Edit::Change {
             path,
@@ -126,5 +126,5 @@ pub fn deletion<S: PodState>(
 pub fn removal(alloc: Global, path: Path) -> Mem<List<Edit>>
     ensures { IfOk result (λ edits. edits.items ≡ removal_edits path) }
 {
-    one(alloc, Edit::Remove { path })
+    single_edit(alloc, Edit::Remove { path })
 }

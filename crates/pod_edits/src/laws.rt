@@ -1,6 +1,6 @@
 //! What follows from the definitions: the contracts of these functions are laws, and they do
-//! nothing. Where a pod is well-formed and nothing is in the way of a change, an entry of its edits
-//! with the next number applies.
+//! nothing. Where a pod is well-formed and no test refuses a change, an entry of its edits with the
+//! next number applies.
 ghost use Rattle.std.specs.Prelude.{◌≡◌, ℕ, List, [], ◌∷◌, Some, false, true, IsTrue};
 ghost use Rattle.pod_base.specs.declared.moment.Moment.{Moment};
 ghost use Rattle.pod_command.specs.declared.edit.Edit.TheVariants.{Put, Touch};
@@ -87,8 +87,8 @@ pub fn ancestors_law()
         → ancestors path ≡ parent ∷ ancestors parent }
 {}
 
-/// Above a member of a container that is a row nothing is missing, and no twin is in the way but
-/// its own: a POST makes one row and touches the container.
+/// Above a member of a container that is a row nothing is missing, and no twin conflicts but its
+/// own: a POST makes one row and touches the container.
 pub fn member_law()
     ensures nearest { (pod : Pod) (path container : List ℕ) → WellFormed pod → IsPath path
         → parent_of path ≡ Some container → IsTrue (is_row pod.rows container)

@@ -1,5 +1,5 @@
-//! What a change makes of the rows of a pod: the edits of each kind of change, in order, and what
-//! is in the way of one.
+//! What a change does to the rows of a pod: the edits of each kind of change, in order, and the
+//! tests that refuse one.
 //!
 //! ```ignore
 //! let place = find_place(alloc, &state, &path)?;       // the missing containers, the nearest one
@@ -11,10 +11,10 @@
 //!
 //! Proved, for every state of a pod: [`find_place`] finds the containers that are missing above a
 //! new path and the nearest one that is a row (`IsPlaceOf`); [`creation`], [`replacement`],
-//! [`change`], [`deletion`] and [`removal`] are the edits of `specs/Edits.antt`; and each test of
-//! what is in the way is its definition in `specs/Refusals.antt`. [`laws`] says that where a pod is
+//! [`change`], [`deletion`] and [`removal`] are the edits of `specs/Edits.antt`; and each test that
+//! refuses a change is its definition in `specs/Refusals.antt`. [`laws`] says that where a pod is
 //! well-formed and no test refuses, an entry of the edits with the next number applies, and what is
-//! at the path afterwards. It stands on `pod_rows` for the states of a pod, on `acl_rules`,
+//! at the path afterwards. It depends on `pod_rows` for the states of a pod, on `acl_rules`,
 //! `rdf_graph` and `pod_command` for rows, and on `pod_path`, `iri_ref` and `pod_base`.
 #![tactic(auto)]
 

@@ -1,4 +1,4 @@
-//! What is in the way of a change, one test for each refusal.
+//! The tests that refuse a change, one for each refusal.
 
 ghost use Rattle.std.specs.Prelude.{◌≡◌, ◌++◌, IfOk, IfSome, IfNone, List, ℕ, option_copied};
 ghost use Rattle.std.specs.Prelude.{true, false};
@@ -53,7 +53,7 @@ fn meets_own_twin<S: PodState>(alloc: Global, state: &S, path: &Path) -> Mem<boo
     }
 }
 
-/// Whether a twin is in the way of a new row: that of its path or of a container above it. Of the
+/// Whether a twin conflicts with a new row: that of its path or of a container above it. Of the
 /// containers it looks at the missing ones, since no twin of a row is a row.
 pub fn meets_twin<S: PodState>(alloc: Global, state: &S, path: &Path, place: &Place) -> Mem<bool>
     requires { IsPlaceOf (S.pod state.now).rows path.now place.now }

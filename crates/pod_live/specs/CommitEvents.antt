@@ -1,4 +1,4 @@
--- A commit as steps of a world: which events it is, and what its keeper stands for after them.
+-- A commit as steps of a world: which events it is, and what its keeper represents after them.
 use Rattle.std.specs.Prelude.{◌≡◌, ℕ, true, false, List, [], ◌∷◌, ◌++◌, Option, Some, None}
 use Rattle.pod_base.specs.declared.moment.Stamp.{Stamp}
 use Rattle.pod_base.specs.declared.request.Request.{Request}
@@ -23,7 +23,7 @@ abbrev pub view_of : History → Doubt → KeeperView
 view_of history doubt =
     record { history = history; doubt = entry_in_doubt doubt; phase = free }
 
--- The keeper stands for the history of such a part of a world, and the entry in doubt is the one
+-- The keeper represents the history of such a part of a world, and the entry in doubt is the one
 -- that may be on its disks.
 pub record StandsForView {D : Type 0} (image : D → List ℕ → Type 0) (keeper : KeeperState D)
     (view : KeeperView) : Type 0 where
@@ -40,8 +40,8 @@ repairs certain = []
 repairs (entered entry) = repair true ∷ []
 repairs checkpointed = []
 
--- Of one that succeeded: the change is taken, and where its reply has an entry, an entry in doubt is
--- repaired, the record is written, and its gate is opened.
+-- Of one that succeeded: the change is taken, and where its reply has an entry, an entry in doubt
+-- is repaired, the record is written, and its gate is opened.
 abbrev pub events_done : Doubt → KeeperEvent → Option Entry → List KeeperEvent
 events_done doubt taking None = taking ∷ []
 events_done doubt taking (Some entry) = taking ∷ (repairs doubt ++ (body true ∷ gate true ∷ []))
@@ -61,7 +61,7 @@ events_failed doubt taking at_gate = taking ∷ (repairs doubt ++ (body true ∷
 
 module _ {D : Type 0} (image : D → List ℕ → Type 0) (new : KeeperState D) (history : History)
     (doubt : Doubt) (request : Request) (asked : AskedAgent) (stamp : Stamp) where
-  -- A commit that succeeded: by its events the world comes to what the keeper stands for, and the
+  -- A commit that succeeded: by its events the world comes to what the keeper represents, and the
   -- response is that of the reply which was taken.
   pub record IsDoneByEvents (response : Response) : Type 0 where
     pub reply : Reply
@@ -72,7 +72,7 @@ module _ {D : Type 0} (image : D → List ℕ → Type 0) (new : KeeperState D) 
     pub stands : StandsForView image new after
 
   -- A commit that met a disk fault: one of its steps failed, and by the events up to it the world
-  -- comes to what the keeper stands for.
+  -- comes to what the keeper represents.
   pub record IsFailedByEvents : Type 0 where
     pub reply : Reply
     pub step : FailedStep

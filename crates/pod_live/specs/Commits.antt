@@ -1,4 +1,4 @@
--- What a commit and a checkpoint make of a keeper, for a history that it stood for.
+-- What a commit and a checkpoint do to a keeper, for a history that it represented.
 use Rattle.std.specs.Prelude.{◌≡◌, ◌⊎◌, ℕ, ◌+◌, max, List, [], ◌∷◌, ◌++◌, All, Option, Some}
 use Rattle.std.specs.Prelude.{None}
 use Rattle.journal_pair.specs.PairMoments.{LeavesPairs}
@@ -41,13 +41,13 @@ pub record MovesWhereDue (history : History) (place new_place : ℕ) (old new : 
   pub kept : (IsCheckpointDue old → ⊥) → (new_place ≡ place) × (new.active ≡ old.active)
       × (new.journal.format ≡ old.journal.format) × (new.journal.epoch ≡ old.journal.epoch)
 
--- What a failed step leaves. Of the repair, what was in doubt; of a checkpoint or the entry's record,
--- nothing or the checkpoint in doubt; of the entry's gate, the entry.
+-- What a failed step leaves. Of the repair, what was in doubt; of a checkpoint or the entry's
+-- record, nothing or the checkpoint in doubt; of the entry's gate, the entry.
 abbrev pub IsLeftInDoubt : Doubt → Entry → Doubt → Type 0
 IsLeftInDoubt doubt entry left = (left ≡ doubt)
     ⊎ ((left ≡ certain) ⊎ ((left ≡ checkpointed) ⊎ (left ≡ entered entry)))
 
--- The keeper still stands for the history, after the write of an entry failed.
+-- The keeper still represents the history, after the write of an entry failed.
 pub record IsLeftFaulted {D : Type 0} (image : D → List ℕ → Type 0) (new : KeeperState D)
     (history : History) (place : ℕ) (doubt : Doubt) (entry : Entry) : Type 0 where
   pub new_place : ℕ
@@ -67,7 +67,8 @@ module _ {D : Type 0} (image : D → List ℕ → Type 0) (old new : KeeperState
   -- A checkpoint succeeded: the disk that was active is passed over, and has the place of a first
   -- gate.
   abbrev pub IsRenewed : Type 0
-  IsRenewed = IsSure image new.first new.second new.pair × IsLong image new.first new.second new.pair
+  IsRenewed = IsSure image new.first new.second new.pair
+      × IsLong image new.first new.second new.pair
 
   -- After an entry: the history with it, and nothing in doubt.
   pub record IsGrown (entry : Entry) : Type 0 where
@@ -98,8 +99,8 @@ module _ {D : Type 0} (image : D → List ℕ → Type 0) (old new : KeeperState
     pub is : IsEntryAtEnd history request asked stamp entry
     pub left : IsLeftFaulted image new history place doubt entry
 
-  -- A checkpoint below epoch 2^63 that succeeded: the active journal is on the other disk, in format
-  -- 2, and holds the pod at the end of the history and no entry.
+  -- A checkpoint below epoch 2^63 that succeeded: the active journal is on the other disk, in
+  -- format 2, and holds the pod at the end of the history and no entry.
   pub record IsCheckpointed : Type 0 where
     pub kept : IsKept image new history (end_of history) certain
     pub active : new.pair.active ≡ opposite_of old.pair.active
@@ -116,8 +117,8 @@ module _ {D : Type 0} (image : D → List ℕ → Type 0) (old new : KeeperState
 
 module _ {D : Type 0} (moment : D → ℕ) (left_since : D → ℕ → List ℕ → Type 0)
     (old new : KeeperState D) (history : History) where
-  -- At each moment since, each pair of crash images stands for the history, or for it with one of
-  -- these entries after its end.
+  -- At each moment since, each pair of crash images represents the history, or it with one of these
+  -- entries after its end.
   abbrev pub LeavesPodsOf : List Entry → Type 0
   LeavesPodsOf entries = LeavesPairs moment left_since old.first old.second new.first new.second
       (StandsForOneOf history entries)

@@ -7,7 +7,7 @@ use Rattle.pod_command.specs.declared.entry.Entry.{Entry}
 use Rattle.pod_core.specs.History.{History, longer}
 use Rattle.pod_live.specs.Stored.{IsStored}
 
--- The two disks stand for the history: the journal that is taken holds it from some place on.
+-- The two disks represent the history: the journal that is taken holds it from some place on.
 pub record StandsFor (history : History) (first second : List ℕ) : Type 0 where
   pub side : Side
   pub format : ℕ
@@ -17,11 +17,11 @@ pub record StandsFor (history : History) (first second : List ℕ) : Type 0 wher
   pub stands : StoreStands side format epoch bodies first second
   pub stored : IsStored history format place bodies
 
--- they stand for the history with this entry after its end
+-- they represent the history with this entry after its end
 abbrev pub StandsForMore : History → Entry → List ℕ → List ℕ → Type 0
 StandsForMore history entry = StandsFor (longer history (entry ∷ []))
 
--- for the history, or for it with one of these entries after its end
+-- they represent the history, or it with one of these entries after its end
 abbrev pub StandsForOneOf : History → List Entry → List ℕ → List ℕ → Type 0
 StandsForOneOf history entries first second = StandsFor history first second
     ⊎ ((entry : Entry) × Contains entries entry × StandsForMore history entry first second)

@@ -5,9 +5,9 @@ use Rattle.pod_pages.specs.State.{VersionState}
 use Rattle.pod_pages.specs.declared.effects.Effect.{Effect}
 use Rattle.pod_rows.specs.Pod.{Pod}
 
--- A keeper as contracts see it: its two disks and their pair, its version, and the moment of the last
--- change. The version is its pod, the number of the next change, and the effects that it keeps with
--- the number of the oldest entry among them.
+-- A keeper as contracts see it: its two disks and their pair, its version, and the moment of the
+-- last change. The version is its pod, the number of the next change, and the effects that it keeps
+-- with the number of the oldest entry among them.
 pub record KeeperState (D : Type 0) : Type 0 where
   pub first : D
   pub second : D

@@ -1,4 +1,4 @@
--- What a keeper stands for.
+-- What a keeper represents.
 use Rattle.std.specs.Prelude.{◌≡◌, ℕ, List, [], ◌∷◌, None}
 use Rattle.journal_pair.specs.PairJournal.{IsPairClean, IsAppendInDoubt, IsCheckpointInDoubt}
 use Rattle.journal_pair.specs.PairState.{PairState}
@@ -10,7 +10,7 @@ use Rattle.pod_pages.specs.State.{VersionState, states_after}
 use Rattle.pod_records.specs.Records.{entry_text, last_after, IsEntryIn, IsSnapshotText}
 use Rattle.pod_rows.specs.Apply.{Applies}
 
--- What may be on the disks beside the history: nothing, one entry after its end, or a checkpoint
+-- What may be on the disks besides the history: nothing, one entry after its end, or a checkpoint
 -- there.
 pub data Doubt : Type 0 where
   certain : Doubt
@@ -52,7 +52,7 @@ version_of history = states_after (record {
   oldest = history.start;
 }) history.entries
 
--- The keeper stands for the history. Its version is the one at the end, and its last moment that of
+-- The keeper represents the history. Its version is the one at the end, and its last moment that of
 -- the last entry. The active journal holds the history from this place on.
 pub record IsKept {D : Type 0} (image : D → List ℕ → Type 0) (keeper : KeeperState D)
     (history : History) (place : ℕ) (doubt : Doubt) : Type 0 where
@@ -66,7 +66,7 @@ pub record IsKept {D : Type 0} (image : D → List ℕ → Type 0) (keeper : Kee
   pub stored : IsStored history keeper.pair.journal.format place bodies
   pub disks : HasOnDisks image keeper.first keeper.second keeper.pair history bodies doubt
 
--- it stands for some history
+-- it represents some history
 abbrev pub StandsForSome : {D : Type 0} → (D → List ℕ → Type 0) → KeeperState D → Type 0
 StandsForSome image keeper = (history : History) × (place : ℕ) × (doubt : Doubt)
     × IsKept image keeper history place doubt

@@ -1,7 +1,7 @@
 -- what holds a history
 pub mod Stored
 pub mod CrashedPods
--- what a keeper stands for, and what its calls make of it
+-- what a keeper represents, and what its calls do to it
 pub mod KeeperState
 pub mod Kept
 pub mod Commits

@@ -1,4 +1,4 @@
--- What the opening of a keeper gives.
+-- What the opening of a keeper returns.
 use Rattle.std.specs.Prelude.{◌≤◌, ℕ, List, Option}
 use Rattle.journal_pair.specs.Causes.{IfBothVisible}
 use Rattle.journal_pair.specs.PairMoments.{EachPair, LeavesPairs, IsWhileStoreOpened}
@@ -12,8 +12,8 @@ use Rattle.pod_live.specs.KeeperState.{KeeperState}
 use Rattle.pod_live.specs.Stored.{history_of}
 use Rattle.pod_records.specs.Records.{Holds}
 
--- The records of the active journal, which the disks stand for, hold a snapshot and entries. The
--- keeper stands for that snapshot with those entries.
+-- The records of the active journal, which the disks represent, hold a snapshot and entries. The
+-- keeper represents that snapshot with those entries.
 pub record IsOpened {D : Type 0} (image : D → List ℕ → Type 0) (first second : Option (List ℕ))
     (bodies : List (List ℕ)) (keeper : KeeperState D) : Type 0 where
   pub snapshot : Snapshot
@@ -23,8 +23,8 @@ pub record IsOpened {D : Type 0} (image : D → List ℕ → Type 0) (first seco
       keeper.pair.journal.format keeper.pair.journal.epoch bodies)
   pub kept : IsKept image keeper (history_of snapshot entries) snapshot.seq certain
 
--- Where each pair of crash images stood for one of these before, also though its torn last gate is
--- written, each stands for one of them at every moment since.
+-- Where each pair of crash images represented one of these before, also while its torn last gate is
+-- written, each represents one of them at every moment since.
 abbrev pub KeepsStanding : {D : Type 0} → (D → List ℕ → Type 0) → (D → ℕ)
     → (D → ℕ → List ℕ → Type 0) → D → D → D → D → Type 0
 KeepsStanding image moment left_since first second first_new second_new =

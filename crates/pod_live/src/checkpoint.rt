@@ -18,17 +18,17 @@ use std::alloc::Global;
 
 impl<D: Disk> Keeper<D> {
     /// Makes a checkpoint: from `Ok` on, below epoch 2^63, the active journal is on the other disk,
-    /// and holds the present pod and no entry. The gate in doubt is closed before, where there is
+    /// and holds the current pod and no entry. The gate in doubt is closed before, where there is
     /// one. At epoch 2^63 it changes nothing.
     ///
     /// # Errors
     ///
-    /// `NoMemory` comes before the first call of a disk. After `DiskFault` the active journal is the
-    /// one from before, and the checkpoint may be in doubt.
+    /// `NoMemory` comes before the first call of a disk. After `DiskFault` the active journal is
+    /// the one from before, and the checkpoint may be in doubt.
     pub fn checkpoint(&mut self, alloc: Global) -> Result<(), CommitFault>
         requires stands { StandsForSome D.image self.old }
 
-        // For each history that it stood for.
+        // For each history that the keeper represented.
         ensures done { OnOk result (self.old.pair.journal.epoch < 2 ^ 63
             → (history : History) (place : ℕ) (doubt : Doubt)
             → IsKept D.image self.old history place doubt

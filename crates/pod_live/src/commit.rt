@@ -46,7 +46,7 @@ fn stamp_after(stamp: Stamp, last: Option<Moment>) -> Stamp
 }
 
 impl<D: Disk> Keeper<D> {
-    /// Answers a change at the present version, with the greater of the stamp's moment and the last
+    /// Answers a change at the current version, with the greater of the stamp's moment and the last
     /// entry's. Where the answer has an entry it is made durable, and applied: after `Ok` every
     /// crash image has it. Before it the gate in doubt is closed, where there is one, and a
     /// checkpoint is made, where the journal has format 1 or is long enough.
@@ -66,7 +66,7 @@ impl<D: Disk> Keeper<D> {
         requires change { IsTrue (is_change request.now.method) }
         requires stands { StandsForSome D.image self.old }
 
-        // For each history that it stood for.
+        // For each history that the keeper represented.
         ensures done { IfOk result (λ done. (history : History) (place : ℕ) (doubt : Doubt)
             → IsKept D.image self.old history place doubt
             → IsCommitted D.image self.old self.new history place request.now
@@ -81,7 +81,7 @@ impl<D: Disk> Keeper<D> {
 
         // For each of them, by the events of a world: the change is taken, an entry in doubt is
         // repaired, the entry's record is written, and its gate is opened, each with the outcome
-        // that the disks gave.
+        // that the disks returned.
         ensures world_done { IfOk result (λ done. (history : History) (place : ℕ) (doubt : Doubt)
             → IsKept D.image self.old history place doubt
             → IsDoneByEvents D.image self.new history doubt request.now
@@ -128,7 +128,7 @@ impl<D: Disk> Keeper<D> {
         }
     }
 
-    /// The reply to a change at the present version.
+    /// The reply to a change at the current version.
     fn ask(&self, alloc: Global, request: &Request, asked: &Asked<'_>, stamp: Stamp) -> Mem<Replied>
         ensures reply { IfOk result (λ replied. IsReply self.now.pod request.now
             (asked_view asked.now) self.now.next (later stamp self.now.last)

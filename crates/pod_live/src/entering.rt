@@ -33,8 +33,8 @@ use std::sync::Arc;
 /// The format that is only read: a journal of it has a checkpoint before the next entry.
 const OLD_FORMAT: u8 = 1;
 
-/// What a commit writes and keeps, made before the first write: the next version and its moment, the
-/// record of the entry, and that of the present version's snapshot, where a checkpoint is due.
+/// What a commit writes and keeps, made before the first write: the next version and its moment,
+/// the record of the entry, and that of the current version's snapshot, where a checkpoint is due.
 #[derive(Drop)]
 struct Prepared {
     version: Arc<Version>,

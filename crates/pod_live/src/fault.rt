@@ -1,4 +1,4 @@
-//! What the calls of a keeper answer.
+//! What the calls of a keeper return.
 ghost use Rattle.std.specs.Prelude.{◌≡◌};
 ghost use Rattle.pod_live.specs.declared.fault.CommitFault.TheVariants as faults;
 
@@ -50,7 +50,7 @@ pub struct Done {
     pub place: u64,
 }
 
-/// Why a store wasn't opened. It hands the disks back.
+/// Why a store wasn't opened. It returns the disks.
 #[derive(Drop)]
 pub struct NotOpened<D: Disk> {
     pub fault: OpenFault,

@@ -11,11 +11,11 @@ use std::alloc::Global;
 use std::marker::Model;
 use std::sync::Arc;
 
-/// The one writer of a pod, over the two disks of its store. It keeps the present version, and the
+/// The one writer of a pod, over the two disks of its store. It keeps the current version, and the
 /// moment of the last entry.
 ///
 /// Contracts see the disks, the state of their pair, the version and that moment (`KeeperState`),
-/// and say by `IsKept` for which histories the keeper stands.
+/// and `IsKept` defines which histories the keeper represents.
 #[derive(Drop)]
 pub struct Keeper<D: Disk> {
     pub(crate) disks: Disks<D>,
@@ -24,7 +24,7 @@ pub struct Keeper<D: Disk> {
     pub(crate) last: Option<Moment>,
 }
 
-/// A version that is shared by counts.
+/// A reference-counted version.
 pub(crate) fn shared(alloc: Global, version: Version) -> Mem<Arc<Version>>
     ensures { IfOk result (λ shared. arc_value shared ≡ version) }
 {
@@ -53,7 +53,7 @@ impl<D: Disk> Model for Keeper<D> {
 }
 
 impl<D: Disk> Keeper<D> {
-    /// The present version.
+    /// The current version.
     pub fn version(&self) -> &Arc<Version>
         ensures pod { (arc_value result.now).pod ≡ self.now.pod }
         ensures next { (arc_value result.now).next ≡ self.now.next }
@@ -77,7 +77,7 @@ impl<D: Disk> Keeper<D> {
         self.last
     }
 
-    /// Gives the disks back as they are.
+    /// Returns the disks as they are.
     pub fn close(self) -> Disks<D>
         ensures first { result.first ≡ self.first }
         ensures second { result.second ≡ self.second }

@@ -1,5 +1,5 @@
-//! What a keeper stands for, said of the crash images of its disks. The contract of this function
-//! is a law, and it does nothing.
+//! What the crash images of a keeper's disks represent. The contract of this function is a law, and
+//! it does nothing.
 ghost use Rattle.std.specs.Prelude.{ℕ, List};
 ghost use Rattle.journal_pair.specs.PairMoments.{EachPair};
 ghost use Rattle.pair_writes.specs.Doubts.{IsSure};
@@ -11,8 +11,8 @@ use crate::keeper::Keeper;
 use pod_disk::Disk;
 
 impl<D: Disk> Keeper<D> {
-    /// Every pair of crash images of a keeper's disks stands for its history, or for it with the
-    /// entry in doubt, also while a torn gate is written by the next opening.
+    /// Every pair of crash images of a keeper's disks represents its history, or it with the entry
+    /// in doubt, also while the next opening writes a torn gate.
     pub fn crash_images_stand(&self)
         ensures { (history : History) (place : ℕ) (doubt : Doubt)
             → IsKept D.image self.now history place doubt

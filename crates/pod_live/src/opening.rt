@@ -62,7 +62,7 @@ impl<D: Disk> Keeper<D> {
     ///
     /// # Errors
     ///
-    /// A refusal hands the disks back. `Empty` comes where both disks are empty. `Damaged` comes at
+    /// A refusal returns the disks. `Empty` comes where both disks are empty. `Damaged` comes at
     /// the first gate of the store whose frame isn't whole, and where all frames are whole, at the
     /// first gate whose record isn't what it should be: a well-formed snapshot, or an entry that
     /// applies after those before it. `DiskFault` comes only where a count of faults increased.

@@ -17,31 +17,30 @@ pub record DiskFaults : Type 0 where
   pub first : ℕ
   pub second : ℕ
 
--- What a holder counts: the faults of its disks, and the requests that found no memory.
+-- What a holder counts: the faults of its disks, and the requests that ran out of memory.
 pub record Faults : Type 0 where
   pub disks : DiskFaults
   pub starved : ℕ
 
--- So many faults were counted at least, unless a count is at the last number that it can hold; and
--- no count fell.
+-- At least so many faults were counted, unless a count is at its maximum; and no count decreased.
 pub record CountsDiskFaults (many : ℕ) (old new : DiskFaults) : Type 0 where
   pub first : old.first ≤ new.first
   pub second : old.second ≤ new.second
   pub counted : new.first < 2 ^ 64 - 1 → new.second < 2 ^ 64 - 1
       → many + (old.first + old.second) ≤ new.first + new.second
 
--- So many requests were counted at least that found no memory, unless their count is at the last
--- number that it can hold; and it didn't fall.
+-- At least so many requests that ran out of memory were counted, unless the count is at its
+-- maximum; and it didn't decrease.
 pub record CountsStarved (many old new : ℕ) : Type 0 where
   pub no_fewer : old ≤ new
   pub counted : new < 2 ^ 64 - 1 → many + old ≤ new
 
--- So many requests met a disk fault, and so many found no memory: each was counted.
+-- So many requests met a disk fault, and so many ran out of memory: each was counted.
 pub record CountsUnanswered (disk_faults no_memory : ℕ) (old new : Faults) : Type 0 where
   pub disks : CountsDiskFaults disk_faults old.disks new.disks
   pub starved : CountsStarved no_memory old.starved new.starved
 
--- A holder that stood for one history stands for another one, and has come to it so.
+-- The holder after a call represents the later history, and `follows` relates it to the one before.
 abbrev pub Goes : {H : Type 0} → (H → History → Type 0) → (H → History → H → History → Type 0) → H
     → History → H → History → Type 0
 Goes stands follows old history new more = stands new more × follows old history new more
@@ -52,7 +51,7 @@ faults_in (Ok answer) = 0
 faults_in (Err NoMemory) = 0
 faults_in (Err DiskFault) = 1
 
--- one where no memory was found, and else none
+-- one where memory ran out, and else none
 abbrev pub starved_in : {T : Type 0} → Result T AnswerFault → ℕ
 starved_in (Ok answer) = 0
 starved_in (Err NoMemory) = 1
@@ -69,8 +68,8 @@ abbrev pub stamp_of_request : History → Request → Stamp → Stamp
 stamp_of_request history request stamp =
     record stamp { moment = record { 0 = moment_of_request history request stamp.moment.0 } }
 
--- The request was answered at the end of the history by the reply there. The holder then has gone on
--- to the history with the reply's entry, where it has one.
+-- The request was answered at the end of the history by the reply there. The holder has advanced to
+-- the history with the reply's entry, where it has one.
 pub record IsAnswerAtEnd (goes : History → Type 0) (history : History) (request : Request)
     (asked : AskedAgent) (stamp : Stamp) (answer : Answer) : Type 0 where
   pub reply : Reply

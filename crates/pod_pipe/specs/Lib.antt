@@ -1,5 +1,5 @@
--- What public clauses cite: what a holder of a pod is, how agents are asked, which sessions are
--- served, and how a connection ends.
+-- What public clauses cite: what a holder of a pod is, how requests are authenticated, which
+-- sessions are served, and how a connection ends.
 pub mod Holders
 pub mod Memory
 pub mod Agents

@@ -17,14 +17,14 @@ pub record IsMemoryOf (pod : Pod) (next last : ℕ) (history : History) : Type 0
 abbrev pub no_faults : DiskFaults
 no_faults = record { first = 0; second = 0 }
 
--- what it counts: the requests that found no memory
+-- what it counts: the requests that ran out of memory
 abbrev pub memory_faults : MemoryPod → Faults
 memory_faults pod = record { disks = no_faults; starved = pod.starved }
 
--- the histories that a pod in memory stands for
+-- the histories that a pod in memory represents
 abbrev pub memory_stands : MemoryPod → History → Type 0
 memory_stands pod = IsMemoryOf pod.state.pod pod.state.next pod.last.0
 
--- no disk is left behind
+-- there are no disks to relate
 abbrev pub nothing_follows : MemoryPod → History → MemoryPod → History → Type 0
 nothing_follows old history new more = Unit {0}

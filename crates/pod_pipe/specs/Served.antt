@@ -1,4 +1,4 @@
--- What one connection writes of a pod, over a history that the pod's holder stands for.
+-- What one connection writes of a pod, over a history that the pod's holder represents.
 use Rattle.std.specs.Prelude.{◌≡◌, ℕ, ◌+◌, Bool, List, [], ◌∷◌, Option}
 use mathlib.Core.List.{IsPrefix}
 use Rattle.http_conn.specs.Messages.{Messages}
@@ -25,7 +25,7 @@ abbrev pub disk_faults : List Item → ℕ
 disk_faults [] = 0
 disk_faults (item ∷ items) = fault_on item.outcome + disk_faults items
 
--- how many items found no memory
+-- how many items ran out of memory
 abbrev pub starved_on : Outcome → ℕ
 starved_on (answered place reply) = 0
 starved_on no_memory = 1
@@ -36,8 +36,8 @@ starved_items [] = 0
 starved_items (item ∷ items) = starved_on item.outcome + starved_items items
 
 -- The session is that of connection 1, from the end of this history on. Its own history is that one
--- with exactly the items' entries, each of which applies. Where one agent makes all its requests, it
--- is a session over each history that ends alike for that agent, too.
+-- with exactly the items' entries, each of which applies. Where one agent makes all its requests,
+-- it is a session over each history that ends alike for that agent, too.
 pub record Continues (may_give : ℕ → Type 0) (asking : Request → AskedAgent) (begun : History)
     (events : List Heard) (session : Session) : Type 0 where
   pub conn : session.conn ≡ 1
@@ -47,8 +47,8 @@ pub record Continues (may_give : ℕ → Type 0) (asking : Request → AskedAgen
       (end_of session.history)
   pub isolated : IsIsolated may_give asking begun events session
 
--- What is left of a holder that stood for the history: it has gone on to the history with the
--- items' entries, and each item that met a disk fault or found no memory was counted.
+-- The returned holder, which represented the history: it has advanced to the history with the
+-- items' entries, and each item that met a disk fault or ran out of memory was counted.
 pub record Leaves {H : Type 0} (stands : H → History → Type 0) (faults : H → Faults)
     (follows : H → History → H → History → Type 0) (begun : History) (old new : H)
     (items : List Item) : Type 0 where
@@ -58,8 +58,8 @@ pub record Leaves {H : Type 0} (stands : H → History → Type 0) (faults : H �
 
 module _ (may_give : ℕ → Type 0) (asking : Request → AskedAgent) (trails : Bool) (begun : History)
     (leaves : List Item → Type 0) where
-  -- All that was heard was served: the bytes written are those of a whole session over it, and the
-  -- trail is that of its items. Its last item switched protocols, or none did.
+  -- All events were served: the bytes written are those of a whole session over them, and the trail
+  -- is that of its items. Its last item switched protocols, or none did.
   pub record IsServed (upgraded : Bool) (events : List Heard) (written trail : List ℕ)
       : Type 0 where
     pub session : Session
@@ -70,8 +70,8 @@ module _ (may_give : ℕ → Type 0) (asking : Request → AskedAgent) (trails :
     pub bytes : written ≡ output events session
     pub lines : trail ≡ trail_of trails session.items
 
-  -- Serving stopped: the bytes written begin those of a session over what was heard, and the trail
-  -- begins that of its items.
+  -- Serving stopped: the bytes written are a prefix of those of a session over the events, and the
+  -- trail is a prefix of that of its items.
   pub record IsStopped (events : List Heard) (written trail : List ℕ) : Type 0 where
     pub session : Session
     pub continues : Continues may_give asking begun events session
@@ -79,8 +79,8 @@ module _ (may_give : ℕ → Type 0) (asking : Request → AskedAgent) (trails :
     pub bytes : IsPrefix written (output events session)
     pub lines : IsPrefix trail (trail_of trails session.items)
 
-  -- The bytes written begin those of a session over the bytes read, whatever the end: over each parse
-  -- of these, and a text has exactly one.
+  -- Whatever the end, the bytes written are a prefix of those of a session over the bytes read:
+  -- over each parse of these, and a text has exactly one.
   pub record WritesSession (old_input new_input old_output new_output : Option (List ℕ))
       : Type 0 where
     pub read : List ℕ

@@ -33,20 +33,20 @@ status_of ReadLimit = 14
 abbrev pub IsLastHeard : List Heard → Type 0
 IsLastHeard heard = (StaysOpen 0 heard → ⊥) × (bad_status heard ≡ None)
 
--- what is heard in the bytes begins so
+-- the events of the bytes begin with these
 abbrev pub Hears : List ℕ → List Heard → Type 0
 Hears read heard = (all : List Heard) × (rest : ℕ) × Messages read all rest
     × ((more : List Heard) × (all ≡ heard ++ more))
 
--- what is heard in a front of the bytes begins so, and each reading of all of them does
+-- the events of a prefix of the bytes begin with these, and so does each parse of all of them
 pub record HearsFirst (read : List ℕ) (heard : List Heard) : Type 0 where
   pub front : AreFirstEvents read heard
   pub whole : (all : List Heard) (rest : ℕ) → Messages read all rest → (more : List Heard)
       × (all ≡ heard ++ more)
 
--- What was heard in the bytes that were read, and what is left of them, by how the connection
--- ended. For want of memory the last of these bytes may not have been heard. More may be heard
--- behind a request that switched protocols.
+-- The events of the bytes that were read, and the input that is left, by how the connection ended.
+-- Out of memory, the last of these bytes may not be parsed. More events may follow a request that
+-- switched protocols.
 abbrev pub IsHeard : PipeEnd → List ℕ → List Heard → Option (List ℕ) → Type 0
 IsHeard Peer read heard left = Messages read heard 0 × StaysOpen 0 heard × AtEnd left
 IsHeard (Cut rest) read heard left = Messages read heard rest × (0 < rest) × StaysOpen 0 heard
@@ -65,8 +65,9 @@ IsHeard NoMemory read heard left = HearsFirst read heard
 
 module _ (may_give : ℕ → Type 0) (asking : Request → AskedAgent) (trails : Bool) (begun : History)
     (leaves : List Item → Type 0) where
-  -- What was written of it, and the trail. All was served, up to a request that switched protocols
-  -- where one did; where a write failed or no memory was left, they begin those of a session.
+  -- What was written for the events, and the trail. All were served, up to a request that switched
+  -- protocols where one did; where a write failed or memory ran out, they are prefixes of those of
+  -- a session.
   abbrev pub IsWritten : PipeEnd → List Heard → List ℕ → List ℕ → Type 0
   IsWritten WriteFault heard written trail =
       IsStopped may_give asking trails begun leaves heard written trail
@@ -77,8 +78,8 @@ module _ (may_give : ℕ → Type 0) (asking : Request → AskedAgent) (trails :
   IsWritten _ heard written trail =
       IsServed may_give asking trails begun leaves false heard written trail
 
-  -- The input gave the bytes that were read, the output took those that were written, and the error
-  -- sink the trail: those of a session over what was heard.
+  -- The input returned the bytes that were read, the output has those that were written, and the
+  -- error sink the trail: those of a session over the events.
   pub record Pipes (end : PipeEnd) (old_input new_input old_output new_output old_errors new_errors
       : Option (List ℕ)) : Type 0 where
     pub read : List ℕ
@@ -102,7 +103,7 @@ end_line (Bad status) = codes "end: bad " ++ decimal status ++ codes "\n"
 end_line _ = []
 
 -- What the error sink has after the trail: the line of the end, or a part of it where its count
--- rose. A line of status 0 that fails makes the end a write fault; another that fails changes
+-- increased. A line of status 0 that fails makes the end a write fault; another that fails changes
 -- nothing. After another write fault no line follows.
 abbrev pub Tells : PipeEnd → Option (List ℕ) → Option (List ℕ) → ℕ → ℕ → Type 0
 Tells Peer old new before after = ExtendsBy (end_line Peer) old new
@@ -117,7 +118,7 @@ Tells NoMemory old new before after = new ≡ old
 Tells ReadFault old new before after = new ≡ old
 Tells ReadLimit old new before after = new ≡ old
 
--- whether a line tells of the end
+-- whether the end has a line
 abbrev pub IsTold : PipeEnd → Type 0
 IsTold ReadFault = ⊥
 IsTold WriteFault = ⊥
@@ -125,8 +126,8 @@ IsTold NoMemory = ⊥
 IsTold ReadLimit = ⊥
 IsTold _ = Unit {0}
 
--- How a connection ends that ended so: a line that can't be written or made is a write fault or
--- want of memory.
+-- How a connection ends that ended so: a line that can't be written is a write fault, one that
+-- can't be made is out of memory.
 abbrev pub ComesOf : PipeEnd → PipeEnd → Type 0
 ComesOf end told = (told ≡ end) ⊎ (IsTold end × ((told ≡ WriteFault) ⊎ (told ≡ NoMemory)))
 

@@ -24,8 +24,8 @@ MeetsEnd WriteFault old new = (new ≡ old) ⊎ (new ≡ next_count old)
 MeetsEnd NoMemory old new = (new ≡ old) ⊎ (new ≡ next_count old)
 MeetsEnd _ old new = new ≡ old
 
--- The counts of an input: its reads never fall, and there were 2^40 of them where a run ended by
--- their limit. A count of 2^64 - 1 holds no more.
+-- The counts of an input: the count of reads never decreases, and there were 2^40 reads where a run
+-- ended by their limit. A count stops at 2^64 - 1.
 pub record CountsInput (end : PipeEnd) (old_reads new_reads old_ends new_ends : ℕ) : Type 0 where
   pub reads : old_reads ≤ new_reads
   pub limit : end ≡ ReadLimit → new_reads < 2 ^ 64 - 1 → old_reads + 2 ^ 40 ≤ new_reads

@@ -1,5 +1,6 @@
 -- A connection between two events.
-use Rattle.std.specs.Prelude.{◌≡◌, ◌⊎◌, ℕ, ◌≤◌, ◌<◌, Bool, true, false, List, [], ◌++◌, length, map, take}
+use Rattle.std.specs.Prelude.{◌≡◌, ◌⊎◌, ℕ, ◌≤◌, ◌<◌, Bool, true, false, List, [], ◌++◌}
+use Rattle.std.specs.Prelude.{length, map, take}
 use Rattle.std.specs.Prelude.{Option, Some, None, Result, Ok, Err}
 use Rattle.std.specs.List.{AllByRecursion, flat_map, range_with_len}
 use Rattle.http_conn.specs.Messages.{IsLastRequest, StaysOpen}
@@ -39,7 +40,7 @@ pub record Progress (may_give : ℕ → Type 0) (asking : Request → AskedAgent
   pub is_history : IsHistory (grown begun items)
   pub isolated : AreIsolated may_give 1 begun items
 
--- what the code relies on between two things that are heard
+-- what the code relies on between two events
 pub record IsSound (number : ℕ) : Type 0 where
   pub few : number < REQUEST_LIMIT
 
@@ -49,7 +50,7 @@ MayBeSent (heard.Bad status) = (200 ≤ status) × (status < 600)
 MayBeSent (heard.Request request) = Unit {0}
 MayBeSent heard.Interim = Unit {0}
 
--- how the refusal of bytes that are no message ended, and what a sink has then
+-- how the refusal of a malformed message ended, and what a sink has then
 abbrev pub RefusedAs : (ℕ → Type 0) → ℕ → PipeEnd → Option (List ℕ) → Option (List ℕ) → Type 0
 RefusedAs may_give status (Bad told) old new = (told ≡ status) × ((moment : ℕ)
     × IsClockMoment may_give moment × ExtendsBy (refusal_bytes status moment) old new)
@@ -58,7 +59,7 @@ RefusedAs may_give status WriteFault old new = (moment : ℕ) × IsClockMoment m
     × ((count : ℕ) × ExtendsBy (take count (refusal_bytes status moment)) old new)
 RefusedAs may_give status _ old new = ⊥
 
--- Nothing is heard behind this: a request that is the last, or a refusal. A fault may come
+-- No event after this one is answered: it is a last request, or a refusal. A fault may come
 -- anywhere, and so may a switch of protocols at a request.
 abbrev pub IsOver : ℕ → Heard → PipeEnd → Type 0
 IsOver count (heard.Request request) Closed = IsLastRequest count request
@@ -75,7 +76,7 @@ MayStop WriteFault = Unit {0}
 MayStop NoMemory = Unit {0}
 MayStop _ = ⊥
 
--- all was looked at, unless a fault or a switch of protocols stopped that
+-- all events were answered, unless a fault or a switch of protocols stopped that
 abbrev pub IsAll : List Heard → Result (Unit {0}) PipeEnd → Type 0
 IsAll behind (Ok _) = behind ≡ []
 IsAll behind (Err WriteFault) = Unit {0}
@@ -83,8 +84,8 @@ IsAll behind (Err NoMemory) = Unit {0}
 IsAll behind (Err Upgraded) = Unit {0}
 IsAll behind (Err _) = behind ≡ []
 
--- The counts of faults of the sink for responses and of the one for lines never fall, and one of
--- them rose where a write ended the connection.
+-- The counts of faults of the sink for responses and of the one for lines never decrease, and one
+-- of them increased where a write ended the connection.
 pub record CountsWrites {T : Type 0} (result : Result T PipeEnd)
     (old new old_errors new_errors : ℕ) : Type 0 where
   pub no_fewer : old ≤ new
@@ -95,7 +96,7 @@ pub record CountsWrites {T : Type 0} (result : Result T PipeEnd)
 module _ {H : Type 0} (stands : H → History → Type 0) (faults : H → Faults)
     (follows : H → History → H → History → Type 0) (may_give : ℕ → Type 0)
     (asking : Request → AskedAgent) (trails : Bool) where
-  -- All that was heard was answered with these bytes and this trail, and more may be heard.
+  -- All events were answered with these bytes and this trail, and more may follow.
   pub record Talks (begun : History) (first : H) (holder : H) (number : ℕ)
       (events : List Heard) (written trail : List ℕ) : Type 0 where
     pub items : List Item
@@ -114,7 +115,7 @@ module _ {H : Type 0} (stands : H → History → Type 0) (faults : H → Faults
     abbrev pub WasStopped : List Heard → List ℕ → List ℕ → Type 0
     WasStopped = IsStopped may_give asking trails begun leaves
 
-    -- What was heard has ended the connection so, and these bytes were written.
+    -- The events have ended the connection so, and these bytes were written.
     abbrev pub Ends : PipeEnd → List Heard → List ℕ → List ℕ → Type 0
     Ends Closed events written trail = WasServed false events written trail
         × (StaysOpen 0 events → ⊥)
@@ -132,8 +133,8 @@ module _ {H : Type 0} (stands : H → History → Type 0) (faults : H → Faults
     Ends ReadFault events written trail = ⊥
     Ends ReadLimit events written trail = ⊥
 
-  -- After these were heard the connection goes on, or has ended: so it is behind whatever was heard
-  -- before, with these bytes behind those that were written, and these lines behind the trail.
+  -- After these events the connection continues, or has ended, whatever the events before them:
+  -- these bytes follow those that were written, and these lines the trail.
   abbrev pub Turns : H → ℕ → H → ℕ → List Heard → List ℕ → List ℕ → Result (Unit {0}) PipeEnd
       → Type 0
   Turns old number new number_now hears text lines (Ok _) =
@@ -143,8 +144,8 @@ module _ {H : Type 0} (stands : H → History → Type 0) (faults : H → Faults
   Turns old number new number_now hears text lines (Err end) =
       (begun : History) (first : H) (before : List Heard) (written trail : List ℕ)
       → Talks begun first old number before written trail
-      → Ends begun (Leaves stands faults follows begun first new) end (before ++ hears) (written ++ text)
-      (trail ++ lines)
+      → Ends begun (Leaves stands faults follows begun first new) end (before ++ hears)
+      (written ++ text) (trail ++ lines)
 
   -- The same of a list of which a fault or a switch of protocols may leave the rest unanswered.
   pub record TurnsIn (old : H) (number : ℕ) (new : H) (number_now : ℕ) (hears : List Heard)

@@ -12,7 +12,7 @@ line_on item (answered place reply) = session_line place (record { 0 = item.mome
 line_on item no_memory = []
 line_on item disk_fault = []
 
--- the same where a trail is wanted
+-- the same where the trail is enabled
 abbrev pub line_of : Bool → Item → List ℕ
 line_of trails item = if trails then line_on item item.outcome else []
 

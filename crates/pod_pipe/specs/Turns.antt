@@ -24,7 +24,7 @@ abbrev pub stamped : ℕ → ℕ → Stamp
 stamped number moment = record { conn = 1; number = number; moment = record { 0 = moment } }
 
 -- The request was answered at the end of the history: these are the bytes of the reply, and what a
--- line of the trail shows of it. The holder has gone on to the history with the reply's entry.
+-- line of the trail shows of it. The holder has advanced to the history with the reply's entry.
 pub record IsTaken (may_give : ℕ → Type 0) (goes : History → Type 0) (history : History)
     (request : Request) (asked : AskedAgent) (number : ℕ) (bytes : List ℕ) (noted : Noted)
     : Type 0 where
@@ -41,8 +41,8 @@ pub record IsTaken (may_give : ℕ → Type 0) (goes : History → Type 0) (hist
   pub gone : goes (longer history (option_to_list reply.entry))
 
 -- The request is one item more of a session over the history: these are the bytes of its outcome,
--- and its line. The holder has gone on to the history with its entries, and where it met a disk
--- fault or found no memory, that was counted.
+-- and its line. The holder has advanced to the history with its entries, and a disk fault or out of
+-- memory was counted.
 pub record IsTurned (may_give : ℕ → Type 0) (trails : Bool) (goes : History → Type 0)
     (old new : Faults) (history : History) (request : Request) (asked : AskedAgent) (number : ℕ)
     (text line : List ℕ) (upgraded : Bool) : Type 0 where
@@ -64,13 +64,13 @@ abbrev pub noted_line : Request → AskedAgent → Noted → List ℕ
 noted_line request asked noted =
     session_line noted.place noted.moment (agent_of asked) request noted.status
 
--- one sink has the text too and another the line, or each has a front where that failed
+-- one sink has the text too and another the line, or each has a prefix where that failed
 pub record WritesBoth {T E : Type 0} (result : Result T E) (text line : List ℕ)
     (old new old_errors new_errors : Option (List ℕ)) : Type 0 where
   pub whole : OnOk result (ExtendsBy text old new × ExtendsBy line old_errors new_errors)
   pub part : OnErr result ((count : ℕ) × (many : ℕ) × ExtendsBy (take count text) old new
       × ExtendsBy (take many line) old_errors new_errors)
 
--- the refusal of bytes that are no message at that moment
+-- the refusal of a malformed message at that moment
 abbrev pub refusal_bytes : ℕ → ℕ → List ℕ
 refusal_bytes status moment = response_text (refusal_of status) (date_text moment) true

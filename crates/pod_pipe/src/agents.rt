@@ -1,4 +1,4 @@
-//! [`Agents`]: how the agent of a request is asked.
+//! [`Agents`]: how requests are authenticated.
 ghost use Rattle.std.specs.Prelude.{◌≡◌, IfOk};
 ghost use Rattle.pod_reply.specs.Reply.{agent_of};
 ghost use Rattle.token_table.specs.Credentials.{asked_view};
@@ -8,17 +8,17 @@ use pod_base::{Agent, Mem, Request, Text};
 use std::alloc::Global;
 use token_table::{Asked, Tokens};
 
-/// How the agent of a request is asked.
+/// How requests are authenticated.
 #[derive(Drop)]
 pub enum Agents {
-    /// Every request is this owner's, whatever it says.
+    /// Every request is the owner's, whatever its fields are.
     Owner(Text),
     /// Each request is that of the agent whose token it has.
     Table(Tokens),
 }
 
 impl Agents {
-    /// Who makes a request.
+    /// The requesting agent.
     pub fn asked(&self, request: &Request) -> Asked<'_>
         ensures { asked_view result ≡ asking_of self.now request.now }
     {
@@ -29,8 +29,7 @@ impl Agents {
     }
 }
 
-/// The agent who made a request, as a line of the trail shows them: anybody, also where the request
-/// was refused.
+/// The requesting agent, as a line of the trail shows it: anybody, also where a token was refused.
 pub(crate) fn shown_agent(alloc: Global, asked: &Asked<'_>) -> Mem<Agent>
     ensures { IfOk result (λ agent. agent ≡ agent_of (asked_view asked.now)) }
 {

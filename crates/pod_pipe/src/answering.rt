@@ -1,5 +1,6 @@
 //! Answers one request of a connection, and writes the answer and its line.
-ghost use Rattle.std.specs.Prelude.{◌≡◌, ◌==◌, ℕ, Bool, List, [], if◌then◌else◌, IfOk, IfErr, false};
+ghost use Rattle.std.specs.Prelude.{◌≡◌, ◌==◌, ℕ, Bool, List, [], if◌then◌else◌, false};
+ghost use Rattle.std.specs.Prelude.{IfOk, IfErr};
 ghost use Rattle.http_out.specs.Text.{memory_text, disk_text};
 ghost use Rattle.line_sink.specs.Writing.{Writes};
 ghost use Rattle.pod_core.specs.History.{History};
@@ -24,7 +25,7 @@ use token_table::Asked;
 /// The status of a switch of protocols.
 const SWITCHING: u16 = 101;
 
-/// Writes the line of an answered request to the error sink, where a trail is wanted.
+/// Writes the line of an answered request to the error sink, where the trail is enabled.
 fn write_line<E: Sink>(
     alloc: Global,
     trail: bool,
@@ -33,8 +34,9 @@ fn write_line<E: Sink>(
     noted: Noted,
     errors: &mut E,
 ) -> Result<(), PipeEnd>
-    ensures writes { Writes result (if trail then noted_line request.now (asked_view asked.now) noted
-        else []) (E.taken errors.old) (E.taken errors.new) }
+    ensures writes { Writes result
+        (if trail then noted_line request.now (asked_view asked.now) noted else [])
+        (E.taken errors.old) (E.taken errors.new) }
     ensures fails { IfErr result MayStop }
     ensures faults { CountsWrites result 0 0 (E.faults errors.old) (E.faults errors.new) }
 {
@@ -50,7 +52,7 @@ fn write_line<E: Sink>(
     }
 }
 
-/// Writes an answer, and then its line. Says whether it switches protocols.
+/// Writes an answer, and then its line. Returns whether it switches protocols.
 fn write_taken<K: Sink, E: Sink>(
     alloc: Global,
     trail: bool,
@@ -78,7 +80,7 @@ fn write_taken<K: Sink, E: Sink>(
     }
 }
 
-/// Writes a fixed response, which ends no connection.
+/// Writes a fixed response, which doesn't switch protocols.
 fn write_fixed<K: Sink>(output: &mut K, text: &[u8]) -> Result<bool, PipeEnd>
     ensures writes { Writes result text.now (K.taken output.old) (K.taken output.new) }
     ensures upgraded { IfOk result (λ upgraded. upgraded ≡ false) }
@@ -91,8 +93,8 @@ fn write_fixed<K: Sink>(output: &mut K, text: &[u8]) -> Result<bool, PipeEnd>
     }
 }
 
-/// Answers one request and writes the answer: the pod's, or that no memory was left, or that a disk
-/// failed. Says whether it switches protocols.
+/// Answers one request and writes the response: the pod's, or the fixed one of out of memory or of
+/// a disk fault. Returns whether it switches protocols.
 pub(crate) fn answer_one<H: PodHolder, K: Sink, E: Sink, C: Clock>(
     alloc: Global,
     holder: &mut H,
@@ -107,7 +109,8 @@ pub(crate) fn answer_one<H: PodHolder, K: Sink, E: Sink, C: Clock>(
     ensures turned { (text : List ℕ) × (line : List ℕ) × (upgraded : Bool)
         × ((history : History) → H.stands holder.old history
         → IsTurned (C.may_give clock.now) options.now.trail
-        (Goes H.stands H.follows holder.old history holder.new) (H.faults holder.old) (H.faults holder.new) history request.now
+        (Goes H.stands H.follows holder.old history holder.new) (H.faults holder.old)
+        (H.faults holder.new) history request.now
         (asking_of options.now.agents request.now) number text line upgraded)
         × WritesBoth result text line (K.taken output.old) (K.taken output.new)
         (E.taken errors.old) (E.taken errors.new)

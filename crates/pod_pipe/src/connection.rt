@@ -16,19 +16,19 @@ use crate::talk::Talk;
 use pod_io::{Clock, Sink, Source};
 use std::alloc::Global;
 
-/// How a connection ended, and what holds its pod.
+/// How a connection ended, and the holder of its pod.
 #[derive(Drop)]
 pub struct Piped<H> {
     pub end: PipeEnd,
     pub holder: H,
 }
 
-/// Serves the input as connection 1 of the pod that is held, writes the responses to the output and
-/// the trail to the error sink, where one is wanted, and tells there by a last line how it ended.
+/// Serves the input as connection 1 of the holder's pod, writes the responses to the output and the
+/// trail to the error sink, where it is enabled, and reports there by a last line how it ended.
 ///
-/// Each piece is answered before the next one is read. For each history that the holder stood for,
-/// what was written is the output of a session from its end on, and the holder stands for that
-/// history with the entries of the session's items.
+/// Each piece is answered before the next one is read. For each history that the holder
+/// represented, what was written is the output of a session from its end on, and the holder then
+/// represents that history with the entries of the session's items.
 pub fn pipe<H: PodHolder, S: Source, K: Sink, E: Sink, C: Clock>(
     alloc: Global,
     holder: H,
@@ -40,14 +40,14 @@ pub fn pipe<H: PodHolder, S: Source, K: Sink, E: Sink, C: Clock>(
 ) -> Piped<H>
     requires { (history : History) × H.stands holder history }
 
-    // For each history that it stood for.
+    // For each history that the holder represented.
     ensures pipes { (history : History) → H.stands holder history
         → PipesAndTells (C.may_give clock.now) (asking_of options.now.agents) options.now.trail
         history (Leaves H.stands H.faults H.follows history holder result.holder) result.end
         (S.rest input.old) (S.rest input.new) (K.taken output.old) (K.taken output.new)
         (E.taken errors.old) (E.taken errors.new) (E.faults errors.old) (E.faults errors.new) }
 
-    // Whatever the end, what was written begins the output of a session over what was read.
+    // Whatever the end, what was written is a prefix of the output of a session over what was read.
     ensures session { (history : History) → H.stands holder history
         → WritesSession (C.may_give clock.now) (asking_of options.now.agents) options.now.trail
         history (Leaves H.stands H.faults H.follows history holder result.holder)
@@ -55,7 +55,7 @@ pub fn pipe<H: PodHolder, S: Source, K: Sink, E: Sink, C: Clock>(
     ensures counts { CountsInput result.end (S.reads input.old) (S.reads input.new)
         (S.ends input.old) (S.ends input.new) }
 
-    // A fault is answered only where a count rose.
+    // A fault is returned only where a count increased.
     ensures read_fault { result.end ≡ PipeEnd.ReadFault
         → CountIncreased (S.faults input.old) (S.faults input.new) }
     ensures write_fault { result.end ≡ PipeEnd.WriteFault

@@ -11,8 +11,8 @@ use pod_base::{Moment, Request, Response, Stamp};
 use std::alloc::Global;
 use token_table::Asked;
 
-/// The answer to a request: the response, the place of the history at which it was given, and the
-/// moment of the request there.
+/// The answer to a request: the response, the place of the history at which it was answered, and
+/// the moment of the request.
 #[derive(Debug, Drop)]
 pub struct Answer {
     pub response: Response,
@@ -31,23 +31,23 @@ pub enum AnswerFault {
 /// The one holder of a pod: it answers requests at the end of the pod's history, to which each
 /// change adds its entry.
 pub trait PodHolder {
-    /// It stands for this history: its pod is the one at the history's end.
+    /// It represents this history: its pod is the one at the history's end.
     ghost stands: { Self → History → Type 0 };
 
-    /// Having stood for one history, it has come to stand for another: what that says of its disks.
+    /// Between one history that it represented and a later one: what holds of its disks.
     ghost follows: { Self → History → Self → History → Type 0 };
 
-    /// How many calls of its disks failed, and how many requests found no memory.
+    /// How many calls of its disks failed, and how many requests ran out of memory.
     ghost faults: { Self → Faults };
 
     /// Answers a request at the end of the history, at the stamp's moment; that of a change is no
-    /// earlier than that of the last entry. After `Ok` the entry of the answer, where it has one, is
-    /// part of the history.
+    /// earlier than that of the last entry. After `Ok` the entry of the answer, where it has one,
+    /// is part of the history.
     ///
     /// # Errors
     ///
-    /// After both it stands for the history as before, and each is counted. `DiskFault` comes of a
-    /// change alone, and only where a count of faults increased.
+    /// After both it represents the same history, and each is counted. Only a change has
+    /// `DiskFault`, and only where a count of faults increased.
     fn answer(
         &mut self,
         alloc: Global,
@@ -57,16 +57,17 @@ pub trait PodHolder {
     ) -> Result<Answer, AnswerFault>
         requires { (history : History) × stands self.old history }
 
-        // For each history that it stood for.
+        // For each history that the holder represented.
         ensures answered { IfOk result (λ answer. (history : History) → stands self.old history
-            → IsAnswerAtEnd (Goes stands follows self.old history self.new) history request.now (asked_view asked.now) stamp
-            answer) }
+            → IsAnswerAtEnd (Goes stands follows self.old history self.new) history request.now
+            (asked_view asked.now) stamp answer) }
 
-        // Its bytes can be written.
+        // The response can be written.
         ensures sent { IfOk result (λ answer. IsSent answer.response) }
         ensures kept { OnErr result ((history : History) → stands self.old history
             → Goes stands follows self.old history self.new history) }
-        ensures change { IsErrOf result AnswerFault.DiskFault → IsTrue (is_change request.now.method) }
+        ensures change { IsErrOf result AnswerFault.DiskFault
+            → IsTrue (is_change request.now.method) }
         ensures faults { CountsUnanswered (faults_in result) (starved_in result) (faults self.old)
             (faults self.new) };
 
@@ -74,7 +75,7 @@ pub trait PodHolder {
     ghost legal: { (holder : Self) (history : History) → stands holder history
         → IsHistory history };
 
-    /// A holder that does nothing follows itself, and what follows joins.
+    /// `follows` is reflexive and transitive.
     ghost still: { (holder : Self) (history : History) → follows holder history holder history };
 
     ghost joins: { (a b c : Self) (h i j : History) → follows a h b i → follows b i c j

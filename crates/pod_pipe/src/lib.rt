@@ -7,22 +7,23 @@
 //!     pipe(alloc, pod, &options, &mut input, &mut output, &mut errors, &clock);
 //! ```
 //!
-//! [`PodHolder`] is what holds the pod: [`MemoryPod`] in memory, or the keeper of a store. Its ghost
-//! member `stands` says for which histories of a pod a value stands.
+//! [`PodHolder`] is what holds the pod: [`MemoryPod`] in memory, or the keeper of a store. Its
+//! ghost member `stands` is the relation between a value and the histories that it represents.
 //!
-//! Proved of [`pipe`], for each history that the holder stood for: what was written is the output of
-//! a session of connection 1 over the bytes read, from the end of that history on, and the holder
-//! then stands for the history with exactly the entries of the session's items (`pipes`); whatever
-//! the end, what was written begins that of a session (`session`); the trail has the lines of the
-//! items that were answered, and the last line tells of the end; nothing is read after the end of the
-//! input (`counts`); and a fault comes only where a count of the object that was handed in increased
-//! (`read_fault`, `write_fault`, and `faults` of what is left of the holder). Where one agent makes
-//! all requests, the session is one over each history that ends alike for the agent (`isolated` of
-//! `Continues`), and so the bytes are those of each pod that the agent can't tell apart.
+//! Proved of [`pipe`], for each history that the holder represented: what was written is the output
+//! of a session of connection 1 over the bytes read, from the end of that history on, and the
+//! holder then represents the history with exactly the entries of the session's items (`pipes`);
+//! whatever the end, what was written is a prefix of that of a session (`session`); the trail has
+//! the lines of the items that were answered, and the last line reports the end; nothing is read
+//! after the end of the input (`counts`); and a fault comes only where a count of an object passed
+//! in increased (`read_fault`, `write_fault`, and `faults` of the returned holder). Where one agent
+//! makes all requests, the session is one over each history that ends alike for the agent
+//! (`isolated` of `Continues`), and so the bytes are those of each pod that the agent can't tell
+//! apart.
 //!
-//! It stands on `pod_core` for answers, histories, sessions and their output, on `session_laws` for
-//! what follows of sessions, on `pod_pages` for the pod in memory, on `http_conn` for messages, on
-//! `http_out` for bytes and `line_sink` for writing them, on `token_table` for agents, and on
+//! It depends on `pod_core` for answers, histories, sessions and their output, on `session_laws`
+//! for what follows of sessions, on `pod_pages` for the pod in memory, on `http_conn` for messages,
+//! on `http_out` for bytes and `line_sink` for writing them, on `token_table` for agents, and on
 //! `audit_trail` for lines.
 #![tactic(auto)]
 

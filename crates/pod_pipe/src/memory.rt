@@ -19,13 +19,13 @@ use pod_rows::PodState;
 use std::alloc::Global;
 use token_table::Asked;
 
-/// A pod in memory, and where its history ends. Its requests meet no disk.
+/// A pod in memory, and where its history ends. Its requests use no disk.
 #[derive(Drop)]
 pub struct MemoryPod {
     pub state: Version,
     /// The moment of the last entry, 0 where there is none.
     pub last: Moment,
-    /// How many requests found no memory, at most 2^64 - 1.
+    /// How many requests ran out of memory, at most 2^64 - 1.
     pub starved: u64,
 }
 
@@ -72,7 +72,8 @@ impl MemoryPod {
     ) -> Mem<Answer>
         ensures answered { IfOk result (λ answer. (history : History)
             → memory_stands self.old history
-            → IsAnswerAtEnd (Goes memory_stands nothing_follows self.old history self.new) history request.now (asked_view asked.now) stamp answer) }
+            → IsAnswerAtEnd (Goes memory_stands nothing_follows self.old history self.new) history
+            request.now (asked_view asked.now) stamp answer) }
         ensures sent { IfOk result (λ answer. IsSent answer.response) }
         ensures starved { self.new.starved ≡ self.old.starved }
         ensures unchanged { OnErr result (self.new ≡ self.old) }

@@ -2,8 +2,8 @@
 
 use crate::agents::Agents;
 
-/// How a connection is served: how agents are asked, and whether the error sink gets a line for each
-/// request that is answered.
+/// How a connection is served: how requests are authenticated, and whether the error sink gets a
+/// line for each answered request.
 #[derive(Drop)]
 pub struct PipeOptions {
     pub agents: Agents,

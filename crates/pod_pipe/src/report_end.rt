@@ -21,7 +21,7 @@ fn number_line(alloc: Global, word: &[u8], number: u64) -> Mem<Bytes>
     line.freeze(alloc)
 }
 
-/// Tells that the input ended inside a message.
+/// Reports that the input ended inside a message.
 fn write_cut<E: Sink>(alloc: Global, rest: usize, errors: &mut E) -> PipeEnd
     ensures end { (result ≡ PipeEnd.Cut rest) ⊎ (result ≡ PipeEnd.NoMemory) }
     ensures told { Tells result (E.taken errors.old) (E.taken errors.new) (E.faults errors.old)
@@ -37,7 +37,7 @@ fn write_cut<E: Sink>(alloc: Global, rest: usize, errors: &mut E) -> PipeEnd
     }
 }
 
-/// Tells that bytes that are no message were refused.
+/// Reports that a malformed message was refused.
 fn write_bad<E: Sink>(alloc: Global, status: u16, errors: &mut E) -> PipeEnd
     ensures end { (result ≡ PipeEnd.Bad status) ⊎ (result ≡ PipeEnd.NoMemory) }
     ensures told { Tells result (E.taken errors.old) (E.taken errors.new) (E.faults errors.old)
@@ -53,7 +53,7 @@ fn write_bad<E: Sink>(alloc: Global, status: u16, errors: &mut E) -> PipeEnd
     }
 }
 
-/// Tells of an end of status 0 by this line. It is the one line whose failure is a write fault.
+/// Reports an end of status 0 by this line, the only one whose failure is a write fault.
 fn write_done<E: Sink>(end: PipeEnd, line: &[u8], errors: &mut E) -> PipeEnd
     requires line { line.now ≡ end_line end }
     requires done { status_of end ≡ 0 }
@@ -70,7 +70,7 @@ fn write_done<E: Sink>(end: PipeEnd, line: &[u8], errors: &mut E) -> PipeEnd
     }
 }
 
-/// Tells by a last line how a connection ended, unless a fault, want of memory or the bound on
+/// Reports by a last line how a connection ended, unless a fault, out of memory or the limit on
 /// reads ended it.
 pub fn write_end_line<E: Sink>(alloc: Global, end: PipeEnd, errors: &mut E) -> PipeEnd
     ensures end { ComesOf end result }

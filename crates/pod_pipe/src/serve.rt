@@ -15,13 +15,13 @@ use http_conn::Conn;
 use pod_io::{Clock, Sink, Source};
 use std::alloc::Global;
 
-/// The most bytes that one read asks for.
+/// The most bytes that one read requests.
 const PIECE_LIMIT: usize = 65_536;
 
 /// The most reads of one input.
 const READ_LIMIT: u64 = 1 << 40;
 
-/// The end where the input ended and so many bytes of a message were left.
+/// The end where the input ended after so many bytes of an unfinished message.
 fn at_end(rest: usize) -> PipeEnd
     ensures { result ≡ (if rest == 0 then PipeEnd.Peer else PipeEnd.Cut rest) }
 {
@@ -72,7 +72,7 @@ pub(crate) fn serve<H: PodHolder, S: Source, K: Sink, E: Sink, C: Clock>(
         let Ok(heard) = conn.feed(alloc, &piece[..count]) else {
             return PipeEnd::NoMemory;
         };
-        match talk.hear(alloc, heard.as_slice(), options, output, errors, clock) {
+        match talk.answer_events(alloc, heard.as_slice(), options, output, errors, clock) {
             Ok(()) => {}
             Err(end) => return end,
         }

@@ -11,23 +11,23 @@ pub struct Status(pub u8);
 pub enum PipeEnd {
     /// The input ended between messages.
     Peer,
-    /// The input ended inside a message, of which there were so many bytes.
+    /// The input ended inside a message, after so many bytes of it.
     Cut { rest: usize },
-    /// A request asked for it, or has a version whose connections don't persist.
+    /// A request asked to close it, or has a version whose connections don't persist.
     Closed,
-    /// The last request was answered that a connection may have.
+    /// The last request that a connection may have was answered.
     Limit,
     /// A request was answered by a switch of protocols.
     Upgraded,
-    /// Bytes that are no message were refused with that status.
+    /// A malformed message was refused with that status.
     Bad { status: u16 },
     /// A read failed.
     ReadFault,
     /// A write failed.
     WriteFault,
-    /// No memory was left to go on.
+    /// Out of memory.
     NoMemory,
-    /// The bound on reads was reached.
+    /// The limit on reads was reached.
     ReadLimit,
 }
 

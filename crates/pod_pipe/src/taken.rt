@@ -57,8 +57,8 @@ pub(crate) fn take<H: PodHolder, C: Clock>(
 ) -> Result<Taken, AnswerFault>
     requires { (history : History) × H.stands holder.old history }
     ensures taken { IfOk result (λ taken. (history : History) → H.stands holder.old history
-        → IsTaken (C.may_give clock.now) (Goes H.stands H.follows holder.old history holder.new) history request.now
-        (asked_view asked.now) number taken.out taken.noted) }
+        → IsTaken (C.may_give clock.now) (Goes H.stands H.follows holder.old history holder.new)
+        history request.now (asked_view asked.now) number taken.out taken.noted) }
     ensures kept { OnErr result ((history : History) → H.stands holder.old history
         → Goes H.stands H.follows holder.old history holder.new history) }
     ensures change { IsErrOf result AnswerFault.DiskFault → IsTrue (is_change request.now.method) }

@@ -30,14 +30,14 @@ use pod_io::{Clock, Sink};
 use session_laws::sessions_are_isolated;
 use std::alloc::Global;
 
-/// A connection that is answered: what holds its pod, and how many of its requests were answered.
+/// A connection: the holder of its pod, and how many of its requests were answered.
 #[derive(Drop)]
 pub(crate) struct Talk<H> {
     pub holder: H,
     pub number: u64,
 }
 
-/// The end behind the last request of a connection, by its number.
+/// The end after the last request of a connection, by its number.
 fn end_behind(number: u64) -> PipeEnd
     ensures { result ≡ (if number == REQUEST_LIMIT then PipeEnd.Limit else PipeEnd.Closed) }
 {
@@ -48,7 +48,7 @@ fn end_behind(number: u64) -> PipeEnd
     }
 }
 
-/// The refusal of bytes that are no message, at the clock's moment.
+/// The refusal of a malformed message, at the clock's moment.
 fn refusal_out<C: Clock>(alloc: Global, status: u16, clock: &C) -> Mem<Out>
     requires { (200 ≤ status) × (status < 600) }
     ensures { IfOk result (λ out. (moment : ℕ) × IsClockMoment (C.may_give clock.now) moment
@@ -59,7 +59,7 @@ fn refusal_out<C: Clock>(alloc: Global, status: u16, clock: &C) -> Mem<Out>
     Ok(Out::new(response, moment, true))
 }
 
-/// Refuses bytes that are no message, as the last that is written.
+/// Refuses a malformed message. Nothing is written after that.
 fn refuse<K: Sink, C: Clock>(alloc: Global, status: u16, output: &mut K, clock: &C) -> PipeEnd
     requires { (200 ≤ status) × (status < 600) }
     ensures refused { RefusedAs (C.may_give clock.now) status result (K.taken output.old)
@@ -77,7 +77,7 @@ fn refuse<K: Sink, C: Clock>(alloc: Global, status: u16, output: &mut K, clock: 
     }
 }
 
-/// Invites a request to send its body.
+/// Writes `100 Continue`.
 fn write_continue<K: Sink>(output: &mut K) -> Result<(), PipeEnd>
     ensures writes { Writes result interim_text (K.taken output.old) (K.taken output.new) }
     ensures end { IfErr result (λ end. end ≡ PipeEnd.WriteFault) }
@@ -90,7 +90,7 @@ fn write_continue<K: Sink>(output: &mut K) -> Result<(), PipeEnd>
 }
 
 impl<H: PodHolder> Talk<H> {
-    /// Answers the next request. Behind the last one, and behind a switch of protocols, the
+    /// Answers the next request. After the last one, and after a switch of protocols, the
     /// connection has ended.
     fn answer<K: Sink, E: Sink, C: Clock>(
         &mut self,
@@ -109,9 +109,9 @@ impl<H: PodHolder> Talk<H> {
         ensures turns { (text : List ℕ) × (lines : List ℕ)
             × ExtendsBy text (K.taken output.old) (K.taken output.new)
             × ExtendsBy lines (E.taken errors.old) (E.taken errors.new)
-            × Turns H.stands H.faults H.follows (C.may_give clock.now) (asking_of options.now.agents)
-            options.now.trail self.old.holder self.old.number self.new.holder self.new.number
-            (hears.Request request.now ∷ []) text lines result }
+            × Turns H.stands H.faults H.follows (C.may_give clock.now)
+            (asking_of options.now.agents) options.now.trail self.old.holder self.old.number
+            self.new.holder self.new.number (hears.Request request.now ∷ []) text lines result }
         ensures over { IfErr result (IsOver self.old.number (hears.Request request.now)) }
         ensures faults { CountsWrites result (K.faults output.old) (K.faults output.new)
             (E.faults errors.old) (E.faults errors.new) }
@@ -143,7 +143,7 @@ impl<H: PodHolder> Talk<H> {
         }
     }
 
-    /// Answers one thing that was heard. The connection goes on, or has ended.
+    /// Answers one event. The connection continues, or has ended.
     fn turn<K: Sink, E: Sink, C: Clock>(
         &mut self,
         alloc: Global,
@@ -163,9 +163,9 @@ impl<H: PodHolder> Talk<H> {
         ensures turns { (text : List ℕ) × (lines : List ℕ)
             × ExtendsBy text (K.taken output.old) (K.taken output.new)
             × ExtendsBy lines (E.taken errors.old) (E.taken errors.new)
-            × Turns H.stands H.faults H.follows (C.may_give clock.now) (asking_of options.now.agents)
-            options.now.trail self.old.holder self.old.number self.new.holder self.new.number
-            (one.now ∷ []) text lines result }
+            × Turns H.stands H.faults H.follows (C.may_give clock.now)
+            (asking_of options.now.agents) options.now.trail self.old.holder self.old.number
+            self.new.holder self.new.number (one.now ∷ []) text lines result }
         ensures over { IfErr result (IsOver self.old.number one.now) }
         ensures faults { CountsWrites result (K.faults output.old) (K.faults output.new)
             (E.faults errors.old) (E.faults errors.new) }
@@ -179,8 +179,8 @@ impl<H: PodHolder> Talk<H> {
         }
     }
 
-    /// Answers what was heard, in its order, until the connection ends.
-    pub fn hear<K: Sink, E: Sink, C: Clock>(
+    /// Answers the events in order, until the connection ends.
+    pub fn answer_events<K: Sink, E: Sink, C: Clock>(
         &mut self,
         alloc: Global,
         heard: &[Heard],
@@ -198,9 +198,9 @@ impl<H: PodHolder> Talk<H> {
         ensures turns { (text : List ℕ) × (lines : List ℕ)
             × ExtendsBy text (K.taken output.old) (K.taken output.new)
             × ExtendsBy lines (E.taken errors.old) (E.taken errors.new)
-            × TurnsIn H.stands H.faults H.follows (C.may_give clock.now) (asking_of options.now.agents)
-            options.now.trail self.old.holder self.old.number self.new.holder self.new.number
-            heard.now text lines result }
+            × TurnsIn H.stands H.faults H.follows (C.may_give clock.now)
+            (asking_of options.now.agents) options.now.trail self.old.holder self.old.number
+            self.new.holder self.new.number heard.now text lines result }
         ensures faults { CountsWrites result (K.faults output.old) (K.faults output.new)
             (E.faults errors.old) (E.faults errors.new) }
     {

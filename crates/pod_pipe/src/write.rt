@@ -7,7 +7,7 @@ use http_out::Out;
 use line_sink::write_all;
 use pod_io::{Failed, Sink};
 
-/// How many bytes of a response stand ready at a time.
+/// The size of the buffer that a response is copied through.
 const PIECE: usize = 8_192;
 
 /// Writes a whole response, or not all of it where a write fails. It takes no memory.

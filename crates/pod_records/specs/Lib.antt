@@ -1,4 +1,4 @@
--- what the records of a journal hold, and what two disks stand for by it
+-- what the records of a journal hold, and what two disks represent by it
 pub mod Records
 pub mod PodStores
 pub mod Readings

@@ -10,7 +10,7 @@ use Rattle.pod_base.specs.Counts.{CountIncreased}
 use Rattle.pod_records.specs.PodStores.{BreaksAfter, IsPodDamaged, gate_after}
 
 -- Two empty disks, or the damage of what they read, on its side and at its place; a fault of a disk
--- was counted; nothing is said of being out of memory.
+-- was counted; out of memory has no stated cause.
 abbrev pub HasPodCause : Option (List ℕ) → Option (List ℕ) → ℕ → ℕ → ℕ → ℕ → OpenFault → Type 0
 HasPodCause first second a a_new b b_new Empty = IfBothVisible first second IsStoreEmpty
 HasPodCause first second a a_new b b_new (Damaged side at) =

@@ -1,4 +1,4 @@
--- What two disks stand for, by a crash image of each and by what their records hold.
+-- What two disks represent, by a crash image of each and by what their records hold.
 use Rattle.std.specs.Prelude.{◌≡◌, ◌⊎◌, ℕ, ◌+◌, List, [], ◌∷◌, ◌++◌}
 use Rattle.std.specs.List.{sum_by}
 use Rattle.journal_log.specs.Frames.{frame_len}

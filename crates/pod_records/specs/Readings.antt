@@ -58,8 +58,8 @@ abbrev pub HasNoEntry : ℕ → List ℕ → Pod → ℕ → Type 0
 HasNoEntry format text pod next =
     (entry : Entry) → IsEntryOf format text entry → Applies pod next entry → ⊥
 
--- Of these records the one at this gate is the first that breaks what they are to hold; nothing is
--- said of being out of memory.
+-- Of these records the one at this gate is the first that breaks what they are to hold; out of
+-- memory has no stated cause.
 abbrev pub HasRecordCause : ℕ → List (List ℕ) → RecordFault → Type 0
 HasRecordCause format bodies (Damaged at) = (good : List (List ℕ)) × BreaksAfter format bodies good
     × (at ≡ gate_after good)

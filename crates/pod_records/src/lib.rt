@@ -1,17 +1,17 @@
 //! What the records of a pod's journal hold: a snapshot of the pod, and the entries made since.
 //!
 //! ```ignore
-//! let record = snapshot_record(alloc, &state)?;                    // a checkpoint's record
-//! let reading = read_records(alloc, format, first, entries)?;      // decodes and applies each once
+//! let record = snapshot_record(alloc, &state)?;                // a checkpoint's record
+//! let reading = read_records(alloc, format, first, entries)?;  // decodes and applies each once
 //! let state = reading.version;
 //! ```
 //!
-//! `specs/Records.antt` says what records hold (`Holds`), and `specs/PodStores.antt` what two disks
-//! stand for by it, or where they are damaged. Proved of [`read_records`]: the pod, the number of
-//! its next change and the last moment are those that the records hold (`read`), and a damage is at
-//! the first gate whose record breaks what they are to hold (`cause`).
+//! `specs/Records.antt` defines what records hold (`Holds`), and `specs/PodStores.antt` what two
+//! disks represent by it, or where they are damaged. Proved of [`read_records`]: the pod, the
+//! number of its next change and the last moment are those that the records hold (`read`), and a
+//! damage is at the first gate whose record breaks what they are to hold (`cause`).
 //!
-//! It stands on `pod_command` for the texts, on `pod_rows` for pods, and on `journal_log` and
+//! It depends on `pod_command` for the texts, on `pod_rows` for pods, and on `journal_log` and
 //! `journal_pair` for frames and stores.
 #![tactic(auto)]
 

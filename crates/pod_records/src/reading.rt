@@ -1,6 +1,6 @@
 //! Reading the records of a journal: each is decoded and applied once.
-ghost use Rattle.std.specs.Prelude.{◌≡◌, ◌+◌, ◌<◌, ◌^◌, ◌++◌, ◌∷◌, [], ◌⊎◌, List, ℕ, Option, Some, None};
-ghost use Rattle.std.specs.Prelude.{IfOk, IfErr, IfSome};
+ghost use Rattle.std.specs.Prelude.{◌≡◌, ◌+◌, ◌<◌, ◌^◌, ◌++◌, ◌∷◌, [], ◌⊎◌, List, ℕ, Option};
+ghost use Rattle.std.specs.Prelude.{Some, None, IfOk, IfErr, IfSome};
 ghost use Rattle.pod_base.specs.declared.moment.Moment.{Moment as MomentValue};
 ghost use Rattle.journal_log.specs.Frames.{frame_len};
 ghost use Rattle.pod_command.specs.Storable.{IsStorable};
@@ -26,7 +26,7 @@ use std::alloc::Global;
 /// The offset of a journal's first gate.
 const FIRST_GATE: u64 = 16;
 
-/// How many bytes a record has beside its body: the gate before it, and its length.
+/// How many bytes a record has besides its body: the gate before it, and its length.
 const FRAME_LEN: u64 = 9;
 
 /// The format whose entries have no bases.

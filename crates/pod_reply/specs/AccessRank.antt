@@ -12,7 +12,7 @@ use Rattle.pod_rows.specs.Pod.{Pod}
 use Rattle.wac_decide.specs.Needs.{needs_of}
 use Rattle.wac_decide.specs.declared.request_needs.Shape.{Shape}
 
--- Who is nobody yet should say who they are.
+-- 401 for anybody, 403 for a known agent.
 abbrev pub access_refusal : Agent → Response
 access_refusal Public = unauthorized (codes "access")
 access_refusal (Known agent) = refusal 403 (codes "access")

@@ -7,7 +7,7 @@ use Rattle.token_table.specs.Credentials.{AskedAgent}
 use Rattle.pod_reply.specs.Replies.{Reply}
 use Rattle.pod_reply.specs.Reply.{IsReply}
 
--- A pod gives at most one reply to a request.
+-- A pod has at most one reply to a request.
 abbrev pub HasOneReply : Type 0
 HasOneReply = (pod : Pod) (request : Request) (asked : AskedAgent) (seq : ℕ) (stamp : Stamp)
     (a b : Reply) → IsReply pod request asked seq stamp a → IsReply pod request asked seq stamp b

@@ -1,5 +1,5 @@
--- What is in the way of a change: its place in the tree, the number of rows, the preconditions,
--- then what its new triples state.
+-- The refusals of a change: by its place in the tree, by the number of rows, by the preconditions,
+-- then by what its new triples state.
 use Rattle.std.specs.Prelude.{ℕ, Bool, true, false, ◌||◌, List, Option, Some, None, codes}
 use Rattle.conditional_req.specs.Conditions.{conditions}
 use Rattle.conditional_req.specs.declared.preconditions.Verdict.{Verdict}

@@ -38,7 +38,7 @@ abbrev pub is_bytes_row : Option Row → Bool
 is_bytes_row None = false
 is_bytes_row (Some row) = is_bytes row.kind
 
--- what is in the way of a PATCH of a path before its patch is applied
+-- the first refusal of a PATCH of a path before its patch is applied
 unfoldable pub patch_refusal : Pod → Request → ℕ → List ℕ → Option Response
 patch_refusal pod request seq path =
     first_of (refuse_if (is_bytes_row (row_at pod.rows path)) (conflict (codes "not-graph")))
@@ -80,7 +80,7 @@ outcome_reply pod request path origin bases (Ok change) =
     unless_refused (guard_refusal pod path change)
     (changing_reply pod request path origin bases change (is_row pod.rows path))
 
--- the reply where nothing is in the way
+-- the reply where no refusal holds
 pub record IsApplied (pod : Pod) (request : Request) (path : List ℕ) (origin : Origin)
     (bases : List Basis) (body : RequestBody) (reply : Reply) : Type 0 where
   pub outcome : Result Change PatchRefusal

@@ -76,7 +76,7 @@ pub record IsMade (pod : Pod) (request : Request) (path : List ℕ) (origin : Or
   pub means : Means (uri_of pod.base member) path request read
   pub follows : IsMemberReply pod request path origin bases member read reply
 
--- what is in the way of the member, with the content that was read
+-- the first refusal of the member, with the content that was read
 unfoldable pub member_refusal : Pod → Request → ℕ → List ℕ → List ℕ → RowContent → Option Response
 member_refusal pod request seq path member content =
     first_of (no_room pod seq 1) (first_of (condition_refusal pod request path)

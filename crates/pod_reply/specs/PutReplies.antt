@@ -28,7 +28,7 @@ row_of path content modified = record {
   modified = modified;
 }
 
--- what is in the way of a PUT or a PATCH of a path, by whether it is a row
+-- the first refusal of a PUT or a PATCH by the place of its path, which is a row or isn't
 abbrev pub place_refusal : Pod → ℕ → List ℕ → Bool → Option Response
 place_refusal pod seq path true = no_room pod seq 0
 place_refusal pod seq path false = new_path_refusal pod seq path
@@ -39,7 +39,7 @@ making_edits pod row true = put_edits row
 making_edits pod row false =
     if is_auxiliary row.path then put_edits row else creation_edits pod.rows row
 
--- 204 of a row that was there, 201 of a new one
+-- 204 for a row that existed, 201 for a new one
 abbrev pub made_response : Pod → List ℕ → Bool → Response
 made_response pod path true = changed
 made_response pod path false = created pod.base path path

@@ -1,5 +1,5 @@
--- The reply to a GET or HEAD that is granted: what is there is shown, in a representation that the
--- client accepts and doesn't have, or the connection becomes a WebSocket.
+-- The reply to a GET or HEAD that is granted: the row is shown, in a representation that the client
+-- accepts and doesn't have, or the connection becomes a WebSocket.
 use Rattle.std.specs.Prelude.{ℕ, List, Option, Some, None, codes}
 use Rattle.pod_access.specs.AllowField.{allow_field}
 use Rattle.pod_base.specs.declared.agent.Agent.{Agent}

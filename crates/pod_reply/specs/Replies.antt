@@ -15,7 +15,7 @@ use Rattle.pod_reply.specs.EntrySize.{sized}
 use Rattle.pod_reply.specs.declared.origin.Origin.{Origin}
 use Rattle.pod_reply.specs.declared.replied.Replied.{Replied}
 
--- a reply; of its entry the spare room of lists doesn't count
+-- a reply; of its entry the spare capacity of lists doesn't count
 pub record Reply : Type 0 where
   pub response : Response
   pub entry : Option Entry

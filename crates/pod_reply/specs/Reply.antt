@@ -44,7 +44,7 @@ IsMemberPost pod request path origin bases (Content content) reply =
     IsPostReply pod request path origin bases content reply
 IsMemberPost pod request path origin bases other reply = ⊥
 
--- The success, and what of the pod may still be in its way, by the method.
+-- The success, or a refusal that depends on the pod, by the method.
 abbrev pub IsMethodReply : Method → Pod → Request → List ℕ → Origin → List Basis → RequestBody
     → Reply → Type 0
 IsMethodReply Get pod request path origin bases body reply =
@@ -68,7 +68,7 @@ HasContent Put = Unit {0}
 HasContent Post = Unit {0}
 HasContent _ = ⊥
 
--- access is decided before anything else of the pod is told
+-- access is decided before anything else of the pod is revealed
 abbrev pub IsGrantedReply : Pod → Request → List ℕ → Origin → RequestBody
     → Result (List Basis) Response → Reply → Type 0
 IsGrantedReply pod request path origin body (Err response) reply = reply ≡ unchanged response

@@ -5,7 +5,7 @@ ghost use Rattle.conditional_req.specs.Conditions.{conditions as conditions_of};
 ghost use Rattle.pod_reply.specs.DeleteReplies as spec;
 ghost use Rattle.pod_reply.specs.Replies.{reply_of};
 
-use crate::obstacles::{is_auxiliary, no_room, refuse_condition};
+use crate::obstacles::{is_auxiliary, refuse_condition, refuse_room};
 use crate::origin::Origin;
 use crate::replied::{Replied, change_reply, unchanged};
 use conditional_req::Conditions;
@@ -50,7 +50,7 @@ fn refuse_removal<S: PodState>(
     if has_children(alloc, state, path)? {
         return Ok(Some(refusal(alloc, 409, b"not-empty")?));
     }
-    match no_room(alloc, state, seq, 0)? {
+    match refuse_room(alloc, state, seq, 0)? {
         Some(response) => Ok(Some(response)),
         None => refuse_condition(alloc, state, request, path, conditions),
     }

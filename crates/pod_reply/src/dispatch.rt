@@ -183,7 +183,7 @@ fn origin_of(alloc: Global, asked: &Asked<'_>, seq: u64, stamp: Stamp) -> Mem<Or
 }
 
 /// The reply to a request, before it is sent.
-fn told<S: PodState>(
+fn reply_admitted<S: PodState>(
     alloc: Global,
     state: &S,
     request: &Request,
@@ -213,7 +213,7 @@ pub fn reply<S: PodState>(
         (asked_view asked.now) seq stamp (reply_of replied)) }
 {
     let origin = origin_of(alloc, asked, seq, stamp)?;
-    let Replied { response, entry } = told(alloc, state, request, asked, &origin)?;
+    let Replied { response, entry } = reply_admitted(alloc, state, request, asked, &origin)?;
     let response = sent_to(request.method, response);
     Ok(Replied { response, entry })
 }

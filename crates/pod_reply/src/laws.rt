@@ -2,7 +2,7 @@
 
 ghost use Rattle.pod_reply.specs.Laws.{HasOneReply};
 
-/// A pod gives at most one reply to a request: `IsReply` says all of it.
+/// A pod has at most one reply to a request: `IsReply` determines it.
 pub fn one_reply()
     ensures { HasOneReply }
 {}

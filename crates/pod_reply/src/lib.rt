@@ -10,8 +10,8 @@
 //! token, method, body, access, place in the tree, representation, preconditions, content, size;
 //! else the success of the method.
 //!
-//! It stands on the crates that hold one rank each, on `pod_rows` for the states of a pod, and on
-//! `pod_responses` for responses.
+//! It depends on the crates that implement one rank each, on `pod_rows` for the states of a pod,
+//! and on `pod_responses` for responses.
 #![tactic(auto)]
 
 mod access_rank;

@@ -1,5 +1,5 @@
-//! What is in the way of a change: its place in the tree, the number of rows, the preconditions,
-//! and what its new triples state.
+//! The refusals of a change: by its place in the tree, by the number of rows, by the preconditions,
+//! and by what its new triples state.
 
 ghost use Rattle.std.specs.Prelude.{◌≡◌, List, IfOk};
 ghost use Rattle.conditional_req.specs.Conditions.{conditions as conditions_of};
@@ -56,7 +56,7 @@ fn lacks_number(seq: u64) -> bool
 }
 
 /// 507, where there would be too many rows or changes.
-pub(crate) fn no_room<S: PodState>(
+pub(crate) fn refuse_room<S: PodState>(
     alloc: Global,
     state: &S,
     seq: u64,
@@ -103,7 +103,7 @@ fn refuse_new_path<S: PodState>(
     if lacks_subject(state, path) {
         return Ok(Some(refusal(alloc, 409, b"subject")?));
     }
-    no_room(alloc, state, seq, added_rows(path, place))
+    refuse_room(alloc, state, seq, added_rows(path, place))
 }
 
 /// The first refusal of a path by its place in the tree, whether or not it is a row.
@@ -121,7 +121,7 @@ pub(crate) fn refuse_place<S: PodState>(
 {
     match place {
         Some(place) => refuse_new_path(alloc, state, seq, path, place),
-        None => no_room(alloc, state, seq, 0),
+        None => refuse_room(alloc, state, seq, 0),
     }
 }
 

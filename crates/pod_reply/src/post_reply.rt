@@ -16,7 +16,7 @@ ghost use Rattle.slug_naming.specs.Names.{candidate_path};
 ghost use Rattle.slug_naming.specs.Stems.{stem_of};
 
 use crate::member_names::name_member;
-use crate::obstacles::{no_room, refuse_condition, refuse_if};
+use crate::obstacles::{refuse_condition, refuse_if, refuse_room};
 use crate::origin::Origin;
 use crate::put_reply::{row_of, triples_in};
 use crate::replied::{Replied, change_reply, unchanged};
@@ -165,7 +165,7 @@ fn make_judged<S: PodState>(
     }
 }
 
-/// The reply where nothing is in the way of a member, whose content was read by the first URI.
+/// The reply where the member isn't refused before. Its content was read by the first URI.
 fn post_read<S: PodState>(
     alloc: Global,
     state: &S,
@@ -205,7 +205,7 @@ fn refuse_member<S: PodState>(
     ensures { IfOk result (λ found. found ≡ spec.member_refusal (S.pod state.now) request.now seq
         path.now member.now content.now) }
 {
-    match no_room(alloc, state, seq, 1)? {
+    match refuse_room(alloc, state, seq, 1)? {
         Some(response) => Ok(Some(response)),
         None => match refuse_condition(alloc, state, request, path, conditions)? {
             Some(response) => Ok(Some(response)),

@@ -17,7 +17,7 @@ use Rattle.range_req.specs.declared.byte_range.Part.{Part}
 use Rattle.request_fields.specs.PartFields.{range, allows_ranges}
 use Rattle.pod_representations.specs.declared.shown.Shown.{Shown}
 
--- Parts are asked for by GET alone, and of bytes.
+-- Parts are requested by GET alone, and of bytes.
 abbrev pub takes_ranges : Method → Bool → Bool
 takes_ranges Get ranges = ranges
 takes_ranges Head ranges = false
@@ -28,18 +28,18 @@ takes_ranges Patch ranges = false
 takes_ranges Delete ranges = false
 takes_ranges Other ranges = false
 
--- what the value of the Range field asks for, where If-Range lets it count
+-- what the value of the Range field selects, where If-Range lets it apply
 abbrev pub asked_by : Shown → List Field → Option (List ℕ) → sets.Asked
 asked_by shown fields None = sets.whole
 asked_by shown fields (Some value) = if allows_ranges shown.tag.0 fields
     then sets.range_set value (length shown.body) else sets.whole
 
--- which parts of a representation a request asks for
+-- the parts of a representation that a request selects
 unfoldable pub asked : Shown → Method → List Field → sets.Asked
 asked shown method fields = if takes_ranges method shown.ranges
     then asked_by shown fields (range fields) else sets.whole
 
--- A HEAD is told the length of the body alone.
+-- The response to a HEAD has the length of the body alone.
 abbrev pub body_for : Method → List ℕ → Body
 body_for Get bytes = Whole bytes
 body_for Head bytes = LengthOnly (length bytes)
@@ -50,7 +50,7 @@ body_for Patch bytes = Whole bytes
 body_for Delete bytes = Whole bytes
 body_for Other bytes = Whole bytes
 
--- what the fields of a response tell of the representation
+-- the fields of a response that describe the representation
 abbrev pub representation : List ℕ → Shown → List ℕ → Representation
 representation ctype shown granted = record {
   ctype = ctype;
@@ -96,7 +96,7 @@ parts_response base path shows granted (part ∷ []) =
 parts_response base path shows granted (part ∷ next ∷ more) =
     multipart_response base path shows granted (part ∷ next ∷ more)
 
--- 416 where nothing of what was asked for is there
+-- 416 where no selected byte exists
 abbrev pub response_for : List ℕ → List ℕ → Shown → List ℕ → Method → sets.Asked → Response
 response_for base path shows granted method sets.whole =
     whole_response base path shows granted method

@@ -1,6 +1,6 @@
 -- What a row of a pod is shown as (RFC 9110, section 3.2): a graph in one of two types, bytes as
--- they are stored. It says of the pod what `view_of` says: the container's row and the paths of
--- its children.
+-- they are stored. Of the pod it depends on what `view_of` depends on: the container's row and the
+-- paths of its children.
 use Rattle.std.specs.Prelude.{ℕ, true, false, if◌then◌else◌, List}
 use Rattle.conditional_req.specs.Tags.{tag_text}
 use Rattle.conditional_req.specs.declared.tag.Tag.{Tag}
@@ -63,7 +63,7 @@ graph_as media triples modified = record {
   ranges = false;
 }
 
--- bytes of a type, of which parts may be asked for
+-- bytes of a type, of which parts may be requested
 abbrev pub bytes_as : List ℕ → List ℕ → Moment → Shown
 bytes_as ctype bytes modified = record {
   ctype = ctype;

@@ -1,4 +1,4 @@
-//! Which parts of a representation a request asks for, and their bytes.
+//! The parts of a representation that a request selects, and their bytes.
 
 ghost use Rattle.std.specs.Prelude.{◌≡◌, true, length, IfOk};
 ghost use Rattle.range_req.specs.RangeSets as sets;
@@ -12,7 +12,7 @@ use range_req::{Part, RangeSet, ranges};
 use request_fields::{allows_ranges, range};
 use std::alloc::Global;
 
-/// Whether parts may be asked for: by a GET of bytes.
+/// Whether parts may be requested: by a GET of bytes.
 fn takes_ranges(method: Method, ranges: bool) -> bool
     ensures { result ≡ spec.takes_ranges method ranges }
 {
@@ -28,7 +28,7 @@ fn takes_ranges(method: Method, ranges: bool) -> bool
     }
 }
 
-/// What the Range field asks for, where If-Range lets it count.
+/// What the Range field selects, where If-Range lets it apply.
 fn asked_by(alloc: Global, shown: &Shown, fields: &Fields) -> Mem<RangeSet>
     ensures set { IfOk result (λ set. sets.set_view set
         ≡ spec.asked_by shown.now fields.now (range fields.now)) }
@@ -47,7 +47,7 @@ fn asked_by(alloc: Global, shown: &Shown, fields: &Fields) -> Mem<RangeSet>
     }
 }
 
-/// Which parts a request asks for. They are inside of the body.
+/// The parts that a request selects. They are within the body.
 #[tactic(auto, unfolding(crate::specs::ReadResponses::asked))]
 pub(crate) fn asked(alloc: Global, shown: &Shown, method: Method, fields: &Fields) -> Mem<RangeSet>
     ensures set { IfOk result (λ set. sets.set_view set

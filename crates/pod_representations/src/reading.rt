@@ -14,7 +14,7 @@ use pod_responses::{Representation, partial, shown, unsatisfiable};
 use range_req::{Part, RangeSet, multipart};
 use std::alloc::Global;
 
-/// What the fields of a response tell of a representation.
+/// The fields of a response that describe a representation.
 fn representation(alloc: Global, ctype: &[u8], shows: &Shown, granted: Bytes) -> Mem<Representation>
     ensures { IfOk result (λ r. r ≡ spec.representation ctype.now shows.now granted) }
 {
@@ -121,10 +121,10 @@ fn parts_response(
 /// The response to a GET or HEAD of the resource at a path that this representation was chosen
 /// for, with the value of `WAC-Allow`.
 ///
-/// It is 200 with the whole representation; of a GET of bytes with one Range field that counts it
-/// is 206 with the parts that are asked for, or 416 where there are none. A Range field counts
-/// where it is well-formed and there is no If-Range, or one alone that is the strong tag of the
-/// representation. A HEAD has the fields of 200 and the length of its body.
+/// It is 200 with the whole representation; of a GET of bytes with one Range field that applies it
+/// is 206 with the selected parts, or 416 where there are none. A Range field applies where it is
+/// well-formed and there is no If-Range, or one alone that is the strong tag of the representation.
+/// A HEAD has the fields of 200 and the length of its body.
 #[tactic(auto, unfolding(crate::specs::ReadResponses::read_response))]
 pub fn show(
     alloc: Global,

@@ -23,7 +23,7 @@ pub struct Shown {
     pub tag: Tag,
     /// When the row was last changed.
     pub modified: Moment,
-    /// Whether parts of it may be asked for.
+    /// Whether parts of it may be requested.
     pub ranges: bool,
 }
 

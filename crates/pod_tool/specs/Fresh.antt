@@ -20,7 +20,7 @@ abbrev pub fresh_history : List ℕ → ℕ → History
 fresh_history owner made =
     record { first = first_pod fresh_base owner (record { 0 = made }); start = 0; entries = [] }
 
--- every request is the owner's, whatever it says
+-- every request is the owner's, whatever its fields are
 abbrev pub asking_owner : List ℕ → Request → AskedAgent
 asking_owner owner request = known owner
 
@@ -28,8 +28,8 @@ asking_owner owner request = known owner
 abbrev pub MeetsNoDisk : List Item → Type 0
 MeetsNoDisk items = disk_faults items ≡ 0
 
--- What a run of `pipe --fresh` reads, writes and tells: what a connection of a new pod does, whose
--- rows have a moment of the clock.
+-- What a run of `pipe --fresh` reads, writes and reports: what a connection of a new pod does,
+-- whose rows have a moment of the clock.
 pub record RunsFresh (may_give : ℕ → Type 0) (owner : List ℕ) (trail : Bool) (streams : Streams)
     (status : ℕ) : Type 0 where
   pub end : PipeEnd

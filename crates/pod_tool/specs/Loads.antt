@@ -13,7 +13,7 @@ use Rattle.pod_pipe.specs.declared.status.PipeEnd.{PipeEnd}
 use Rattle.pod_tool.specs.Fresh.{asking_owner, fresh_history}
 use Rattle.store_pipe.specs.StoreRuns.{Streams}
 
--- the clock of a run stands still
+-- the clock of a run is fixed
 abbrev pub IsLoadMoment : ℕ → Type 0
 IsLoadMoment seconds = seconds ≡ LOAD_MOMENT
 
@@ -21,7 +21,7 @@ IsLoadMoment seconds = seconds ≡ LOAD_MOMENT
 abbrev pub load_history : History
 load_history = fresh_history load_owner LOAD_MOMENT
 
--- Each request was answered, and the pod behind them has so many rows.
+-- Each request was answered, and the pod after them has so many rows.
 pub record AllAnswered (rows : ℕ) (items : List Item) : Type 0 where
   pub no_fault : disk_faults items ≡ 0
   pub no_want : starved_items items ≡ 0
@@ -29,7 +29,7 @@ pub record AllAnswered (rows : ℕ) (items : List Item) : Type 0 where
       (pod_at (grown load_history items) (end_of (grown load_history items))).rows
 
 -- The requests of the generator were served as a connection of a new pod, each as its owner's, and
--- these bytes were written. None of them found no memory.
+-- these bytes were written. None of them ran out of memory.
 pub record IsLoaded (requests : ℕ) (written : List ℕ) (rows : ℕ) : Type 0 where
   pub end : PipeEnd
   pub told : IsTold end

@@ -40,19 +40,19 @@ tokens_of rest faults reads tokens tokens_new = record {
   new_reads = reads tokens_new;
 }
 
--- a command that needs no store, or words without a reading
+-- a command that needs no store, or invalid arguments
 abbrev pub NeedsNoStore : Option Command → Type 0
 NeedsNoStore (Some (Pipe (Fresh owner) trail)) = Unit {0}
 NeedsNoStore (Some (Load requests)) = Unit {0}
 NeedsNoStore None = Unit {0}
 NeedsNoStore _ = ⊥
 
--- a command other than `pipe`, or words without a reading
+-- a command other than `pipe`, or invalid arguments
 abbrev pub NeedsNoInput : Option Command → Type 0
 NeedsNoInput (Some (Pipe asking trail)) = ⊥
 NeedsNoInput _ = Unit {0}
 
--- a command that prints nothing, or words without a reading
+-- a command that prints nothing, or invalid arguments
 abbrev pub NeedsNoOutput : Option Command → Type 0
 NeedsNoOutput (Some (Init base owner)) = Unit {0}
 NeedsNoOutput None = Unit {0}

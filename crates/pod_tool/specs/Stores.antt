@@ -15,11 +15,11 @@ use Rattle.store_commands.specs.declared.ends.StoreEnd.{StoreEnd}
 use Rattle.store_commands.specs.declared.ends.StoreEnd.TheVariants.{Done, NoMemory, NotEmpty}
 use Rattle.store_pipe.specs.StoreRuns.{IsUnserved, RunsStore, Streams, TokenSource}
 
--- a disk that tells what it holds, holds something
+-- a disk that shows its content isn't empty
 abbrev pub HoldsSome : Option (List ℕ) → Type 0
 HoldsSome content = IfVisible content (λ bytes. 0 < length bytes)
 
--- it holds nothing
+-- such a disk is empty
 abbrev pub HoldsNothing : Option (List ℕ) → Type 0
 HoldsNothing content = IfVisible content (λ bytes. bytes ≡ [])
 
@@ -33,7 +33,7 @@ pub record IsIdle (streams : Streams) : Type 0 where
   pub unserved : IsUnserved streams
   pub unwritten : IsUnwritten streams
 
--- Out of memory before it began, a run has left the disks alone.
+-- Out of memory before it began, a run has left the disks unchanged.
 pub record IsUnbegun {D : Type 0} (first second first_new second_new : D) (status : ℕ)
     : Type 0 where
   pub status_is : status ≡ 7

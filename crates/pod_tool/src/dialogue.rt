@@ -1,10 +1,10 @@
-//! A dialogue: an input that gives its second message only after the answer to the first one was
+//! A dialogue: an input that returns its second message only after the answer to the first one was
 //! written to the output. The reader and the writer share the bytes that were written.
 use std::cell::RefCell;
 use std::io;
 use std::io::{ErrorKind, Read, Write};
 
-/// The reader of a dialogue. It gives the first message, and then the second one. A read of the
+/// The reader of a dialogue. It returns the first message, and then the second one. A read of the
 /// second message fails where fewer bytes were written than the first answer has.
 #[derive(Drop)]
 pub(crate) struct Speaker<'d> {

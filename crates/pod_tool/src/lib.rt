@@ -8,13 +8,13 @@
 //!
 //! Proved of [`run_podctl`], for every stream, disk and clock that meets its contract: what the run
 //! of each command does (`runs`, by `Runs` of `specs/Runs.antt`, with a line for each command);
-//! status 2 exactly where the words have no reading (`words`), and then nothing is done
-//! (`no_output`); each fault only where a count of the object handed in increased (`read_fault`,
+//! status 2 exactly where the arguments are invalid (`words`), and then nothing is done
+//! (`no_output`); each fault only where a count of an object passed in increased (`read_fault`,
 //! `write_fault`, `disk_fault`); and what a command doesn't need stays as it was (`in_memory`,
 //! `no_input`, `no_tokens`).
 //!
-//! It stands on `podctl_words` for the words, on `store_commands` and `store_pipe` for commands over
-//! a store, on `pod_pipe` and `first_rows` for a pod in memory, and on `load_generator`.
+//! It depends on `podctl_words` for the words, on `store_commands` and `store_pipe` for commands
+//! over a store, on `pod_pipe` and `first_rows` for a pod in memory, and on `load_generator`.
 #![tactic(auto)]
 
 mod fresh;

@@ -15,18 +15,18 @@ use pod_pipe::{PipeEnd, Piped, Status, pipe};
 use pod_rows::PodState;
 use std::alloc::Global;
 
-/// The most bytes that one read of the stream gives.
+/// The most bytes that one read of the stream returns.
 const PIECE: usize = 65_536;
 
-/// What a run wrote, and how many rows the pod has behind it.
+/// What a run wrote, and how many rows the pod has after it.
 #[derive(Drop)]
 pub struct Loaded {
     pub output: MemSink,
     pub rows: usize,
 }
 
-/// Whether a connection that ended so has served all that it was given.
-fn is_told(end: PipeEnd) -> bool
+/// Whether all events were served on a connection that ended so.
+fn is_served(end: PipeEnd) -> bool
     ensures { IsTrue result → IsTold end }
 {
     match end {
@@ -38,8 +38,8 @@ fn is_told(end: PipeEnd) -> bool
     }
 }
 
-/// Serves the stream of so many requests as a connection of a new pod. Out of memory too where one
-/// of the requests found none.
+/// Serves the stream of so many requests as a connection of a new pod. It is out of memory also
+/// where one of the requests was.
 fn serve(alloc: Global, bytes: Vec<u8>, requests: u16) -> Mem<Loaded>
     requires { bytes.items ≡ spec.stream requests }
     ensures { IfOk result (λ loaded. IsLoaded requests loaded.output.taken loaded.rows) }
@@ -61,7 +61,7 @@ fn serve(alloc: Global, bytes: Vec<u8>, requests: u16) -> Mem<Loaded>
         &mut errors,
         &clock,
     );
-    if piped.holder.starved != 0 || !is_told(piped.end) {
+    if piped.holder.starved != 0 || !is_served(piped.end) {
         return Err(NoMemory);
     }
     let rows = piped.holder.state.count();

@@ -18,7 +18,7 @@ use podctl_words::{Asking, Command, read};
 use std::alloc::Global;
 use store_pipe::pipe_store;
 
-/// The status of words without a reading.
+/// The status of invalid arguments.
 const NO_READING: u8 = 2;
 
 /// Serves the input as one connection: of a new pod in memory, or of the pod of the store.
@@ -114,7 +114,7 @@ fn run<S: Source, K: Sink, E: Sink, D: Disk, T: Source, C: Clock>(
 }
 
 /// Runs `podctl` with the words after its name, over three streams, the place of a store, and a
-/// clock. What the words ask for is told by [`podctl_words::read`]:
+/// clock. [`podctl_words::read`] parses the words:
 ///
 /// - `init` makes a store on the two empty disks of the place;
 /// - `pipe` serves the input as one connection of the store's pod, agents by the token table of the
@@ -123,7 +123,7 @@ fn run<S: Source, K: Sink, E: Sink, D: Disk, T: Source, C: Clock>(
 /// - `check` prints how much the store holds, and `audit` a line for each entry of its journal;
 /// - `load` runs requests of the load generator on a new pod in memory, and prints a line of them.
 ///
-/// The status is 0 where the work was done; 2 exactly where the words have no reading; 3 where a
+/// The status is 0 where the work was done; 2 exactly where the arguments are invalid; 3 where a
 /// read of the input or of the token table failed; 4 where a write failed; 5 where the store is
 /// damaged; 6 where a call of a disk failed outside the commit of a request; 7 out of memory; 9
 /// where the token table has a faulty line; 10 where `init` finds a disk that isn't empty, or
@@ -138,7 +138,7 @@ pub fn run_podctl<S: Source, K: Sink, E: Sink, D: Disk, T: Source, C: Clock>(
     place: &mut Place<D, T>,
     clock: &mut C,
 ) -> Status
-    // The disks are there, and are put back.
+    // The disks are in their place, and are put back.
     requires { IsSome place.old.disks }
     ensures place { IsSome place.new.disks }
 
@@ -151,7 +151,7 @@ pub fn run_podctl<S: Source, K: Sink, E: Sink, D: Disk, T: Source, C: Clock>(
         (streams_of S.rest S.reads S.ends K.taken E.taken E.faults input.old input.new
         output.old output.new errors.old errors.new) result.0))) }
 
-    // With other words nothing is done. What a command doesn't need stays as it was.
+    // With invalid arguments nothing is done. What a command doesn't need stays as it was.
     ensures words { (result.0 ≡ 2) ↔ (reading (map string_bytes words.now) ≡ None) }
     ensures in_memory { NeedsNoStore (reading (map string_bytes words.now))
         → place.new ≡ place.old }
@@ -162,7 +162,7 @@ pub fn run_podctl<S: Source, K: Sink, E: Sink, D: Disk, T: Source, C: Clock>(
     ensures no_tokens { NeedsNoInput (reading (map string_bytes words.now))
         → place.new.tokens ≡ place.old.tokens }
 
-    // A fault is answered only where a count increased.
+    // A fault is returned only where a count increased.
     ensures read_fault { result.0 ≡ 3
         → CountIncreased (S.faults input.old) (S.faults input.new)
         ⊎ CountIncreased (T.faults place.old.tokens) (T.faults place.new.tokens) }

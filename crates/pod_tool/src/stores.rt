@@ -16,7 +16,7 @@ use pod_pipe::{Status, clock_moment};
 use std::alloc::Global;
 use store_commands::{Ended, StoreEnd, audit, check, init};
 
-/// The status of a run that found no memory.
+/// The status of a run that ran out of memory.
 const NO_MEMORY: u8 = 7;
 
 /// What a command prints of a store.
@@ -28,7 +28,7 @@ pub enum Printing {
     Entries,
 }
 
-/// Makes a store on two disks, at the clock's moment, and gives them back.
+/// Makes a store on two disks, at the clock's moment, and returns them.
 fn make<D: Disk, C: Clock>(
     alloc: Global,
     base: Iri,
@@ -87,7 +87,7 @@ pub(crate) fn init_store<D: Disk, T: Source, C: Clock>(
     status
 }
 
-/// Prints of the store on two disks, and gives them back.
+/// Prints of the store on two disks, and returns them.
 fn print<D: Disk, K: Sink, E: Sink>(
     alloc: Global,
     printing: Printing,

@@ -1,4 +1,4 @@
-//! Runs of which a call of the outside fails, and the order of reads and writes. All other runs are
+//! Runs in which a call of the outside fails, and the order of reads and writes. All other runs are
 //! cases of `http_cases` and `tool_cases`.
 ghost use Rattle.std.specs.Prelude.{IfOk, IsSome};
 
@@ -11,13 +11,15 @@ use std::alloc::Global;
 use std::cell::RefCell;
 use std::test::Fail;
 
-const PUT: &str =
-    "PUT /hello HTTP/1.1\r\nHost: 127.0.0.1:8080\r\nContent-Type: application/octet-stream\r\nContent-Length: 5\r\n\r\nhello";
+const PUT: &str = "PUT /hello HTTP/1.1\r\nHost: 127.0.0.1:8080\r\n\
+    Content-Type: application/octet-stream\r\nContent-Length: 5\r\n\r\nhello";
 
 const GET: &str = "GET /hello HTTP/1.1\r\nHost: 127.0.0.1:8080\r\n\r\n";
 
-const CREATED: &str =
-    "HTTP/1.1 201 Created\r\nDate: Sun, 06 Nov 1994 08:49:37 GMT\r\nLocation: http://127.0.0.1:8080/hello\r\nLink: <http://127.0.0.1:8080/hello.acl>; rel=\"acl\"\r\nLink: <http://127.0.0.1:8080/hello.meta>; rel=\"describedby\"\r\nContent-Length: 0\r\n\r\n";
+const CREATED: &str = "HTTP/1.1 201 Created\r\nDate: Sun, 06 Nov 1994 08:49:37 GMT\r\n\
+    Location: http://127.0.0.1:8080/hello\r\n\
+    Link: <http://127.0.0.1:8080/hello.acl>; rel=\"acl\"\r\n\
+    Link: <http://127.0.0.1:8080/hello.meta>; rel=\"describedby\"\r\nContent-Length: 0\r\n\r\n";
 
 /// What a run left: its status, its output and its error sink.
 #[derive(Drop)]

@@ -16,11 +16,11 @@ use std::io::ErrorKind;
 use std::process::ExitCode;
 use std::{env, io};
 
-/// The moment at which the clock of a pod in memory stands, in seconds: the date in the examples of
-/// the HTTP standard.
+/// The fixed moment of the clock of a pod in memory, in seconds: the date in the examples of the
+/// HTTP standard.
 const STILL: u64 = 784_111_777;
 
-/// The status of a run that found no memory.
+/// The status of a run that is out of memory.
 const NO_MEMORY: u8 = 7;
 
 /// The words after the program's name.
@@ -32,7 +32,7 @@ fn words(rt: &HostRuntime, alloc: Global) -> io::Result<Vec<String>> {
     Ok(words)
 }
 
-/// Whether the words ask for a pod in memory, whose clock stands still.
+/// Whether the command of the words is for a pod in memory, whose clock is fixed.
 fn is_in_memory(alloc: Global, words: &[String]) -> Mem<bool> {
     match read(alloc, words)? {
         Some(Command::Pipe { asking, trail: _ }) => Ok(matches!(&asking, Asking::Fresh(_))),
@@ -77,7 +77,7 @@ fn run<C: Clock>(rt: &HostRuntime, words: &[String], clock: &mut C) -> Status {
     )
 }
 
-/// Runs the command of the words, with the clock that it asks for.
+/// Runs the command of the words, with the clock that it needs.
 fn run_words(rt: &HostRuntime, words: &[String]) -> Mem<Status> {
     if is_in_memory(rt.alloc(), words)? {
         Ok(run(rt, words, &mut SetClock { seconds: STILL }))

@@ -1,4 +1,4 @@
--- What the words after a subcommand give: options, each once, and an operand.
+-- What the words after a subcommand set: options, each once, and an operand.
 use Rattle.std.specs.Prelude.{ℕ, ◌==◌, Bool, true, false, not, ◌&&◌, if◌then◌else◌, nat_eq}
 use Rattle.std.specs.Prelude.{codes, bytes_eq, List, [], ◌∷◌, Option, Some, None, is_some}
 use Rattle.std.specs.List.{starts_with, list_any, before_first, after_first}
@@ -31,7 +31,7 @@ is_dashed word = starts_with nat_eq word (codes "-")
 abbrev pub is_equals : ℕ → Bool
 is_equals c = c == 61
 
--- what stands before the first `=` of a word, and what follows it
+-- what precedes the first `=` of a word, and what follows it
 abbrev pub split_value : List ℕ → Option (List ℕ × List ℕ)
 split_value word =
     if list_any is_equals word
@@ -53,9 +53,9 @@ abbrev pub has_operand : Subcommand → Bool
 has_operand subcommands.Load = true
 has_operand _ = false
 
--- ---- what words have given
+-- ---- what words have set
 
--- The values of options, whether flags are there, the operand, and what the next word may be.
+-- The values of options, whether flags are set, the operand, and what the next word may be.
 pub record Given : Type 0 where
   pub base : Option (List ℕ)
   pub owner : Option (List ℕ)
@@ -76,7 +76,7 @@ nothing_given = record {
   mode = Options;
 }
 
--- Each option is given once.
+-- Each option is set once.
 abbrev pub with_parameter : Parameter → List ℕ → Given → Option Given
 with_parameter Base value given =
     if is_some given.base then None else Some (record given { base = Some value })
@@ -100,7 +100,7 @@ with_operand subcommand word given =
     else if has_operand subcommand && not (is_some given.operand)
     then Some (record given { operand = Some word }) else None
 
--- ---- what one word gives
+-- ---- what one word sets
 
 abbrev pub flag_of : Subcommand → List ℕ → Option Flag
 flag_of subcommand word =
@@ -153,7 +153,7 @@ after_word_in Operands subcommand word given = with_operand subcommand word give
 abbrev pub after_word : Subcommand → Given → List ℕ → Option Given
 after_word subcommand given word = after_word_in given.mode subcommand word given
 
--- what words give after those that gave this
+-- what words set after those that set this
 abbrev pub given_after : Subcommand → Given → List (List ℕ) → Option Given
 given_after subcommand given [] = Some given
 given_after subcommand given (word ∷ words) =

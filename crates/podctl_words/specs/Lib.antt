@@ -1,4 +1,4 @@
--- the command that words ask for: how words are written, and the reading of words
+-- the command of words: how words are written, and the reading of words
 pub mod Spelling
 pub mod Given
 pub mod Readings

@@ -1,4 +1,4 @@
--- What the words after the program's name ask for. `Spelling` has the same as a relation.
+-- The command of the words after the program's name. `Spelling` defines it as a relation.
 use Rattle.std.specs.Prelude.{ℕ, ◌+◌, ◌-◌, ◌*◌, ◌≤◌, Bool, true, false, ◌&&◌, nat_le, nat_lt}
 use Rattle.std.specs.Prelude.{if◌then◌else◌, bytes_eq, codes, List, [], ◌∷◌, length, IsTrue}
 use Rattle.std.specs.Prelude.{Option, Some, None}
@@ -30,7 +30,7 @@ abbrev pub is_number : List ℕ → Bool
 is_number word = nat_lt 0 (length word)
     && (nat_le (length word) DIGITS_LIMIT && list_all is_ascii_digit word)
 
--- how many requests a word asks for: a number of at most 10,000
+-- the number of requests in a word: at most 10,000
 abbrev pub requests_of : List ℕ → Option ℕ
 requests_of word =
     if is_number word && nat_le (number_after 0 word) LOAD_LIMIT then Some (number_after 0 word)
@@ -101,8 +101,7 @@ command_after words subcommand =
 abbrev pub command_named : List ℕ → List (List ℕ) → Option Command
 command_named word words = option_and_then (command_after words) (subcommand_of word)
 
--- The command that words ask for, where they have a reading: a subcommand, then its options and
--- its operand.
+-- The command of words, where they have a reading: a subcommand, then its options and its operand.
 unfoldable pub reading : List (List ℕ) → Option Command
 reading [] = None
 reading (word ∷ words) = command_named word words

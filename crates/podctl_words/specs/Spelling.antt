@@ -54,7 +54,7 @@ AreUses (one ∷ uses) words =
     ((rest : List (List ℕ)) × IsNext one words rest × AreUses uses rest)
     ⊎ HasEnded (one ∷ uses) words
 
--- What a use gives beside what was given: it is one of the subcommand's, the first of its name.
+-- What is set after a use: the use is one of the subcommand's, the first of its name.
 abbrev pub with_use : Subcommand → Given → Use → Option Given
 with_use subcommand given (parameter name value) =
     if has_parameter subcommand name then with_parameter name value given else None
@@ -67,7 +67,7 @@ with_uses subcommand given [] = Some given
 with_uses subcommand given (one ∷ uses) =
     option_and_then (λ g. with_uses subcommand g uses) (with_use subcommand given one)
 
--- The words ask for the command: they are a subcommand and uses, and these give the command.
+-- The words name the command: they are a subcommand and uses, and these make the command.
 pub record AsksFor (words : List (List ℕ)) (command : Command) : Type 0 where
   pub subcommand : Subcommand
   pub others : List (List ℕ)
@@ -78,7 +78,7 @@ pub record AsksFor (words : List (List ℕ)) (command : Command) : Type 0 where
   pub gives : with_uses subcommand nothing_given uses ≡ Some given
   pub means : command_of subcommand given ≡ Some command
 
--- The reading of words is the command that they ask for; so words ask for at most one.
+-- The reading of words is the command that they name; so words name at most one.
 abbrev pub ReadsWhatIsWritten : Type 0
 ReadsWhatIsWritten =
     (words : List (List ℕ)) (command : Command)

@@ -2,7 +2,7 @@
 
 use iri_ref::Iri;
 
-/// How the agent of each request of a connection is known.
+/// How the requests of a connection are authenticated.
 #[derive(Debug, Drop)]
 pub enum Asking {
     /// By its token, from the table of tokens.
@@ -13,7 +13,7 @@ pub enum Asking {
     Fresh(Iri),
 }
 
-/// What `podctl` is to do.
+/// A command of `podctl`.
 #[derive(Debug, Drop)]
 pub enum Command {
     /// Makes a store.

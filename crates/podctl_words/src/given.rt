@@ -1,4 +1,4 @@
-//! [`Given`]: what the words after a subcommand give.
+//! [`Given`]: what the words after a subcommand set.
 ghost use Rattle.std.specs.Prelude.{◌≡◌, map, if◌then◌else◌, is_some, Some, None};
 ghost use Rattle.std.specs.Option.{option_map};
 ghost use Rattle.std.specs.String.{string_bytes};
@@ -18,7 +18,7 @@ pub enum Mode {
     Operands,
 }
 
-/// What words have given: the values of options, whether flags are there, and the operand.
+/// What words have set: the values of options, the flags, and the operand.
 #[derive(Clone, Copy)]
 pub(crate) struct Given<'a> {
     pub(crate) base: Option<&'a str>,
@@ -37,7 +37,7 @@ fn is_dashed(word: &str) -> bool
     word.as_bytes().starts_with(b"-")
 }
 
-/// The value of an option that had this one before: only where it had none.
+/// The new value of an option, where it had none before.
 fn first<'a>(before: Option<&'a str>, value: &'a str) -> Option<&'a str>
     ensures { option_map (λ word. word.now) result
         ≡ (if is_some before.entry then None else Some value.now) }
@@ -49,7 +49,7 @@ fn first<'a>(before: Option<&'a str>, value: &'a str) -> Option<&'a str>
 }
 
 impl<'a> Given<'a> {
-    /// What no words give.
+    /// Nothing is set.
     pub(crate) fn nothing() -> Given<'a>
         ensures { given_of result ≡ spec.nothing_given }
     {
@@ -64,7 +64,7 @@ impl<'a> Given<'a> {
         }
     }
 
-    /// An option's value, where it has none yet.
+    /// Sets an option's value, where it has none yet.
     fn with_parameter(self, parameter: Parameter, value: &'a str) -> Option<Given<'a>>
         ensures { option_map given_of result
             ≡ spec.with_parameter parameter value.now (given_of self.entry) }
@@ -94,7 +94,7 @@ impl<'a> Given<'a> {
         }
     }
 
-    /// The same, where it is no option.
+    /// The same, where the value is no option.
     fn with_value(self, parameter: Parameter, value: &'a str) -> Option<Given<'a>>
         ensures { option_map given_of result
             ≡ spec.with_value parameter value.now (given_of self.entry) }
@@ -106,7 +106,7 @@ impl<'a> Given<'a> {
         }
     }
 
-    /// A flag, where it isn't there yet.
+    /// Sets a flag, where it isn't set yet.
     fn with_flag(self, flag: Flag) -> Option<Given<'a>>
         ensures { option_map given_of result ≡ spec.with_flag flag (given_of self.entry) }
     {
@@ -134,7 +134,7 @@ impl<'a> Given<'a> {
         }
     }
 
-    /// An operand, where the subcommand has one and it isn't there yet.
+    /// Sets the operand, where the subcommand has one and it isn't set yet.
     fn with_operand(self, subcommand: Subcommand, word: &'a str) -> Option<Given<'a>>
         ensures { option_map given_of result
             ≡ spec.with_operand subcommand word.now (given_of self.entry) }
@@ -149,7 +149,7 @@ impl<'a> Given<'a> {
         }
     }
 
-    /// A word where options may be.
+    /// Reads a word where options may be.
     fn after_option(self, subcommand: Subcommand, word: &'a str) -> Option<Given<'a>>
         ensures { option_map given_of result
             ≡ spec.after_option subcommand word.now (given_of self.entry) }
@@ -175,7 +175,7 @@ impl<'a> Given<'a> {
         }
     }
 
-    /// What one more word gives.
+    /// Reads one more word.
     fn after_word(self, subcommand: Subcommand, word: &'a str) -> Option<Given<'a>>
         ensures { option_map given_of result
             ≡ spec.after_word subcommand (given_of self.entry) word.now }
@@ -194,8 +194,8 @@ impl<'a> Given<'a> {
     }
 }
 
-/// What words give after those that gave this. Each option is given once, so it goes no deeper than
-/// a subcommand has options.
+/// Reads these words, after those that set this. Each option is set once, so the depth of the
+/// recursion is bounded by the number of options.
 fn given_after<'a>(
     words: &'a [String],
     subcommand: Subcommand,
@@ -213,7 +213,7 @@ fn given_after<'a>(
     }
 }
 
-/// What the words after a subcommand give.
+/// What the words after a subcommand set.
 pub(crate) fn given_by<'a>(subcommand: Subcommand, words: &'a [String]) -> Option<Given<'a>>
     ensures { option_map given_of result
         ≡ spec.given_after subcommand spec.nothing_given (map string_bytes words.now) }

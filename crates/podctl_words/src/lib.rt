@@ -1,4 +1,4 @@
-//! What the words after the program's name ask of `podctl`.
+//! The command of the words after the program's name.
 //!
 //! ```ignore
 //! // pipe --fresh https://alice.example/#me --trail
@@ -9,13 +9,13 @@
 //! }
 //! ```
 //!
-//! Proved: [`read`] gives the command of the definition `reading` (`reading`), which may be
+//! Proved: [`read`] returns the command of the definition `reading` (`reading`), which may be
 //! carried out (`sound`), and is out of memory only where the words have a reading
 //! (`out_of_memory`). The law [`laws::readings_are_written`] says what that definition means: words
 //! have a reading exactly where they are a subcommand and then uses of its options and its operand,
-//! each at most once, in any order; and the reading is the command that these ask for.
+//! each at most once, in any order; and the reading is the command that these name.
 //!
-//! It stands on `pod_rows` for the form of a base, on `token_table` and `iri_ref` for agents, and
+//! It depends on `pod_rows` for the form of a base, on `token_table` and `iri_ref` for agents, and
 //! on `pod_base`.
 #![tactic(auto)]
 

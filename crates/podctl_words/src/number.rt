@@ -42,7 +42,7 @@ fn limited(word: &str) -> Option<u16>
     }
 }
 
-/// How many requests a word asks for.
+/// The number of requests in a word.
 pub(crate) fn requests_of(word: &str) -> Option<u16>
     ensures { result ≡ spec.requests_of word.now }
 {

@@ -1,4 +1,4 @@
-//! The command that words ask for.
+//! The command of words.
 ghost use Rattle.std.specs.Prelude.{◌≡◌, IfOk, IfErr, IfSome, Some, is_some, true, false, map};
 ghost use Rattle.std.specs.Option.{option_copied};
 ghost use Rattle.std.specs.String.{string_bytes};
@@ -77,7 +77,7 @@ fn fresh_of(alloc: Global, owner: &str) -> Mem<Option<Asking>>
     }
 }
 
-/// How the agents of a connection are known.
+/// How the requests of a connection are authenticated; none where both options are set.
 fn asking_of(alloc: Global, as_owner: bool, fresh: Option<&str>) -> Mem<Option<Asking>>
     ensures asking { IfOk result (λ found. found
         ≡ spec.asking_of as_owner (option_copied fresh.entry)) }
@@ -102,7 +102,7 @@ fn asking_of(alloc: Global, as_owner: bool, fresh: Option<&str>) -> Mem<Option<A
     }
 }
 
-/// A connection whose agents are known so.
+/// A connection whose requests are authenticated so.
 fn pipe_from(trail: bool, asking: Option<Asking>) -> Option<Command>
     ensures { result ≡ spec.pipe_from trail asking }
 {
@@ -133,7 +133,7 @@ fn load_from(operand: Option<&str>) -> Option<Command>
     Some(Command::Load(requests))
 }
 
-/// The command of a subcommand whose words gave this.
+/// The command of a subcommand whose words set this.
 fn command_of(alloc: Global, subcommand: Subcommand, given: Given) -> Mem<Option<Command>>
     ensures command { IfOk result (λ found. found
         ≡ spec.command_of subcommand (given_of given.entry)) }
@@ -189,9 +189,8 @@ fn command_named(alloc: Global, word: &str, words: &[String]) -> Mem<Option<Comm
     }
 }
 
-/// The command that the words after the program's name ask for; none where they have no reading.
-/// Whether they have one is decided without memory, so the call is out of memory only where they
-/// do.
+/// The command of the words after the program's name; none where they have no reading. Whether they
+/// have one is decided without memory, so the call is out of memory only where they do.
 #[tactic(auto, unfolding(crate::specs::Readings::reading))]
 pub fn read(alloc: Global, words: &[String]) -> Mem<Option<Command>>
     ensures reading { IfOk result (λ found. found ≡ reading (map string_bytes words.now)) }

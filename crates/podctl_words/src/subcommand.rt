@@ -34,7 +34,7 @@ pub enum Flag {
     Trail,
 }
 
-/// What stands before the first `=` of a word, and what follows it.
+/// What precedes the first `=` of a word, and what follows it.
 fn split_value(word: &str) -> Option<(&str, &str)>
     ensures { option_map (λ p. (p.0.now, p.1.now)) result ≡ spec.split_value word.now }
 {

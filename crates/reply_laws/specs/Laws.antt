@@ -24,13 +24,13 @@ EntriesApply = (pod : Pod) (request : Request) (asked : AskedAgent) (seq : ℕ) 
     (reply : Reply) (entry : Entry) → WellFormed pod → IsReply pod request asked seq stamp reply
     → reply.entry ≡ Some entry → Applies pod seq entry
 
--- An entry applies where it does without the spare room of its lists.
+-- An entry applies where it does without the spare capacity of its lists.
 abbrev pub AppliesBare : Type 0
 AppliesBare = (pod : Pod) (next : ℕ) (entry : Entry) → Applies pod next (bare_entry entry)
     → Applies pod next entry
 
--- The entry of a reply has a stored form, and so has one where it has without the spare room of its
--- lists.
+-- The entry of a reply has a stored form, and so has one where it has without the spare capacity of
+-- its lists.
 abbrev pub EntriesAreEncodable : Type 0
 EntriesAreEncodable = (pod : Pod) (request : Request) (asked : AskedAgent) (seq : ℕ) (stamp : Stamp)
     (reply : Reply) (entry : Entry) → IsReply pod request asked seq stamp reply

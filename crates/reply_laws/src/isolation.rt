@@ -3,7 +3,7 @@
 
 ghost use Rattle.reply_laws.specs.Isolation.{ChangesAlike, RepliesAlike, StayAlike};
 
-/// Pods that are alike for an agent give its requests the same replies, and the same entries.
+/// Pods that are alike for an agent have the same replies to its requests, and the same entries.
 pub fn isolation_law()
     ensures replies { RepliesAlike }
 

@@ -12,7 +12,7 @@ ghost use Rattle.reply_laws.specs.Laws.{RepliesAreSent, UpgradesAlone};
 pub fn applies()
     ensures applies { EntriesApply }
 
-    // The spare room of an entry's lists doesn't matter.
+    // The spare capacity of an entry's lists doesn't matter.
     ensures bare { AppliesBare }
 {}
 
@@ -21,7 +21,7 @@ pub fn applies()
 pub fn encodable()
     ensures encodable { EntriesAreEncodable }
 
-    // The spare room of an entry's lists doesn't matter.
+    // The spare capacity of an entry's lists doesn't matter.
     ensures bare { EncodableBare }
 {}
 

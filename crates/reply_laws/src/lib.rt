@@ -17,12 +17,12 @@
 //! What a pod replies to an agent's request is what each pod alike for the agent replies
 //! ([`isolation_law`]). Two pods are alike for an agent (`Alike` of `specs/Alike.antt`) where they
 //! differ in the contents and moments of rows alone that the agent may read in neither. So no reply
-//! tells the agent what such a row holds: not its status, its fields, its body or its entry.
+//! reveals to the agent what such a row holds: not its status, its fields, its body or its entry.
 //!
-//! These functions do nothing: their contracts are the laws. [`is_change`] says which methods may
-//! change a pod.
+//! These functions do nothing: their contracts are the laws. [`is_change`] returns whether a method
+//! may change a pod.
 //!
-//! It stands on `pod_reply` for the definition, on the laws of `pod_edits`, `request_body` and
+//! It depends on `pod_reply` for the definition, on the laws of `pod_edits`, `request_body` and
 //! `pod_path`, and on the definitions of responses.
 #![tactic(auto)]
 

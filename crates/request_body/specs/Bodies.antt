@@ -41,7 +41,7 @@ abbrev pub IsOpaqueBody : Request → Outcome → Type 0
 IsOpaqueBody request outcome = outcome
     ≡ Ok (Content (Bytes (opaque_type request.fields) request.body))
 
--- A document of Turtle is the graph that it spells; else its first fault, which is told by its
+-- A document of Turtle is the graph that it spells; else its first fault, which is reported by its
 -- position, or as the size.
 abbrev pub IsTurtleBody : List ℕ → List ℕ → Outcome → Type 0
 IsTurtleBody base bytes (Ok (Content (Graph graph))) =

@@ -36,7 +36,7 @@ fault_word Json = codes "json"
 fault_word (Rule rule) = codes "patch " ++ rule_name rule
 fault_word GraphSize = codes "graph-size"
 
--- The refusal of a request; that of a type tells which types are taken.
+-- The refusal of a request; that of a type lists the accepted types.
 abbrev pub refusal_of : Method → List ℕ → BodyFault → Response
 refusal_of method path UnsupportedType = unsupported method path
 refusal_of method path fault = refusal (fault_status fault) (fault_word fault)

@@ -31,7 +31,7 @@ abbrev pub assumed_type : Bool → List ℕ
 assumed_type graph = if graph then codes "text/turtle" else codes "application/octet-stream"
 
 -- The content type of a body that is put or posted, where a graph is made or anything; none where
--- it isn't told by exactly one field of 1 to 256 printable bytes.
+-- it isn't given by exactly one field of 1 to 256 printable bytes.
 abbrev pub put_type : Bool → List Field → List ℕ → Option (List ℕ)
 put_type graph fields body = if is_untyped fields && (length body == 0)
     then Some (assumed_type graph) else content_type fields

@@ -19,7 +19,7 @@ pub enum BodyFault {
     /// The bytes are no JSON, or no expanded JSON-LD of the profile.
     #[error("no expanded JSON-LD")]
     Json,
-    /// A patch document breaks this rule, or a blank node stands in an update.
+    /// A patch document breaks this rule, or an update has a blank node.
     #[error("the patch breaks the rule {0:?}")]
     Rule(PatchRule),
     /// The encoded triples are longer than [`TRIPLES_LIMIT`](rdf_graph::TRIPLES_LIMIT).

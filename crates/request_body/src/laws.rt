@@ -1,4 +1,4 @@
-//! Laws of what bodies mean, for the proofs of what stands on them.
+//! Laws of what bodies mean, for the proofs of the crates above.
 //!
 //! Each is the contract of a function that does nothing.
 

@@ -16,8 +16,8 @@
 //! by one table ([`body_syntax`]); then the readers of Turtle, JSON-LD, N3 Patch and SPARQL's DATA
 //! updates have their own definitions. [`refused`] is the response to each fault.
 //!
-//! Bodies are shared and never copied. It stands on the four readers, on `request_fields` for types
-//! and links, on `pod_responses` for refusals, and on `pod_command` for what a row holds.
+//! Bodies are shared and never copied. It depends on the four readers, on `request_fields` for
+//! types and links, on `pod_responses` for refusals, and on `pod_command` for what a row holds.
 #![tactic(auto)]
 
 mod body;

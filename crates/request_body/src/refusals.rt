@@ -87,8 +87,8 @@ fn refused_by_word(alloc: Global, fault: BodyFault) -> Mem<Response>
     refusal(alloc, fault.status(), word.as_slice())
 }
 
-/// The response to a request with this method, to the path, whose body has the fault: 415 tells
-/// which types are taken.
+/// The response to a request with this method, to the path, whose body has the fault: 415 lists the
+/// accepted types.
 pub fn refused(alloc: Global, method: Method, path: &Path, fault: BodyFault) -> Mem<Response>
     ensures { IfOk result (λ response. response ≡ spec.refusal_of method path.now fault) }
 {

@@ -115,7 +115,7 @@ fn change_syntax(request: &Request) -> Result<BodySyntax, BodyFault>
 /// The syntax in which the body of a request to the path is read.
 ///
 /// A PUT and a POST take graphs in Turtle and JSON-LD, and anything else as bytes; only a graph
-/// where a container, an access list or a description is made. That is told by the path for PUT,
+/// where a container, an access list or a description is made. That is decided by the path for PUT,
 /// and by a Link to a type of containers for POST. An empty body needs no type there. A PATCH takes
 /// N3 Patch and SPARQL's DATA updates.
 ///

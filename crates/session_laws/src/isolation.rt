@@ -9,7 +9,7 @@ use pod_io::Clock;
 pub fn sessions_are_isolated<C: Clock>(clock: &C)
     ensures sessions { IsolatesSessions (C.may_give clock.now) }
 
-    // The same of the items of a session, without what was heard.
+    // The same of the items of a session, without its events.
     ensures items { IsolatesItems (C.may_give clock.now) }
 {
     let _clock = clock;

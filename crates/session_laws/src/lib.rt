@@ -13,7 +13,7 @@
 //!
 //! The function does nothing: its contract is the law.
 //!
-//! It stands on the laws of `reply_laws` on replies, and on `pod_core` for histories and sessions.
+//! It depends on the laws of `reply_laws` on replies, and on `pod_core` for histories and sessions.
 #![tactic(auto)]
 
 mod isolation;

@@ -112,8 +112,8 @@ fn print_entries<K: Sink>(
 /// Opens a store and prints a line for each entry of its active journal, in their order: what
 /// changed the pod since the snapshot that the journal begins with, by whom, and by which rules.
 ///
-/// The ends are those of [`check`](crate::check). Where a write fails or no memory is left, what
-/// was printed is a prefix of the lines.
+/// The ends are those of [`check`](crate::check). Where a write fails or memory runs out, what was
+/// printed is a prefix of the lines.
 pub fn audit<D: Disk, K: Sink, E: Sink>(
     alloc: Global,
     disks: Disks<D>,
@@ -130,7 +130,7 @@ pub fn audit<D: Disk, K: Sink, E: Sink>(
     ensures disks { OpensDisks D.image D.moment D.left_since D.faults disks.first disks.second
         result.disks.first result.disks.second }
 
-    // A fault is answered only where a count increased.
+    // A fault is returned only where a count increased.
     ensures disk_fault { result.end ≡ StoreEnd.DiskFault
         → CountIncreased (D.faults disks.first) (D.faults result.disks.first)
         ⊎ CountIncreased (D.faults disks.second) (D.faults result.disks.second) }

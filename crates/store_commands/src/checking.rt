@@ -51,7 +51,7 @@ fn print_counts<D: Disk, K: Sink>(
 
 /// Opens a store and prints `rows=R entries=E next=N`: how many rows its pod has, how many entries
 /// its active journal has, and the number of the next change. Opening decodes every record, so a
-/// store with this line is whole.
+/// store with this line is undamaged.
 ///
 /// `Damaged` comes exactly where the store is damaged, and is printed to the error sink, as
 /// `damaged first 16`; a failure of that line changes nothing. `Empty` comes exactly where both
@@ -73,7 +73,7 @@ pub fn check<D: Disk, K: Sink, E: Sink>(
     ensures disks { OpensDisks D.image D.moment D.left_since D.faults disks.first disks.second
         result.disks.first result.disks.second }
 
-    // A fault is answered only where a count increased.
+    // A fault is returned only where a count increased.
     ensures disk_fault { result.end ≡ StoreEnd.DiskFault
         → CountIncreased (D.faults disks.first) (D.faults result.disks.first)
         ⊎ CountIncreased (D.faults disks.second) (D.faults result.disks.second) }

@@ -17,7 +17,7 @@ pub enum StoreEnd {
     Damaged { side: Side, at: u64 },
     /// A call of a disk failed.
     DiskFault,
-    /// No memory was left to go on.
+    /// Out of memory.
     NoMemory,
     /// A store was to be made, and a disk isn't empty.
     NotEmpty,
@@ -42,7 +42,7 @@ impl StoreEnd {
     }
 }
 
-/// How a command ended, and the disks, which it gives back.
+/// How a command ended, and the disks, which it returns.
 #[derive(Drop)]
 pub struct Ended<D: Disk> {
     pub end: StoreEnd,

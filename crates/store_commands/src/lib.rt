@@ -9,9 +9,9 @@
 //! Proved, for every disk and sink that meets its contract: what is printed is the text of the
 //! snapshot and the entries of the journal that is taken (`printed`), whole with status 0; each end
 //! has its cause (`printed`, `told`, `not_empty`, `disk_fault`, `write_fault`), which the others
-//! exclude ([`laws`]); and the disks are given back, as an opening leaves them (`disks`).
+//! exclude ([`laws`]); and the disks are returned as an opening leaves them (`disks`).
 //!
-//! It stands on `pod_live` for the store, on `audit_trail` for the line of an entry, on
+//! It depends on `pod_live` for the store, on `audit_trail` for the line of an entry, on
 //! `store_lines` for the line of a damage, and on `line_sink` for writing.
 #![tactic(auto)]
 

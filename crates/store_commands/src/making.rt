@@ -21,7 +21,7 @@ use pod_io::Failed;
 use pod_live::{CommitFault, Keeper};
 use std::alloc::Global;
 
-/// Whether a disk holds nothing.
+/// Whether a disk is empty.
 fn is_empty<D: Disk>(disk: &mut D) -> Result<bool, Failed>
     ensures yes { IfOk result (λ empty. IsTrue empty
         → IfVisible (D.content disk.old) (λ b. b ≡ [])) }
@@ -35,7 +35,7 @@ fn is_empty<D: Disk>(disk: &mut D) -> Result<bool, Failed>
     Ok(len == 0)
 }
 
-/// Whether both disks hold nothing. The second isn't asked where the first holds something.
+/// Whether both disks are empty. The second isn't queried where the first isn't.
 fn are_empty<D: Disk>(disks: &mut Disks<D>) -> Result<bool, Failed>
     ensures first { IfOk result (λ empty. IsTrue empty
         → IfVisible (D.content disks.old.first) (λ b. b ≡ [])) }
@@ -94,8 +94,8 @@ fn make<D: Disk>(
 }
 
 /// Makes a store on two empty disks, with the two first rows of a pod of that base and that owner,
-/// which have that moment. It prints nothing. A crash inside it may leave anything, but a store
-/// that was there stays as it is.
+/// which have that moment. It prints nothing. A crash inside it may leave anything, but an existing
+/// store stays as it is.
 ///
 /// `NotEmpty` comes exactly where a disk isn't empty, and `DiskFault` only where a disk's count of
 /// faults increased. Where it ends with `NotEmpty` or `NoMemory`, nothing was written.
@@ -127,7 +127,7 @@ pub fn init<D: Disk>(
     ensures no_fewer_first { D.faults disks.old.first ≤ D.faults disks.new.first }
     ensures no_fewer_second { D.faults disks.old.second ≤ D.faults disks.new.second }
 
-    // What was there is there at each moment, and after it.
+    // Where nothing was written, the disks hold what they held, at each moment and after it.
     ensures left { (result ≡ StoreEnd.NotEmpty) ⊎ (result ≡ StoreEnd.NoMemory)
         → LeavesPairs D.moment D.left_since disks.old.first disks.old.second
         disks.new.first disks.new.second
@@ -137,7 +137,7 @@ pub fn init<D: Disk>(
     ensures kept_second { (result ≡ StoreEnd.NotEmpty) ⊎ (result ≡ StoreEnd.NoMemory)
         → D.content disks.new.second ≡ D.content disks.old.second }
 
-    // A store that was there stays at each moment, whatever the end.
+    // An existing store stays at each moment, whatever the end.
     ensures stays { HoldsBytes (D.content disks.old.first) ⊎ HoldsBytes (D.content disks.old.second)
         → LeavesPairs D.moment D.left_since disks.old.first disks.old.second
         disks.new.first disks.new.second

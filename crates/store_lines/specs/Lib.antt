@@ -1,2 +1,2 @@
--- what is told of a store that isn't opened
+-- what is reported of a store that isn't opened
 pub mod Refusals

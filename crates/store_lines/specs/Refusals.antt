@@ -1,4 +1,4 @@
--- What is told of a store that isn't opened.
+-- What is reported of a store that isn't opened.
 use Rattle.std.specs.Prelude.{◌≡◌, ℕ, List, ◌++◌, codes, Option}
 use Rattle.journal_log.specs.Sides.{side_text}
 use Rattle.journal_log.specs.declared.fault.OpenFault.{OpenFault}

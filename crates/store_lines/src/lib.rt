@@ -1,4 +1,4 @@
-//! What is told of a store that isn't opened: the status of the run, and its line.
+//! What is reported of a store that isn't opened: the status of the run, and its line.
 //!
 //! ```text
 //! tell_refusal(&mut errors, fault);      // damaged first 16
@@ -6,10 +6,10 @@
 //! ```
 //!
 //! Proved: [`open_status`] is the status of the fault, and after [`tell_refusal`] the sink has the
-//! line of a damage, or a part of it where its count of faults increased, and of another fault
+//! line of a damage, or a part of it where its count of faults increased, and for another fault
 //! nothing (`told`).
 //!
-//! It stands on `journal_log` for the faults, and on `line_sink` for writing.
+//! It depends on `journal_log` for the faults, and on `line_sink` for writing.
 #![tactic(auto)]
 
 mod refusals;

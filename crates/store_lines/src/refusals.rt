@@ -31,7 +31,7 @@ fn write_damage<E: Sink>(errors: &mut E, side: Side, at: u64) -> Result<(), Fail
     }
 }
 
-/// Tells of a damage. A line that can't be written changes nothing.
+/// Reports a damage. A failed write changes nothing.
 fn tell_damage<E: Sink>(errors: &mut E, side: Side, at: u64)
     ensures told { AddsOrPart (damage_line side at) (E.taken errors.old) (E.taken errors.new)
         (E.faults errors.old) (E.faults errors.new) }
@@ -40,8 +40,8 @@ fn tell_damage<E: Sink>(errors: &mut E, side: Side, at: u64)
     let _told = write_damage(errors, side, at);
 }
 
-/// Tells of a store that isn't opened: of a damage by its line, and of another fault nothing. A line
-/// that can't be written changes nothing.
+/// Reports why a store isn't opened: a damage by its line, another fault by none. A failed write
+/// changes nothing.
 pub fn tell_refusal<E: Sink>(errors: &mut E, fault: OpenFault)
     ensures told { TellsRefusal fault (E.taken errors.old) (E.taken errors.new)
         (E.faults errors.old) (E.faults errors.new) }

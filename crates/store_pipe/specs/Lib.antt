@@ -1,4 +1,4 @@
--- What public clauses cite: the pod of a store, the token table, and how a run goes.
+-- What public clauses cite: the pod of a store, the token table, and what a run does.
 pub mod StoredPods
 pub mod Tables
 pub mod StoreRuns

@@ -24,7 +24,7 @@ abbrev pub fault_line : TableFault → List ℕ
 fault_line (Line number) = table_line number
 fault_line _ = []
 
--- The error sink got this line, or a part of it where its count rose, and this is the status.
+-- The error sink has this line, or a part of it where its count increased, and this is the status.
 abbrev pub TellsLine : List ℕ → ℕ → ℕ → Option (List ℕ) → Option (List ℕ) → ℕ → ℕ → Type 0
 TellsLine line wanted status old new before after =
     (status ≡ wanted) × AddsOrPart line old new before after
@@ -73,8 +73,9 @@ module _ {D : Type 0} (image : D → List ℕ → Type 0) (moment : D → ℕ)
     pub tells : TellsLine (fault_line fault) (table_status fault) status streams.old_errors
         streams.new_errors streams.old_faults streams.new_faults
 
-  -- It was served. For each history that the keeper stood for, what was written is the output of a
-  -- session from its end on, and the keeper has gone on to that history with the session's entries.
+  -- It was served. For each history that the keeper represented, what was written is the output of
+  -- a session from its end on, and the keeper has advanced to that history with the session's
+  -- entries.
   pub record IsPiped (keeper left : KeeperState D) (tokens : TokenSource) (streams : Streams)
       (status : ℕ) : Type 0 where
     pub agents : Agents

@@ -5,8 +5,8 @@ use Rattle.pod_core.specs.History.{History, IsHistory}
 use Rattle.pod_live.specs.KeeperState.{KeeperState}
 use Rattle.store_pipe.specs.StoredPods.{ByCommits, Passes, StandsFor}
 
-pub kept_history : {D : Type 0} (image : D → List ℕ → Type 0) (keeper : KeeperState D) (history : History)
-    → StandsFor image keeper history → IsHistory history
+pub kept_history : {D : Type 0} (image : D → List ℕ → Type 0) (keeper : KeeperState D)
+    (history : History) → StandsFor image keeper history → IsHistory history
 kept_history image keeper history s = s.kept.is_history
 
 module _ {D : Type 0} (image : D → List ℕ → Type 0) (moment : D → ℕ)
@@ -15,8 +15,8 @@ module _ {D : Type 0} (image : D → List ℕ → Type 0) (moment : D → ℕ)
       → Passes image moment left_since keeper history keeper history
   no_commits keeper history = record { steps = []; by = (refl, refl) }
 
-  pub joined_by : (steps more_steps : List (KeeperState D × History)) (a b c : KeeperState D) (h i j : History)
-      → ByCommits image moment left_since a h steps b i
+  pub joined_by : (steps more_steps : List (KeeperState D × History)) (a b c : KeeperState D)
+      (h i j : History) → ByCommits image moment left_since a h steps b i
       → ByCommits image moment left_since b i more_steps c j
       → ByCommits image moment left_since a h (steps ++ more_steps) c j
   joined_by [] more_steps a b c h i j one two =

@@ -14,7 +14,7 @@ use Rattle.pod_pipe.specs.Served as served
 use Rattle.session_laws.specs.Isolated.{grown}
 use Rattle.token_table.specs.Credentials.{AskedAgent}
 
--- The keeper stands for the history: its active journal holds it from this place on.
+-- The keeper represents the history: its active journal holds it from this place on.
 pub record StandsFor {D : Type 0} (image : D → List ℕ → Type 0) (keeper : KeeperState D)
     (history : History) : Type 0 where
   pub place : ℕ
@@ -24,16 +24,16 @@ pub record StandsFor {D : Type 0} (image : D → List ℕ → Type 0) (keeper : 
 abbrev pub disk_faults : {D : Type 0} → (D → ℕ) → KeeperState D → DiskFaults
 disk_faults faults keeper = record { first = faults keeper.first; second = faults keeper.second }
 
--- what is counted over a keeper: the faults of its disks, and the requests that found no memory
+-- what is counted over a keeper: the faults of its disks, and the requests that ran out of memory
 abbrev pub stored_faults : {D : Type 0} → (D → ℕ) → KeeperState D → ℕ → Faults
 stored_faults faults keeper starved =
     record { disks = disk_faults faults keeper; starved = starved }
 
 module _ {D : Type 0} (image : D → List ℕ → Type 0) (moment : D → ℕ)
     (left_since : D → ℕ → List ℕ → Type 0) where
-  -- The commit of one change. At each moment of it each pair of crash images stands for the history,
-  -- or for it with the entry in doubt or the one under way after its end. A checkpoint onto a disk of
-  -- fewer than 17 bytes is the one exception.
+  -- The commit of one change. At each moment of it each pair of crash images represents the
+  -- history, or it with the entry in doubt or the one under way after its end. A checkpoint onto a
+  -- disk of fewer than 17 bytes is the one exception.
   pub record Commits (old : KeeperState D) (history : History) (new : KeeperState D)
       (more : History) : Type 0 where
     pub request : Request
@@ -52,20 +52,20 @@ module _ {D : Type 0} (image : D → List ℕ → Type 0) (moment : D → ℕ)
     pub added : List Entry
     pub grows : more ≡ longer history added
 
-  -- One commit after another, by the keepers between them and the histories for which they stand.
+  -- One commit after another, by the keepers between them and the histories that these represent.
   abbrev pub ByCommits : KeeperState D → History → List (KeeperState D × History) → KeeperState D
       → History → Type 0
   ByCommits old history [] new more = (new ≡ old) × (more ≡ history)
   ByCommits old history (step ∷ steps) new more =
       Commits old history step.0 step.1 × ByCommits step.0 step.1 steps new more
 
-  -- From a keeper that stands for a history to what it is after some commits.
+  -- From a keeper that represents a history to what it is after some commits.
   pub record Passes (old : KeeperState D) (history : History) (new : KeeperState D)
       (more : History) : Type 0 where
     pub steps : List (KeeperState D × History)
     pub by : ByCommits old history steps new more
 
-  -- What is left of a keeper that stood for the history: it has gone on to the history with the
+  -- The returned keeper, which represented the history: it has advanced to the history with the
   -- items' entries, by such commits, and each item that met a disk fault was counted.
   pub record LeavesKeeper (faults : D → ℕ) (old new : KeeperState D) (history : History)
       (items : List Item) : Type 0 where

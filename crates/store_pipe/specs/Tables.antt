@@ -17,7 +17,7 @@ pub record IsReadToEnd (text : List ℕ) (old new : Option (List ℕ)) : Type 0 
   pub reads : Reads text old new
   pub all : AtEnd new
 
--- the table of the lines that the source gave, none of which is faulty
+-- the table of the lines of the source's text, none of which is faulty
 pub record IsTable (tokens : List TokenEntry) (old new : Option (List ℕ)) : Type 0 where
   pub text : List ℕ
   pub read : IsReadToEnd text old new
@@ -31,7 +31,7 @@ table_status NoMemory = 7
 table_status (Line number) = 9
 table_status ReadLimit = 14
 
--- Why there is no table: the first faulty line of the source's text; a read failed; or the bound on
+-- Why there is no table: the first faulty line of the source's text; a read failed; or the limit on
 -- reads was reached.
 abbrev pub HasTableCause : TableFault → Option (List ℕ) → Option (List ℕ) → ℕ → ℕ → ℕ → ℕ → Type 0
 HasTableCause (Line number) old new faults faults_now reads reads_now = (text : List ℕ)
@@ -45,13 +45,14 @@ HasTableCause NoMemory old new faults faults_now reads reads_now = Unit {0}
 abbrev pub table_line : ℕ → List ℕ
 table_line number = number_line (codes "tokens line ") number
 
--- How agents are asked: every request is this owner's, and no table is read; or by the table.
+-- How requests are authenticated: every request is this owner's, and no table is read; or by the
+-- table.
 abbrev pub IsAsked : Bool → List ℕ → Agents → Option (List ℕ) → Option (List ℕ) → Type 0
 IsAsked false owner agents old new = (agents ≡ Owner owner) × (new ≡ old)
 IsAsked true owner agents old new =
     (tokens : List TokenEntry) × (agents ≡ Table tokens) × IsTable tokens old new
 
--- internal: the first faulty line of these lines, or want of memory
+-- internal: the first faulty line of these lines, or out of memory
 abbrev pub IsFaultOf : TableFault → List (List ℕ) → Type 0
 IsFaultOf (Line number) lines = IsFirstFault lines number
 IsFaultOf NoMemory lines = Unit {0}

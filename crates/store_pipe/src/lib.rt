@@ -8,14 +8,14 @@
 //!
 //! Proved of [`pipe_store`], for every disk, stream and clock that meets its contract (`runs`): the
 //! store is opened, or it isn't and the refusal has its cause and its line; then the token table is
-//! read, where agents are known by it, or the fault of the table is told; then the connection is
-//! served as [`pod_pipe::pipe`] says, for each history that the opened keeper stood for. The keeper
-//! is left standing for that history with exactly the entries of the session's items, and came to it
-//! by commits: at each moment of each of them, each pair of crash images stands for the history
-//! before it, or for that with the entry in doubt or the one under way. A fault comes only where a
+//! read, where requests are authenticated by it, or its fault is reported; then the connection is
+//! served as [`pod_pipe::pipe`] promises, for each history that the opened keeper represented. The
+//! keeper then represents that history with exactly the entries of the session's items, and reached
+//! it by commits: at each moment of each of them, each pair of crash images represents the history
+//! before it, or that with the entry in doubt or the one under way. A fault comes only where a
 //! count increased (`read_fault`, `write_fault`), and the disks are put back (`place`).
 //!
-//! It stands on `pod_live` for the store, on `pod_pipe` for the connection, on `token_table` for
+//! It depends on `pod_live` for the store, on `pod_pipe` for the connection, on `token_table` for
 //! agents, and on `store_lines` and `line_sink` for lines.
 #![tactic(auto)]
 

@@ -1,4 +1,4 @@
-//! Lines that tell why nothing was served.
+//! Lines that report why nothing was served.
 ghost use Rattle.std.specs.Prelude.{◌≡◌, ◌≤◌};
 ghost use Rattle.line_sink.specs.Writing.{number_line};
 ghost use Rattle.store_lines.specs.Refusals.{TellsRefusal, open_status};
@@ -12,7 +12,7 @@ use pod_io::Sink;
 use pod_pipe::Status;
 use store_lines::{open_status, tell_refusal};
 
-/// Tells why a store isn't opened, and gives the status.
+/// Reports why a store isn't opened, and returns the status.
 pub(crate) fn refuse<E: Sink>(fault: OpenFault, errors: &mut E) -> Status
     ensures status { result.0 ≡ open_status fault }
     ensures told { TellsRefusal fault (E.taken errors.old) (E.taken errors.new)
@@ -23,8 +23,7 @@ pub(crate) fn refuse<E: Sink>(fault: OpenFault, errors: &mut E) -> Status
     Status(open_status(fault))
 }
 
-/// Tells a word and a number, as a line, and gives the status. A line that isn't written changes
-/// nothing.
+/// Writes a word and a number as a line, and returns the status. A failed write changes nothing.
 fn tell<E: Sink>(word: &[u8], number: u64, status: u8, errors: &mut E) -> Status
     ensures told { TellsLine (number_line word.now number) status result.0 (E.taken errors.old)
         (E.taken errors.new) (E.faults errors.old) (E.faults errors.new) }
@@ -36,7 +35,7 @@ fn tell<E: Sink>(word: &[u8], number: u64, status: u8, errors: &mut E) -> Status
     }
 }
 
-/// Tells why there is no token table.
+/// Reports why there is no token table.
 pub(crate) fn tell_table<E: Sink>(fault: TableFault, errors: &mut E) -> Status
     ensures told { TellsLine (fault_line fault) (table_status fault) result.0 (E.taken errors.old)
         (E.taken errors.new) (E.faults errors.old) (E.faults errors.new) }

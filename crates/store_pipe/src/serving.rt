@@ -24,7 +24,7 @@ fn owner_of<D: Disk>(alloc: Global, keeper: &Keeper<D>) -> Mem<Text>
     keeper.version().owner().copy(alloc)
 }
 
-/// How agents are asked: by the token table, or every request is the owner's.
+/// How requests are authenticated: by the token table, or every request is the owner's.
 fn agents_of<D: Disk, T: Source>(
     alloc: Global,
     by_tokens: bool,
@@ -51,7 +51,7 @@ fn agents_of<D: Disk, T: Source>(
     }
 }
 
-/// Serves the input as one connection of the pod that a keeper holds. Gives the keeper back.
+/// Serves the input as one connection of the pod that a keeper holds. Returns the keeper.
 fn pipe_keeper<D: Disk, T: Source, S: Source, K: Sink, E: Sink, C: Clock>(
     alloc: Global,
     by_tokens: bool,
@@ -64,8 +64,8 @@ fn pipe_keeper<D: Disk, T: Source, S: Source, K: Sink, E: Sink, C: Clock>(
     clock: &C,
 ) -> (Status, Keeper<D>)
     requires { (history : History) × StandsFor D.image keeper history }
-    ensures runs { RunsKeeper D.image D.moment D.left_since D.faults (C.may_give clock.now) by_tokens
-        trail keeper result.1 (record {
+    ensures runs { RunsKeeper D.image D.moment D.left_since D.faults (C.may_give clock.now)
+        by_tokens trail keeper result.1 (record {
           old = T.rest tokens.old;
           new = T.rest tokens.new;
           old_faults = T.faults tokens.old;
@@ -110,7 +110,7 @@ fn pipe_keeper<D: Disk, T: Source, S: Source, K: Sink, E: Sink, C: Clock>(
     }
 }
 
-/// Opens a store and serves the input as one connection of its pod. Gives the disks back.
+/// Opens a store and serves the input as one connection of its pod. Returns the disks.
 fn run_store<D: Disk, T: Source, S: Source, K: Sink, E: Sink, C: Clock>(
     alloc: Global,
     by_tokens: bool,

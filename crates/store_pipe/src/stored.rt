@@ -19,7 +19,7 @@ use token_table::Asked;
 #[derive(Drop)]
 pub(crate) struct StoredPod<D: Disk> {
     pub keeper: Keeper<D>,
-    /// How many requests found no memory, at most 2^64 - 1.
+    /// How many requests ran out of memory, at most 2^64 - 1.
     pub starved: u64,
 }
 
@@ -163,5 +163,6 @@ impl<D: Disk> PodHolder for StoredPod<D> {
 
     ghost still = { λ pod history. no_commits D.image D.moment D.left_since pod.keeper history };
 
-    ghost joins = { λ a b c h i j. joined D.image D.moment D.left_since a.keeper b.keeper c.keeper h i j };
+    ghost joins = { λ a b c h i j. joined D.image D.moment D.left_since a.keeper b.keeper c.keeper
+        h i j };
 }

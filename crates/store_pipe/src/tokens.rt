@@ -7,7 +7,7 @@ use pod_io::Source;
 use std::alloc::Global;
 use token_table::{TokenFault, Tokens};
 
-/// The most bytes that one read asks for.
+/// The most bytes that one read requests.
 const PIECE_LIMIT: usize = 65_536;
 
 /// The most reads of the table.
@@ -21,11 +21,11 @@ pub enum TableFault {
     /// A read failed.
     ReadFault,
     NoMemory,
-    /// The bound on reads was reached.
+    /// The limit on reads was reached.
     ReadLimit,
 }
 
-/// All that a source gives.
+/// The text of a source, which is read to its end.
 fn read_all<T: Source>(alloc: Global, source: &mut T) -> Result<Vec<u8>, TableFault>
     ensures text { IfOk result (λ text. IsReadToEnd text.items (T.rest source.old)
         (T.rest source.new)) }

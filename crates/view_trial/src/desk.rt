@@ -1,4 +1,4 @@
-//! Desks that are served beside each other.
+//! Desks that are served in parallel.
 ghost use Rattle.std.specs.Prelude.{◌≡◌, ◌+◌, All, List, ℕ, length, sum_by};
 ghost use Rattle.std.specs.Thread.{IsSync};
 ghost use Rattle.pod_base.specs.EachTo.{EachTo};
@@ -47,7 +47,7 @@ fn serve_one<N: ViewName<u64> + Opened + Ledger, L: Rounds<N>, R: Wait>(
     }
 }
 
-/// Enters the guests of all desks, the halves beside each other.
+/// Enters the guests of all desks, the halves in parallel.
 fn serve_beside<
     N: ViewName<u64> + Opened + Ledger + Send + Sync,
     L: Rounds<N> + Sync,
@@ -67,25 +67,28 @@ fn serve_beside<
         rt,
         &mut ||
             requires { IsSync R.row }
-            ensures { EachTo (λ old new. Served old.session new.session new.entered) front.entry.now front.exit.now }
+            ensures { EachTo (λ old new. Served old.session new.session new.entered)
+                front.entry.now front.exit.now }
         { serve_beside(rt, alloc, live, front) },
         &mut ||
             requires { IsSync R.row }
-            ensures { EachTo (λ old new. Served old.session new.session new.entered) back.entry.now back.exit.now }
+            ensures { EachTo (λ old new. Served old.session new.session new.entered)
+                back.entry.now back.exit.now }
         { serve_beside(rt, alloc, live, back) },
     );
 }
 
-/// Enters the guests of all desks, the halves beside each other. The desks hold all sessions.
-/// Afterwards all of them have seen one list of guests, whose length is what the book opened with
-/// and all that the sessions ever entered.
+/// Enters the guests of all desks, the halves in parallel. The desks hold all sessions. Afterwards
+/// all of them have seen one list of guests, whose length is what the book opened with and all that
+/// the sessions ever entered.
 pub fn serve<
     N: ViewName<u64> + Opened + Ledger + Send + Sync,
     L: Rounds<N> + Sync,
     R: Threads + Wait + Sync,
 >(rt: &R, alloc: Global, live: &L, desks: &mut [Desk<N>])
     requires all { length desks.old ≡ N.parts }
-    ensures served { EachTo (λ old new. Served old.session new.session new.entered) desks.old desks.new }
+    ensures served { EachTo (λ old new. Served old.session new.session new.entered)
+        desks.old desks.new }
     ensures one_list { (guests : List ℕ)
         × (length guests ≡ length N.opening + sum_by (λ d. d.session.changes) desks.new)
         × All (λ d. d.session.seen ≡ guests) desks.new }

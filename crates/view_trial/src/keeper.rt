@@ -1,5 +1,6 @@
-//! What lies under the lock.
-ghost use Rattle.std.specs.Prelude.{◌≡◌, ◌+◌, ◌<◌, ◌≤◌, ◌^◌, ◌++◌, [], ◌∷◌, IfOk, OnErr, length, sum_by};
+//! What the lock protects.
+ghost use Rattle.std.specs.Prelude.{◌≡◌, ◌+◌, ◌<◌, ◌≤◌, ◌^◌, ◌++◌, [], ◌∷◌, length, sum_by};
+ghost use Rattle.std.specs.Prelude.{IfOk, OnErr};
 ghost use Rattle.std.specs.Arc.{arc_value};
 ghost use Rattle.view_trial.specs.Book.{added, growth_of, reply_of};
 
@@ -11,7 +12,7 @@ use std::alloc::Global;
 use std::sync::ledger::{Book, Ledger, Share};
 use std::sync::{Arc, Wait};
 
-/// What lies under the lock: the publisher, with the number of guests and the ledger of those that
+/// What the lock protects: the publisher, with the number of guests and the ledger of those that
 /// sessions entered.
 pub struct Keeper<N: ViewName<V::Item> + Opened + Ledger, V: Told = Version<N>>
 where
@@ -41,10 +42,14 @@ impl<N: ViewName<u64> + Opened + Ledger> Keeper<N> {
         guest: u64,
     ) -> Mem<Done>
         requires { 0 < share.old.parts }
-        ensures place { IfOk result (λ done. done.place ≡ N.first_number + length self.old.publisher.list) }
-        ensures reply { IfOk result (λ done. done.reply ≡ reply_of N.before self.old.publisher.list) }
-        ensures list { IfOk result (λ done. self.new.publisher.list ≡ self.old.publisher.list ++ added done.reply guest) }
-        ensures amount { IfOk result (λ done. share.new.amount ≡ share.old.amount + growth_of done.reply) }
+        ensures place { IfOk result (λ done. done.place
+            ≡ N.first_number + length self.old.publisher.list) }
+        ensures reply { IfOk result (λ done. done.reply
+            ≡ reply_of N.before self.old.publisher.list) }
+        ensures list { IfOk result (λ done. self.new.publisher.list
+            ≡ self.old.publisher.list ++ added done.reply guest) }
+        ensures amount { IfOk result (λ done. share.new.amount
+            ≡ share.old.amount + growth_of done.reply) }
         ensures few { share.old.amount ≤ 1000 }
         ensures list_stays { OnErr result (self.new.publisher.list ≡ self.old.publisher.list) }
         ensures amount_stays { OnErr result (share.new.amount ≡ share.old.amount) }
@@ -90,11 +95,12 @@ impl<N: ViewName<u64> + Opened + Ledger> Keeper<N> {
         *guests += 1;
     }
 
-    /// Lends the shares of these desks to `seen`, which then has every part, and gives them back.
+    /// Lends the shares of these desks to `seen`, which then has every part, and returns them.
     pub fn audit(&mut self, desks: &mut [Desk<N>], seen: &mut Share<N>)
         requires all { seen.old.parts + length desks.old ≡ N.parts }
         requires backed { seen.old.parts ≡ 0 → seen.old.amount ≡ 0 }
-        ensures sum { length self.new.publisher.list ≡ length N.opening + (seen.old.amount + sum_by (λ d. d.session.changes) desks.old) }
+        ensures sum { length self.new.publisher.list ≡ length N.opening
+            + (seen.old.amount + sum_by (λ d. d.session.changes) desks.old) }
         ensures list { self.new.publisher.list ≡ self.old.publisher.list }
         ensures parts { seen.new.parts ≡ seen.old.parts }
         ensures amount { seen.new.amount ≡ seen.old.amount }

@@ -1,8 +1,8 @@
-//! A guest book with room for a thousand guests, kept under a lock and read by sessions that wait
-//! for nobody.
+//! A guest book with room for a thousand guests, changed under a lock and read by sessions without
+//! waiting.
 //!
-//! It tries the shapes of a server over a published view: what lies under the lock, a session, and
-//! the serving of desks beside each other, with the sum of what all sessions changed.
+//! It tries the structure of a server over a published view: what the lock protects, a session, and
+//! desks served in parallel, with the sum of what all sessions changed.
 #![tactic(auto)]
 
 mod desk;

@@ -1,5 +1,6 @@
 //! The book under a lock, and its calls.
-ghost use Rattle.std.specs.Prelude.{◌≡◌, ◌+◌, ◌<◌, ◌≤◌, ◌^◌, All, IfOk, IfSome, IfNone, OnErr, length, sum_by};
+ghost use Rattle.std.specs.Prelude.{◌≡◌, ◌+◌, ◌<◌, ◌≤◌, ◌^◌, All, length, sum_by};
+ghost use Rattle.std.specs.Prelude.{IfOk, IfSome, IfNone, OnErr};
 ghost use mathlib.Core.List.{IsPrefix};
 ghost use Rattle.published_view.specs.LookerState.{CountIncreasedByOne, IsNewLooker, OnNoPlace};
 ghost use Rattle.view_trial.specs.Book.{IsBookOf};
@@ -20,7 +21,7 @@ use std::alloc::Global;
 use std::sync::ledger::{Blank, Ledger, Share};
 use std::sync::{Arc, Mutex, MutexGuard, Wait};
 
-/// The book under a lock, which sessions change, and which they look at without it.
+/// The book under a lock, which sessions change, and which they read without it.
 pub struct Live<N: ViewName<V::Item> + Opened + Ledger, V: Told = Version<N>>
 where
     VersionWithList<V, N>: KeptTwice,
@@ -38,7 +39,8 @@ pub trait Rounds<N: ViewName<u64> + Opened + Ledger> {
         session: &mut Session<N>,
         guest: u64,
     ) -> Mem<Done>
-        ensures changed { IfOk result (λ done. Changed N.before N.first_number session.old guest done session.new) }
+        ensures changed { IfOk result (λ done. Changed N.before N.first_number session.old guest
+            done session.new) }
         ensures err { OnErr result (session.new ≡ session.old) };
 
     /// Shows all sessions one list of guests, whose length is the sum of what they entered.
@@ -46,7 +48,8 @@ pub trait Rounds<N: ViewName<u64> + Opened + Ledger> {
         requires all { length desks.old ≡ N.parts }
         ensures one_list { (guests : _)
             × (length guests ≡ length N.opening + sum_by (λ d. d.session.changes) desks.new)
-            × EachTo (λ old new. Meets guests old.session new.session × (new.entered ≡ old.entered)) desks.old desks.new };
+            × EachTo (λ old new. Meets guests old.session new.session
+            × (new.entered ≡ old.entered)) desks.old desks.new };
 }
 
 impl<N: ViewName<u64> + Opened + Ledger> Live<N> {
@@ -67,7 +70,8 @@ impl<N: ViewName<u64> + Opened + Ledger> Live<N> {
         requires parts { (ledger.parts ≡ N.parts) × (ledger.parts ≡ readers) }
         requires readers { (0 < readers) × (readers ≤ READERS_LIMIT) }
         ensures desks { IfOk result (λ live. length live.1.items ≡ N.parts) }
-        ensures sessions { IfOk result (λ live. All (λ d. IsNewVisit N.opening d.session) live.1.items) }
+        ensures sessions { IfOk result (λ live.
+            All (λ d. IsNewVisit N.opening d.session) live.1.items) }
         ensures refused { OnNoPlace result (CountIncreasedByOne places.old places.new) }
     {
         let (number, guests) = (first.number, first.guests);
@@ -102,7 +106,8 @@ impl<N: ViewName<u64> + Opened + Ledger> Live<N> {
         ensures one_list { (guests : _) × IsPrefix N.opening guests
             × (result ≡ N.first_number + length guests)
             × (length guests ≡ length N.opening + sum_by (λ d. d.session.changes) desks.old)
-            × EachTo (λ old new. Meets guests old.session new.session × (new.entered ≡ old.entered)) desks.old desks.new }
+            × EachTo (λ old new. Meets guests old.session new.session
+            × (new.entered ≡ old.entered)) desks.old desks.new }
     {
         let Live { keeper } = self;
         let mut keeper = keeper.into_inner();
@@ -129,7 +134,8 @@ impl<N: ViewName<u64> + Opened + Ledger> Live<N> {
         session: &mut Session<N>,
         guest: u64,
     ) -> Option<Mem<Done>>
-        ensures decided { IfSome result (λ r. IfOk r (λ done. Decided N.before N.first_number session.old guest done session.new)) }
+        ensures decided { IfSome result (λ r. IfOk r (λ done. Decided N.before N.first_number
+            session.old guest done session.new)) }
         ensures err { IfSome result (λ r. OnErr r (session.new ≡ session.old)) }
         ensures none { IfNone result (session.new ≡ session.old) }
     {
@@ -184,7 +190,8 @@ fn seat<N: ViewName<u64> + Opened + Ledger>(
     requires amount { all.amount ≡ 0 }
     requires lookers { All (IsNewLooker N.opening) lookers.items }
     ensures desks { IfOk result (λ desks. length desks.items ≡ length lookers.items) }
-    ensures sessions { IfOk result (λ desks. All (λ d. IsNewVisit N.opening d.session) desks.items) }
+    ensures sessions { IfOk result (λ desks.
+        All (λ d. IsNewVisit N.opening d.session) desks.items) }
 {
     let mut lookers = lookers;
     let mut all = all;
@@ -210,7 +217,8 @@ fn meet_all<N: ViewName<u64> + Opened + Ledger, R: Wait>(
     front: &Front<u64, N>,
     desks: &mut [Desk<N>],
 )
-    ensures { EachTo (λ old new. Meets front.now old.session new.session × (new.entered ≡ old.entered)) desks.old desks.new }
+    ensures { EachTo (λ old new. Meets front.now old.session new.session
+        × (new.entered ≡ old.entered)) desks.old desks.new }
 {
     if let Some((first, rest)) = desks.split_first_mut() {
         first.session.meet(rt, front);

@@ -41,8 +41,8 @@ Covers member base g node (Known agent) = States g node acl_agent_class foaf_age
     ⊎ (States g node acl_agent_class acl_authenticated_agent
     ⊎ (States g node acl_agent agent ⊎ CoversMember member base g node agent))
 
--- The node is a rule that grants the agent the mode, in the list of the path, which is what is
--- asked for (own) or is above it (inherited).
+-- The node is a rule that grants the agent the mode, in the list of the path, which is the
+-- requested path (own) or above it (inherited).
 pub record NodeGrants (member : Membership) (base : List ℕ) (g : List Triple) (how : How)
     (at : List ℕ) (agent : Agent) (mode : Mode) (node : Term) : Type 0 where
   pub rule : IsRule g node

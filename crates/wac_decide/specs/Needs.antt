@@ -44,7 +44,7 @@ resource_needs Options s = []
 resource_needs Other s = []
 
 -- A request for a description, judged on its subject. A POST of one is refused before access is
--- asked, and has the need of its row.
+-- decided, and has the need of its row.
 abbrev pub description_needs : Method → Shape → List ℕ → List Need
 description_needs Get s subject = on subject (Read ∷ [])
 description_needs Head s subject = on subject (Read ∷ [])
@@ -55,7 +55,7 @@ description_needs Delete s subject = on subject (Write ∷ [])
 description_needs Options s subject = []
 description_needs Other s subject = []
 
--- Preconditions compare with what is there.
+-- Preconditions compare with what exists.
 abbrev pub tag_modes : Shape → List Mode
 tag_modes s = if s.tags then Read ∷ [] else []
 
@@ -84,7 +84,7 @@ need_eq a b = mode_eq a.mode b.mode && bytes_eq a.path b.path
 abbrev pub with_need : List Need → Need → List Need
 with_need needs need = if list_any (need_eq need) needs then needs else needs ++ need ∷ []
 
--- Each need once, where it first stands.
+-- Each need once, at its first position.
 abbrev pub each_once : List Need → List Need
 each_once needs = fold with_need [] needs
 

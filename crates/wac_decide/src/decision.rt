@@ -26,9 +26,9 @@ pub struct Ground {
 }
 
 /// The first rule of a list, and in it the first subject, that grant the agent the mode; none
-/// exactly where nothing grants. `at` is the subject of the list; `how` is `Own` where that is what
-/// is asked for, and `Inherited` where the list is that of a container above it. It takes no memory
-/// and goes over the rules once.
+/// exactly where nothing grants. `at` is the subject of the list; `how` is `Own` where that is the
+/// requested path, and `Inherited` where the list is that of a container above it. It takes no
+/// memory and goes over the rules once.
 pub fn granted<G: Groups>(
     rules: &Rules,
     how: How,
@@ -57,7 +57,7 @@ pub fn granted<G: Groups>(
 }
 
 /// Which modes are granted, in the order read, write, append, control: for each of them what
-/// [`granted`] finds. It takes no memory, goes over the rules once, and asks for each group once a
+/// [`granted`] finds. It takes no memory, goes over the rules once, and queries each group once per
 /// rule.
 pub fn granted_modes<G: Groups>(
     rules: &Rules,

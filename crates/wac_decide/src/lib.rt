@@ -1,4 +1,4 @@
-//! Decisions of Web Access Control: who may do what, told with its ground.
+//! Decisions of Web Access Control: who may do what, and by which ground.
 //!
 //! ```text
 //! let needs = needs(alloc, &shape)?;                   // (path, mode), each once
@@ -10,7 +10,7 @@
 //!
 //! Proved: a decision is positive exactly where the graph of the list has a node that grants
 //! (`granted`, clause `grants`), and its ground is the first rule, and in it the first subject
-//! (`first`). Needs are the table of docs/rules/access.md, row by row (`needs`). The crate stands
+//! (`first`). Needs are the table of docs/rules/access.md, row by row (`needs`). The crate depends
 //! on `acl_rules` and `pod_command`.
 #![tactic(auto)]
 

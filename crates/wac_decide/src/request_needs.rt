@@ -36,7 +36,7 @@ pub struct Shape {
     pub tags: bool,
 }
 
-/// What a request needs, each need once, where it first stands in the table of
+/// What a request needs, each need once, at its first position in the table of
 /// docs/rules/access.md.
 pub fn needs(alloc: Global, shape: &Shape) -> Mem<List<Need>>
     ensures { IfOk result (λ needs. needs.items ≡ needs_of shape.now) }
@@ -173,7 +173,7 @@ fn add_tags(alloc: Global, needs: &mut List<Need>, shape: &Shape, path: &Path) -
     Ok(())
 }
 
-/// Adds modes on a path, but for those that are there.
+/// Adds modes on a path, but for those that are among the needs.
 fn add(alloc: Global, needs: &mut List<Need>, path: &Path, modes: &[Mode]) -> Mem<()>
     ensures { OnOk result (needs.new.items ≡ fold with_need needs.old.items
         (on path.now modes.now)) }
@@ -184,7 +184,7 @@ fn add(alloc: Global, needs: &mut List<Need>, path: &Path, modes: &[Mode]) -> Me
     Ok(())
 }
 
-/// Adds a mode on a path, unless it is there.
+/// Adds a mode on a path, unless it is among the needs.
 fn add_one(alloc: Global, needs: &mut List<Need>, path: &Path, mode: Mode) -> Mem<()>
     ensures { OnOk result (needs.new.items
         ≡ with_need needs.old.items (record { path = path.now; mode = mode })) }

@@ -10,8 +10,8 @@ use Rattle.pod_core.specs.Session.{Session, IsSession}
 use Rattle.pod_core.specs.World.{Connection, Event, World, WorldRun, first_world}
 use Rattle.token_table.specs.Credentials.{AskedAgent}
 
--- What the connection wrote is the output of a session of the world's history, from this place to the
--- last one that it saw.
+-- What the connection wrote is the output of a session of the world's history, from this place to
+-- the last one that it saw.
 pub record WroteSession (may_give : ℕ → Type 0) (asking : Request → AskedAgent) (start : ℕ)
     (history : History) (conn : ℕ) (connection : Connection) (events : List Heard) : Type 0 where
   pub session : Session
@@ -43,4 +43,5 @@ pub record KeepsHistory (history : History) (world : World) : Type 0 where
 abbrev pub OnlyGrows : (ℕ → Type 0) → Type 0
 OnlyGrows may_give = (asking : Request → AskedAgent) (history : History) (numbers : ℕ → Bool)
     (events : List Event) (world : World)
-    → WorldRun may_give asking (first_world history numbers) events world → KeepsHistory history world
+    → WorldRun may_give asking (first_world history numbers) events world
+    → KeepsHistory history world

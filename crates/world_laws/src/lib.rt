@@ -8,9 +8,10 @@
 //! Proved of `WorldRun`, for every list of events of any connections: what each connection wrote is
 //! the output of a session of the world's history, over the events of all that it read
 //! (`sessions`); and the history only grows, is published but for its last entry at most, and no
-//! connection has seen more than that (`grows`). The function does nothing: its contract is the law.
+//! connection has seen more than that (`grows`). The function does nothing: its contract is the
+//! law.
 //!
-//! It stands on `pod_core` for the definitions, on `http_conn` for the laws of messages, and on
+//! It depends on `pod_core` for the definitions, on `http_conn` for the laws of messages, and on
 //! `reply_laws`.
 #![tactic(auto)]
 

@@ -54,16 +54,16 @@ returns-in_default-feed-clause-pipes g c =
     no_memory g.H.PodHolder.stands g.H.PodHolder.faults g.H.PodHolder.follows g.met.H.PodHolder.legal g.met.H.PodHolder.still g.met.H.PodHolder.joins (g.C.Clock.may_give c.args.clock.now) (asking_of c.args.options.now.agents) c.args.options.now.trail _ _ _ _ _ _ _ _ _ _ _ _ s (take c.in-Ok.count c.read.new.into) (g.S.Source.rest c.read.new.self)
     (reads_more s.text c.reads.piece c.read.new.into c.in-Ok.count (g.S.Source.rest c.args.input.now) (g.S.Source.rest c.reads.input) (g.S.Source.rest c.read.new.self) s.reads read.bytes read.rest.taken)
 
-pub hear-requires-clause-ends : goal.hear-requires-clause-ends
-hear-requires-clause-ends g c =
+pub answer_events-requires-clause-ends : goal.answer_events-requires-clause-ends
+answer_events-requires-clause-ends g c =
     let s = c.reads.invariant.0 c.requires.stands.0 c.requires.stands.1 in
     let read = c.in-Ok.ensures in
     let reads = reads_more s.text c.reads.piece c.read.new.into c.in-Ok.count (g.S.Source.rest c.args.input.now) (g.S.Source.rest c.reads.input) (g.S.Source.rest c.read.new.self) s.reads read.bytes read.rest.taken in
     subst (NothingAfterEnd c.reads.talk.number) (sym c.as_slice.ensures)
     (ends g.H.PodHolder.stands g.H.PodHolder.faults g.H.PodHolder.follows g.met.H.PodHolder.legal g.met.H.PodHolder.still g.met.H.PodHolder.joins (g.C.Clock.may_give c.args.clock.now) (asking_of c.args.options.now.agents) c.args.options.now.trail _ _ _ _ _ _ _ _ _ _ _ _ s (take c.in-Ok.count c.read.new.into) (g.S.Source.rest c.read.new.self) reads c.feed.new.self c.in-Ok-feed.heard.items _ (c.in-Ok-feed.ensures.messages s.text s.heard s.represents))
 
-pub hear-requires-clause-statuses : goal.hear-requires-clause-statuses
-hear-requires-clause-statuses g c =
+pub answer_events-requires-clause-statuses : goal.answer_events-requires-clause-statuses
+answer_events-requires-clause-statuses g c =
     let s = c.reads.invariant.0 c.requires.stands.0 c.requires.stands.1 in
     let read = c.in-Ok.ensures in
     let reads = reads_more s.text c.reads.piece c.read.new.into c.in-Ok.count (g.S.Source.rest c.args.input.now) (g.S.Source.rest c.reads.input) (g.S.Source.rest c.read.new.self) s.reads read.bytes read.rest.taken in
@@ -79,39 +79,39 @@ returns-in-Err-clause-pipes g c =
     let reads = reads_more s.text c.reads.piece c.read.new.into c.in-Ok.count (g.S.Source.rest c.args.input.now) (g.S.Source.rest c.reads.input) (g.S.Source.rest c.read.new.self) s.reads read.bytes read.rest.taken in
     let told = c.in-Err.ensures.turns in
     ended g.H.PodHolder.stands g.H.PodHolder.faults g.H.PodHolder.follows g.met.H.PodHolder.legal g.met.H.PodHolder.still g.met.H.PodHolder.joins (g.C.Clock.may_give c.args.clock.now) (asking_of c.args.options.now.agents) c.args.options.now.trail _ _ _ _ _ _ _ _ _ _ _ _ s (take c.in-Ok.count c.read.new.into) (g.S.Source.rest c.read.new.self) reads c.feed.new.self c.in-Ok-feed.heard.items _ (c.in-Ok-feed.ensures.messages s.text s.heard s.represents)
-    c.hear.new.self.holder c.hear.new.self.number c.in-Err.end told.0 told.1 (g.K.Sink.taken c.hear.new.output) (g.E.Sink.taken c.hear.new.errors) told.2 told.3
-    (subst (λ hears. TurnsIn g.H.PodHolder.stands g.H.PodHolder.faults g.H.PodHolder.follows (g.C.Clock.may_give c.args.clock.now) (asking_of c.args.options.now.agents) c.args.options.now.trail c.reads.talk.holder c.reads.talk.number c.hear.new.self.holder c.hear.new.self.number hears told.0 told.1 (Err c.in-Err.end)) c.as_slice.ensures told.4)
+    c.answer_events.new.self.holder c.answer_events.new.self.number c.in-Err.end told.0 told.1 (g.K.Sink.taken c.answer_events.new.output) (g.E.Sink.taken c.answer_events.new.errors) told.2 told.3
+    (subst (λ hears. TurnsIn g.H.PodHolder.stands g.H.PodHolder.faults g.H.PodHolder.follows (g.C.Clock.may_give c.args.clock.now) (asking_of c.args.options.now.agents) c.args.options.now.trail c.reads.talk.holder c.reads.talk.number c.answer_events.new.self.holder c.answer_events.new.self.number hears told.0 told.1 (Err c.in-Err.end)) c.as_slice.ensures told.4)
 
 pub returns-in-Err-clause-read_fault : goal.returns-in-Err-clause-read_fault
 returns-in-Err-clause-read_fault g c =
     let told = c.in-Err.ensures.turns in
-    λ is. absurd (never_reads g.H.PodHolder.stands g.H.PodHolder.faults g.H.PodHolder.follows g.met.H.PodHolder.legal g.met.H.PodHolder.still g.met.H.PodHolder.joins (g.C.Clock.may_give c.args.clock.now) (asking_of c.args.options.now.agents) c.args.options.now.trail _ _ _ _ _ _ _ _ _ _ _ _ (c.reads.invariant.0 c.requires.stands.0 c.requires.stands.1) c.hear.new.self.holder c.hear.new.self.number c.as_slice.result.now told.0 told.1 c.in-Err.end told.4 is)
+    λ is. absurd (never_reads g.H.PodHolder.stands g.H.PodHolder.faults g.H.PodHolder.follows g.met.H.PodHolder.legal g.met.H.PodHolder.still g.met.H.PodHolder.joins (g.C.Clock.may_give c.args.clock.now) (asking_of c.args.options.now.agents) c.args.options.now.trail _ _ _ _ _ _ _ _ _ _ _ _ (c.reads.invariant.0 c.requires.stands.0 c.requires.stands.1) c.answer_events.new.self.holder c.answer_events.new.self.number c.as_slice.result.now told.0 told.1 c.in-Err.end told.4 is)
 
 pub returns-in-Err-clause-write_fault : goal.returns-in-Err-clause-write_fault
 returns-in-Err-clause-write_fault g c =
-    λ is. rose_in_one (g.K.Sink.faults c.args.output.now) (g.K.Sink.faults c.reads.output) (g.K.Sink.faults c.hear.new.output) (g.E.Sink.faults c.args.errors.now) (g.E.Sink.faults c.reads.errors) (g.E.Sink.faults c.hear.new.errors)
+    λ is. rose_in_one (g.K.Sink.faults c.args.output.now) (g.K.Sink.faults c.reads.output) (g.K.Sink.faults c.answer_events.new.output) (g.E.Sink.faults c.args.errors.now) (g.E.Sink.faults c.reads.errors) (g.E.Sink.faults c.answer_events.new.errors)
     c.reads.invariant.2 c.reads.invariant.6 (c.in-Err.ensures.faults.failed (ap Err is))
 
 pub reads-preserved : goal.reads-preserved
 reads-preserved g c =
     let read = c.in-Ok.ensures in
     let piece = take c.in-Ok.count c.read.new.into in
-    let told = c.in-Ok-hear.ensures.turns in (
+    let told = c.in-Ok-answer_events.ensures.turns in (
       λ history held.
           let s = c.reads.invariant.0 history held in
           let reads = reads_more s.text c.reads.piece c.read.new.into c.in-Ok.count (g.S.Source.rest c.args.input.now) (g.S.Source.rest c.reads.input) (g.S.Source.rest c.read.new.self) s.reads read.bytes read.rest.taken in
           goes_on g.H.PodHolder.stands g.H.PodHolder.faults g.H.PodHolder.follows g.met.H.PodHolder.legal g.met.H.PodHolder.still g.met.H.PodHolder.joins (g.C.Clock.may_give c.args.clock.now) (asking_of c.args.options.now.agents) c.args.options.now.trail _ _ _ _ _ _ _ _ _ _ _ _ s piece (g.S.Source.rest c.read.new.self) reads c.feed.new.self c.in-Ok-feed.heard.items _ (c.in-Ok-feed.ensures.messages s.text s.heard s.represents)
-          (c.in-Ok-feed.ensures.represents s.text s.heard s.represents) c.hear.new.self.holder c.hear.new.self.number told.0 told.1 (g.K.Sink.taken c.hear.new.output) (g.E.Sink.taken c.hear.new.errors) told.2 told.3
-          (subst (λ hears. TurnsIn g.H.PodHolder.stands g.H.PodHolder.faults g.H.PodHolder.follows (g.C.Clock.may_give c.args.clock.now) (asking_of c.args.options.now.agents) c.args.options.now.trail c.reads.talk.holder c.reads.talk.number c.hear.new.self.holder c.hear.new.self.number hears told.0 told.1 (Ok tt)) c.as_slice.ensures told.4)
+          (c.in-Ok-feed.ensures.represents s.text s.heard s.represents) c.answer_events.new.self.holder c.answer_events.new.self.number told.0 told.1 (g.K.Sink.taken c.answer_events.new.output) (g.E.Sink.taken c.answer_events.new.errors) told.2 told.3
+          (subst (λ hears. TurnsIn g.H.PodHolder.stands g.H.PodHolder.faults g.H.PodHolder.follows (g.C.Clock.may_give c.args.clock.now) (asking_of c.args.options.now.agents) c.args.options.now.trail c.reads.talk.holder c.reads.talk.number c.answer_events.new.self.holder c.answer_events.new.self.number hears told.0 told.1 (Ok tt)) c.as_slice.ensures told.4)
           (some_read c.read.new.into c.in-Ok.count (search rules) c.if-count-eq0.false),
       omega (arith, c.reads.invariant.1, read.faults.no_fewer),
-      omega (arith, c.reads.invariant.2, c.in-Ok-hear.ensures.faults.no_fewer),
+      omega (arith, c.reads.invariant.2, c.in-Ok-answer_events.ensures.faults.no_fewer),
       omega (arith, c.reads.invariant.3, read.reads.no_fewer),
       one_more (g.S.Source.reads c.args.input.now) (g.S.Source.reads c.reads.input) (g.S.Source.reads c.read.new.self) c.reads.counter c.reads.invariant.4 read.reads.read,
       met_no_end (g.S.Source.ends c.reads.input) (g.S.Source.ends c.read.new.self) c.in-Ok.count c.if-count-eq0.false read.ends.read ∙ c.reads.invariant.5,
-      omega (arith, c.reads.invariant.6, c.in-Ok-hear.ensures.faults.no_fewer_errors),
-      c.in-Ok-hear.ensures.sound,
-      c.in-Ok-hear.ensures.stands,
+      omega (arith, c.reads.invariant.6, c.in-Ok-answer_events.ensures.faults.no_fewer_errors),
+      c.in-Ok-answer_events.ensures.sound,
+      c.in-Ok-answer_events.ensures.stands,
     )
 
 -- each read gave a byte
@@ -151,7 +151,7 @@ returns-in-Err-clause-counts g c =
     let told = c.in-Err.ensures.turns in
     let t = told.4 in
     let first = c.args.talk.now.holder in
-    counts_heard g.H.PodHolder.stands g.H.PodHolder.faults g.H.PodHolder.follows (g.C.Clock.may_give c.args.clock.now) (asking_of c.args.options.now.agents) c.args.options.now.trail begun (Leaves g.H.PodHolder.stands g.H.PodHolder.faults g.H.PodHolder.follows begun first c.hear.new.self.holder)
+    counts_heard g.H.PodHolder.stands g.H.PodHolder.faults g.H.PodHolder.follows (g.C.Clock.may_give c.args.clock.now) (asking_of c.args.options.now.agents) c.args.options.now.trail begun (Leaves g.H.PodHolder.stands g.H.PodHolder.faults g.H.PodHolder.follows begun first c.answer_events.new.self.holder)
     c.in-Err.end (s.heard ++ t.front) (s.written ++ told.0) (s.trail ++ told.1)
     (g.S.Source.reads c.args.input.now) (g.S.Source.reads c.read.new.self) (g.S.Source.ends c.args.input.now) (g.S.Source.ends c.read.new.self)
     (t.turns begun first s.heard s.written s.trail s.talks) (omega (arith, c.reads.invariant.3, read.reads.no_fewer))

@@ -2,7 +2,7 @@ use Rattle.std.proofs.Common.{List, ℕ, Ok, ap, sym, ◌∙◌}
 use Rattle.request_target.specs.Admission.{admitted}
 use Rattle.token_table.specs.Credentials.{asked_view}
 use Rattle.pod_reply.proofs.DispatchLemmas.{admitted_allowed}
-use Rattle.pod_reply.proofs.dispatch.told.Goals as goal
+use Rattle.pod_reply.proofs.dispatch.reply_admitted.Goals as goal
 
 pub reply_at-requires : goal.reply_at-requires
 reply_at-requires g c =

@@ -6,7 +6,7 @@ use Rattle.pod_core.specs.History.{History}
 use Rattle.pod_pipe.specs.Agents.{asking_of}
 use Rattle.pod_pipe.specs.Talks.{MayBeSent, IsSound, Turns}
 use Rattle.line_sink.specs.Writing.{ExtendsBy}
-use Rattle.pod_pipe.proofs.talk.Talk.hear.Given as goal
+use Rattle.pod_pipe.proofs.talk.Talk.answer_events.Given as goal
 
 -- what was looked at was answered, and the rest is still to come
 abbrev pub invariant-loop-one : goal.invariant-loop-one

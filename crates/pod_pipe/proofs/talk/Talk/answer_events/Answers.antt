@@ -6,7 +6,7 @@ use Rattle.pod_pipe.specs.Talks.{MayBeSent}
 use Rattle.line_sink.proofs.Extending.{extends_more, nothing_added}
 use Rattle.pod_pipe.proofs.TalksLemmas.{nothing_turned, turns_behind, none_behind}
 use Rattle.pod_pipe.proofs.HeardLemmas.{ends_next, none_left}
-use Rattle.pod_pipe.proofs.talk.Talk.hear.Goals as goal
+use Rattle.pod_pipe.proofs.talk.Talk.answer_events.Goals as goal
 
 pub loop-one-init : goal.loop-one-init
 loop-one-init g c = (
