@@ -1,0 +1,10 @@
+mod Chars
+mod Pieces
+mod Terms
+mod Graphs
+mod Meanings
+mod Trees
+mod Productions
+mod Spelled
+mod Cuts
+mod Limits
