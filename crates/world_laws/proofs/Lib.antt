@@ -2,3 +2,5 @@
 mod WorldLists
 mod WorldSessions
 mod WorldLaw
+mod NextEntries
+mod CrashImages

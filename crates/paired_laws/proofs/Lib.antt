@@ -1,0 +1,6 @@
+-- internal
+mod EditPairs
+mod SamePlaces
+mod EntryEdits
+mod PairedEdits
+mod PairedTurns
