@@ -6,7 +6,7 @@ ghost use Rattle.journal_pair.specs.PairMoments.{EachPair};
 ghost use Rattle.pod_base.specs.Counts.{CountIncreased};
 ghost use Rattle.pod_io.specs.Visible.{IfVisible};
 ghost use Rattle.pod_live.specs.CrashedPods.{StandsFor};
-ghost use Rattle.pod_live.specs.NewStores.{new_history};
+ghost use Rattle.pod_live.specs.NewStores.{new_history, IsNewStore};
 ghost use Rattle.first_rows.specs.FirstPods.{first_pod};
 ghost use Rattle.pod_records.specs.Records.{IsSnapshotText};
 ghost use Rattle.pod_rows.specs.Base.{is_base};
@@ -45,8 +45,9 @@ fn first_record(alloc: Global, base: &Iri, owner: &Text, moment: Moment) -> Mem<
 
 impl<D: Disk> Keeper<D> {
     /// Begins a store on two empty disks, with the two first rows of a pod of that base and that
-    /// owner, who is an absolute IRI. The rows have that moment. A crash inside this call may leave
-    /// anything.
+    /// owner, who is an absolute IRI. The rows have that moment. The first disk has a journal of
+    /// format 2 and epoch 1 with these rows alone, and the second a closed head of epoch 0. A crash
+    /// inside this call may leave anything.
     ///
     /// # Errors
     ///
@@ -65,6 +66,9 @@ impl<D: Disk> Keeper<D> {
         ensures stands { OnOk result
             (EachPair (D.image disks.new.first) (D.image disks.new.second)
             (StandsFor (new_history base owner moment))) }
+        ensures begun { OnOk result
+            (EachPair (D.image disks.new.first) (D.image disks.new.second)
+            (IsNewStore base owner moment)) }
         ensures memory { IsErrOf result CommitFault.NoMemory → (disks.new.first ≡ disks.old.first)
             × (disks.new.second ≡ disks.old.second) }
         ensures no_fewer_first { D.faults disks.old.first ≤ D.faults disks.new.first }

@@ -1,12 +1,12 @@
 -- A read behind another.
-use Rattle.std.proofs.Common.{◌≡◌, ℕ, ◌+◌, ◌-◌, ◌^◌, ◌==◌, true, false, if◌then◌else◌, ◌≤◌, ◌<◌, List, [], ◌++◌, length, take, drop, Option, Some, None, refl, sym, ap, subst, append_assoc, ◌∙◌, arith}
+use Rattle.std.proofs.Common.{◌≡◌, ℕ, ◌+◌, ◌-◌, ◌^◌, ◌==◌, true, false, if◌then◌else◌, min, ◌≤◌, ◌<◌, List, [], ◌++◌, length, take, drop, Option, Some, None, refl, sym, ap, subst, append_assoc, ◌∙◌, arith}
 use Rattle.std.specs.Option.{option_map}
 use Rattle.std.proofs.Math.Seq.{take-append_seam, length-take-le}
 use Rattle.std.proofs.lemmas.List.{append-nil, take-append-drop}
 use Rattle.std.proofs.lemmas.Bool.Decides.{nat_tests}
 use Rattle.pod_io.specs.Counts.{next_count}
 use Rattle.pod_io.specs.Visible.{IfVisible, IsRead}
-use Rattle.pod_pipe.specs.Streams.{Reads, AtEnd}
+use Rattle.pod_pipe.specs.Streams.{Reads, AtEnd, AddsReads, AddsAllReads}
 
 -- the front of the slice has that many bytes of the rest
 front_is : (rest old piece : List ℕ) (count : ℕ) → IsRead rest count old piece → take count piece ≡ take count rest
@@ -51,8 +51,37 @@ met_no_end old new count some is =
       | false ↦ λ e. refl
     ] refl)
 
+-- So many reads were counted, within their limit, by a count that holds at most 2^64 - 1.
+pub record AreCounted (first pieces now : ℕ) : Type 0 where
+  pub within : pieces ≤ 2 ^ 40
+  pub no_fewer : first ≤ now
+  pub bound : now ≤ first + pieces
+  pub all : min (first + pieces) (2 ^ 64 - 1) ≤ now
+  pub held : 0 < pieces → now ≤ 2 ^ 64 - 1
+
+pub none_counted : (first : ℕ) → AreCounted first 0 first
+none_counted first = record { within = omega arith; no_fewer = omega arith; bound = omega arith; all = omega arith; held = λ some. omega (arith, some) }
+
 -- one read more
-pub one_more : (first old new pieces : ℕ) → (old < 2 ^ 64 - 1 → first + pieces ≤ old) → new ≡ next_count old → new < 2 ^ 64 - 1 → first + (pieces + 1) ≤ new
-one_more first old new pieces so_far is below =
-    let before : old < 2 ^ 64 - 1 = omega (arith, is, below) in
-    omega (arith, is, below, so_far before)
+pub one_more : (first old new pieces : ℕ) → AreCounted first pieces old → pieces < 2 ^ 40 → old ≤ new → new ≡ next_count old → AreCounted first (pieces + 1) new
+one_more first old new pieces so_far below le is = record {
+  within = omega (arith, below);
+  no_fewer = omega (arith, so_far.no_fewer, le);
+  bound = omega (arith, so_far.bound, is);
+  all = omega (arith, so_far.all, is);
+  held = λ some. omega (arith, is);
+}
+
+pub few_counted : (first now pieces : ℕ) → AreCounted first pieces now → AddsReads first now
+few_counted first now pieces counted = record { no_fewer = counted.no_fewer; bound = omega (arith, counted.bound, counted.within) }
+
+pub all_counted : (first now pieces : ℕ) → AreCounted first pieces now → 2 ^ 40 ≤ pieces → AddsAllReads first now
+all_counted first now pieces counted all = omega (arith, counted.within, counted.bound, counted.all, counted.held (omega (arith, all)), all)
+
+-- no read
+pub no_reads : (now : ℕ) → AddsReads now now
+no_reads now = record { no_fewer = omega arith; bound = omega arith }
+
+-- a read that failed isn't counted
+pub fails_counted : (first old new pieces : ℕ) → AreCounted first pieces old → new ≡ old → AddsReads first new
+fails_counted first old new pieces counted same = subst (AddsReads first) (sym same) (few_counted first old pieces counted)

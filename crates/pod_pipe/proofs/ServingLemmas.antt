@@ -17,7 +17,7 @@ use Rattle.pod_core.specs.Session.{Item, requests_of}
 use Rattle.pod_io.specs.Counts.{next_count}
 use Rattle.token_table.specs.Credentials.{AskedAgent}
 use Rattle.pod_pipe.specs.Holders.{Faults}
-use Rattle.pod_pipe.specs.Streams.{Reads, AtEnd, MeetsEnd, CountsInput}
+use Rattle.pod_pipe.specs.Streams.{Reads, AtEnd, AddsReads, MeetsEnd, CountsInput}
 use Rattle.pod_pipe.specs.Served.{IsServed, IsStopped, Leaves}
 use Rattle.line_sink.specs.Writing.{AddsOrPart, AddsPart, ExtendsBy}
 use Rattle.line_sink.proofs.Extending.{extends_more, nothing_added}
@@ -285,7 +285,7 @@ module _ {H : Type 0} (stands : H → History → Type 0) (faults : H → Faults
 
 -- a piece that was heard ended the connection: neither the end of the input nor the limit on reads did
 pub counts_heard : {H : Type 0} (stands : H → History → Type 0) (faults : H → Faults) (follows : H → History → H → History → Type 0) (may_give : ℕ → Type 0) (asking : Request → AskedAgent) (trails : Bool) (begun : History) (leaves : List Item → Type 0) (end : PipeEnd) (events : List Heard) (written trail : List ℕ) (old_reads new_reads old_ends new_ends : ℕ)
-    → Ends stands faults follows may_give asking trails begun leaves end events written trail → old_reads ≤ new_reads → new_ends ≡ old_ends → CountsInput end old_reads new_reads old_ends new_ends
+    → Ends stands faults follows may_give asking trails begun leaves end events written trail → AddsReads old_reads new_reads → new_ends ≡ old_ends → CountsInput end old_reads new_reads old_ends new_ends
 counts_heard stands faults follows may_give asking trails begun leaves Closed events written trail old_reads new_reads old_ends new_ends e le same = record { reads = le; limit = λ is. absurd cc; ends = same }
 counts_heard stands faults follows may_give asking trails begun leaves Limit events written trail old_reads new_reads old_ends new_ends e le same = record { reads = le; limit = λ is. absurd cc; ends = same }
 counts_heard stands faults follows may_give asking trails begun leaves Upgraded events written trail old_reads new_reads old_ends new_ends e le same = record { reads = le; limit = λ is. absurd cc; ends = same }
@@ -298,7 +298,7 @@ counts_heard stands faults follows may_give asking trails begun leaves ReadFault
 counts_heard stands faults follows may_give asking trails begun leaves ReadLimit events written trail old_reads new_reads old_ends new_ends e le same = absurd e
 
 -- the end of the input
-pub counts_end : (rest : ℕ) (end : PipeEnd) (old_reads new_reads old_ends new_ends : ℕ) → end ≡ (if rest == 0 then Peer else Cut rest) → old_reads ≤ new_reads
+pub counts_end : (rest : ℕ) (end : PipeEnd) (old_reads new_reads old_ends new_ends : ℕ) → end ≡ (if rest == 0 then Peer else Cut rest) → AddsReads old_reads new_reads
     → new_ends ≡ next_count old_ends → CountsInput end old_reads new_reads old_ends new_ends
 counts_end rest end old_reads new_reads old_ends new_ends is le met =
     subst (λ e. CountsInput e old_reads new_reads old_ends new_ends) (sym is)

@@ -1,5 +1,5 @@
 -- What a run reads of its input.
-use Rattle.std.specs.Prelude.{◌≡◌, ◌⊎◌, ℕ, ◌+◌, ◌-◌, ◌^◌, ◌<◌, ◌≤◌, List, [], ◌++◌, Option}
+use Rattle.std.specs.Prelude.{◌≡◌, ◌⊎◌, ℕ, ◌+◌, ◌-◌, ◌^◌, ◌≤◌, min, List, [], ◌++◌, Option}
 use Rattle.std.specs.Option.{option_map}
 use Rattle.pod_io.specs.Counts.{next_count}
 use Rattle.pod_io.specs.Visible.{IfVisible}
@@ -24,9 +24,18 @@ MeetsEnd WriteFault old new = (new ≡ old) ⊎ (new ≡ next_count old)
 MeetsEnd NoMemory old new = (new ≡ old) ⊎ (new ≡ next_count old)
 MeetsEnd _ old new = new ≡ old
 
--- The counts of an input: the count of reads never decreases, and there were 2^40 reads where a run
--- ended by their limit. A count stops at 2^64 - 1.
+-- the reads that were counted are at most 2^40
+pub record AddsReads (old new : ℕ) : Type 0 where
+  pub no_fewer : old ≤ new
+  pub bound : new ≤ old + 2 ^ 40
+
+-- they are exactly 2^40, by a count that stops at 2^64 - 1
+abbrev pub AddsAllReads : ℕ → ℕ → Type 0
+AddsAllReads old new = new ≡ min (old + 2 ^ 40) (2 ^ 64 - 1)
+
+-- The counts of an input: the count of reads never decreases, and there were at most 2^40 reads,
+-- exactly so many where a run ended by their limit. A count stops at 2^64 - 1.
 pub record CountsInput (end : PipeEnd) (old_reads new_reads old_ends new_ends : ℕ) : Type 0 where
-  pub reads : old_reads ≤ new_reads
-  pub limit : end ≡ ReadLimit → new_reads < 2 ^ 64 - 1 → old_reads + 2 ^ 40 ≤ new_reads
+  pub reads : AddsReads old_reads new_reads
+  pub limit : end ≡ ReadLimit → AddsAllReads old_reads new_reads
   pub ends : MeetsEnd end old_ends new_ends

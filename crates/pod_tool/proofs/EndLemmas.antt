@@ -6,7 +6,8 @@ use Rattle.podctl_words.specs.declared.command.Command.TheVariants.{Init, Pipe, 
 use Rattle.store_commands.specs.Ends.{IsInitEnd, status_of}
 use Rattle.store_commands.specs.declared.ends.StoreEnd.{StoreEnd}
 use Rattle.store_commands.specs.declared.ends.StoreEnd.TheVariants.{Done, WriteFault, Damaged, DiskFault, NoMemory, NotEmpty, Empty}
-use Rattle.store_pipe.specs.StoreRuns.{Streams, TokenSource}
+use Rattle.store_pipe.specs.StoreRuns.{Streams}
+use Rattle.store_pipe.specs.Tables.{TokenSource}
 use Rattle.pod_tool.specs.Runs.{Runs}
 use Rattle.pod_tool.specs.Stores.{IsIdle, IsUnbegun}
 

@@ -16,6 +16,7 @@ use Rattle.pod_pipe.specs.declared.memory.MemoryPod.{MemoryPod}
 use Rattle.pod_pipe.specs.declared.options.PipeOptions.{PipeOptions}
 use Rattle.pod_pipe.specs.declared.status.PipeEnd.{PipeEnd}
 use Rattle.pod_pipe.specs.declared.status.PipeEnd.TheVariants.{Peer, Cut, Closed, Limit, Upgraded, Bad, ReadFault, WriteFault, NoMemory, ReadLimit}
+use Rattle.pod_pipe.proofs.ReadsLemmas.{no_reads}
 use Rattle.pod_pipe.proofs.Weaker.{pipes_weaker, session_weaker, unserved, unserved_session}
 use Rattle.pod_rows.specs.Pod.{Pod}
 use Rattle.pod_tool.specs.Fresh.{MeetsNoDisk, RunsFresh, asking_owner, fresh_base, fresh_history}
@@ -65,7 +66,7 @@ unserved_run may_give owner trail made given input output errors faults reads en
   clock = given;
   pipes = unserved may_give (asking_owner owner) trail (fresh_history owner made) (fresh_is_history owner made) MeetsNoDisk refl input output errors faults;
   session = unserved_session may_give (asking_owner owner) trail (fresh_history owner made) (fresh_is_history owner made) MeetsNoDisk refl input output errors;
-  counts = record { reads = omega arith; limit = λ e. absurd cc; ends = inl refl };
+  counts = record { reads = no_reads reads; limit = λ e. absurd cc; ends = inl refl };
 }
 
 -- the one end of status 4

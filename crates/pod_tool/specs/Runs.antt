@@ -7,7 +7,8 @@ use Rattle.pod_tool.specs.Fresh.{RunsFresh}
 use Rattle.pod_tool.specs.Loads.{RunsLoad}
 use Rattle.pod_tool.specs.Stores.{IsIdle, RunsInit, RunsPrinting, RunsStored}
 use Rattle.store_commands.specs.Texts.{audit_text, check_text}
-use Rattle.store_pipe.specs.StoreRuns.{Streams, TokenSource}
+use Rattle.store_pipe.specs.StoreRuns.{Streams}
+use Rattle.store_pipe.specs.Tables.{TokenSource}
 
 -- what a run did to its input, its output and its error sink
 abbrev pub streams_of : {S K E : Type 0} → (S → Option (List ℕ)) → (S → ℕ) → (S → ℕ)
@@ -28,18 +29,6 @@ streams_of rest reads ends taken told faults input input_new output output_new e
       new_ends = ends input_new;
     }
 
--- what it did to the source of the token table
-abbrev pub tokens_of : {T : Type 0} → (T → Option (List ℕ)) → (T → ℕ) → (T → ℕ) → T → T
-    → TokenSource
-tokens_of rest faults reads tokens tokens_new = record {
-  old = rest tokens;
-  new = rest tokens_new;
-  old_faults = faults tokens;
-  new_faults = faults tokens_new;
-  old_reads = reads tokens;
-  new_reads = reads tokens_new;
-}
-
 -- a command that needs no store, or invalid arguments
 abbrev pub NeedsNoStore : Option Command → Type 0
 NeedsNoStore (Some (Pipe (Fresh owner) trail)) = Unit {0}
@@ -51,6 +40,11 @@ NeedsNoStore _ = ⊥
 abbrev pub NeedsNoInput : Option Command → Type 0
 NeedsNoInput (Some (Pipe asking trail)) = ⊥
 NeedsNoInput _ = Unit {0}
+
+-- a command other than `pipe` with agents by the token table, or invalid arguments
+abbrev pub NeedsNoTokens : Option Command → Type 0
+NeedsNoTokens (Some (Pipe ByTokens trail)) = ⊥
+NeedsNoTokens _ = Unit {0}
 
 -- a command that prints nothing, or invalid arguments
 abbrev pub NeedsNoOutput : Option Command → Type 0

@@ -6,14 +6,15 @@ use Rattle.pod_command.specs.declared.snapshot.Snapshot.{Snapshot}
 use Rattle.pod_core.specs.Session.{IsClockMoment}
 use Rattle.pod_io.specs.Visible.{IfVisible}
 use Rattle.pod_live.specs.CrashedPods.{StandsFor}
-use Rattle.pod_live.specs.NewStores.{new_history}
+use Rattle.pod_live.specs.NewStores.{new_history, IsNewStore}
 use Rattle.pod_live.specs.OpenedPods.{OpensDisks}
 use Rattle.store_commands.specs.Ends.{IsInitEnd, status_of}
 use Rattle.store_commands.specs.Making.{HoldsBytes}
 use Rattle.store_commands.specs.Prints.{Prints, Tells}
 use Rattle.store_commands.specs.declared.ends.StoreEnd.{StoreEnd}
 use Rattle.store_commands.specs.declared.ends.StoreEnd.TheVariants.{Done, NoMemory, NotEmpty}
-use Rattle.store_pipe.specs.StoreRuns.{IsUnserved, RunsStore, Streams, TokenSource}
+use Rattle.store_pipe.specs.StoreRuns.{IsUnserved, RunsStore, Streams}
+use Rattle.store_pipe.specs.Tables.{TokenSource}
 
 -- a disk that shows its content isn't empty
 abbrev pub HoldsSome : Option (List ℕ) → Type 0
@@ -51,6 +52,8 @@ module _ {D : Type 0} (content : D → Option (List ℕ)) (image : D → List �
       pub made : end ≡ Done → (made : ℕ) × IsClockMoment may_give made
           × EachPair (image first_new) (image second_new)
           (StandsFor (new_history base owner (record { 0 = made })))
+          × EachPair (image first_new) (image second_new)
+          (IsNewStore base owner (record { 0 = made }))
       pub empty : (end ≡ Done) ⊎ (end ≡ NoMemory)
           → HoldsNothing (content first) × HoldsNothing (content second)
       pub not_empty : end ≡ NotEmpty → HoldsSome (content first) ⊎ HoldsSome (content second)

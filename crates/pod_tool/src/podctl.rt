@@ -4,9 +4,10 @@ ghost use Rattle.std.specs.Prelude.{true, false};
 ghost use Rattle.std.specs.String.{string_bytes};
 ghost use Rattle.pod_base.specs.Counts.{CountIncreased};
 ghost use Rattle.pod_tool.specs.Fresh.{RunsFresh};
-ghost use Rattle.pod_tool.specs.Runs.{NeedsNoInput, NeedsNoOutput, NeedsNoStore, Runs};
-ghost use Rattle.pod_tool.specs.Runs.{streams_of, tokens_of};
+ghost use Rattle.pod_tool.specs.Runs.{NeedsNoInput, NeedsNoOutput, NeedsNoStore, NeedsNoTokens};
+ghost use Rattle.pod_tool.specs.Runs.{Runs, streams_of};
 ghost use Rattle.podctl_words.specs.Readings.{IsSound, reading};
+ghost use Rattle.store_pipe.specs.Tables.{tokens_of};
 
 use crate::fresh::pipe_fresh;
 use crate::loading::load;
@@ -38,10 +39,12 @@ fn pipe_asked<S: Source, K: Sink, E: Sink, D: Disk, T: Source, C: Clock>(
     ensures runs { IfSome place.old.disks (λ old. IfSome place.new.disks (λ new.
         Runs D.content D.image D.moment D.left_since D.faults old.first old.second new.first
         new.second (C.may_give clock.now) (Command.Pipe asking trail)
-        (tokens_of T.rest T.faults T.reads place.old.tokens place.new.tokens)
+        (tokens_of T.rest T.faults T.reads T.ends place.old.tokens place.new.tokens)
         (streams_of S.rest S.reads S.ends K.taken E.taken E.faults input.old input.new
         output.old output.new errors.old errors.new) result.0)) }
     ensures in_memory { NeedsNoStore (Some (Command.Pipe asking trail)) → place.new ≡ place.old }
+    ensures no_tokens { NeedsNoTokens (Some (Command.Pipe asking trail))
+        → place.new.tokens ≡ place.old.tokens }
     ensures read_fault { result.0 ≡ 3
         → CountIncreased (S.faults input.old) (S.faults input.new)
         ⊎ CountIncreased (T.faults place.old.tokens) (T.faults place.new.tokens) }
@@ -80,14 +83,14 @@ fn run<S: Source, K: Sink, E: Sink, D: Disk, T: Source, C: Clock>(
     ensures runs { IfSome place.old.disks (λ old. IfSome place.new.disks (λ new.
         Runs D.content D.image D.moment D.left_since D.faults old.first old.second new.first
         new.second (C.may_give clock.now) command
-        (tokens_of T.rest T.faults T.reads place.old.tokens place.new.tokens)
+        (tokens_of T.rest T.faults T.reads T.ends place.old.tokens place.new.tokens)
         (streams_of S.rest S.reads S.ends K.taken E.taken E.faults input.old input.new
         output.old output.new errors.old errors.new) result.0)) }
     ensures in_memory { NeedsNoStore (Some command) → place.new ≡ place.old }
     ensures no_input { NeedsNoInput (Some command) → input.new ≡ input.old }
     ensures no_output { NeedsNoOutput (Some command)
         → (output.new ≡ output.old) × (errors.new ≡ errors.old) }
-    ensures no_tokens { NeedsNoInput (Some command) → place.new.tokens ≡ place.old.tokens }
+    ensures no_tokens { NeedsNoTokens (Some command) → place.new.tokens ≡ place.old.tokens }
     ensures read_fault { result.0 ≡ 3
         → CountIncreased (S.faults input.old) (S.faults input.new)
         ⊎ CountIncreased (T.faults place.old.tokens) (T.faults place.new.tokens) }
@@ -147,7 +150,7 @@ pub fn run_podctl<S: Source, K: Sink, E: Sink, D: Disk, T: Source, C: Clock>(
         IfSome place.old.disks (λ old. IfSome place.new.disks (λ new.
         Runs D.content D.image D.moment D.left_since D.faults old.first old.second new.first
         new.second (C.may_give clock.old) command
-        (tokens_of T.rest T.faults T.reads place.old.tokens place.new.tokens)
+        (tokens_of T.rest T.faults T.reads T.ends place.old.tokens place.new.tokens)
         (streams_of S.rest S.reads S.ends K.taken E.taken E.faults input.old input.new
         output.old output.new errors.old errors.new) result.0))) }
 
@@ -159,7 +162,7 @@ pub fn run_podctl<S: Source, K: Sink, E: Sink, D: Disk, T: Source, C: Clock>(
         → input.new ≡ input.old }
     ensures no_output { NeedsNoOutput (reading (map string_bytes words.now))
         → (output.new ≡ output.old) × (errors.new ≡ errors.old) }
-    ensures no_tokens { NeedsNoInput (reading (map string_bytes words.now))
+    ensures no_tokens { NeedsNoTokens (reading (map string_bytes words.now))
         → place.new.tokens ≡ place.old.tokens }
 
     // A fault is returned only where a count increased.

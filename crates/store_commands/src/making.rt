@@ -8,7 +8,7 @@ ghost use Rattle.pod_disk.specs.Disk.{Passes, Unchanged};
 ghost use Rattle.pod_io.specs.Counts.{CountsFaults};
 ghost use Rattle.pod_io.specs.Visible.{IfVisible};
 ghost use Rattle.pod_live.specs.CrashedPods.{StandsFor};
-ghost use Rattle.pod_live.specs.NewStores.{new_history};
+ghost use Rattle.pod_live.specs.NewStores.{new_history, IsNewStore};
 ghost use Rattle.pod_rows.specs.Base.{is_base};
 ghost use Rattle.store_commands.specs.Ends.{IsInitEnd, IsMadeEnd};
 ghost use Rattle.store_commands.specs.Making.{HoldsBytes};
@@ -78,6 +78,9 @@ fn make<D: Disk>(
     ensures stands { result ≡ StoreEnd.Done
         → EachPair (D.image disks.new.first) (D.image disks.new.second)
         (StandsFor (new_history base owner moment)) }
+    ensures begun { result ≡ StoreEnd.Done
+        → EachPair (D.image disks.new.first) (D.image disks.new.second)
+        (IsNewStore base owner moment) }
     ensures memory_first { result ≡ StoreEnd.NoMemory → disks.new.first ≡ disks.old.first }
     ensures memory_second { result ≡ StoreEnd.NoMemory → disks.new.second ≡ disks.old.second }
     ensures disk_fault { result ≡ StoreEnd.DiskFault
@@ -112,6 +115,9 @@ pub fn init<D: Disk>(
     ensures stands { result ≡ StoreEnd.Done
         → EachPair (D.image disks.new.first) (D.image disks.new.second)
         (StandsFor (new_history base owner moment)) }
+    ensures begun { result ≡ StoreEnd.Done
+        → EachPair (D.image disks.new.first) (D.image disks.new.second)
+        (IsNewStore base owner moment) }
 
     // The other ends have their causes.
     ensures not_empty { result ≡ StoreEnd.NotEmpty

@@ -8,16 +8,16 @@ use Rattle.pod_core.specs.Session.{Item}
 use Rattle.pod_pipe.specs.Agents.{asking_of}
 use Rattle.pod_pipe.specs.Served.{Leaves, WritesSession}
 use Rattle.pod_pipe.specs.Statuses.{PipesAndTells, status_of}
-use Rattle.pod_pipe.specs.Streams.{CountsInput}
+use Rattle.pod_pipe.specs.Streams.{AddsReads, CountsInput}
 use Rattle.pod_pipe.specs.declared.agents.Agents.{Agents}
 use Rattle.pod_pipe.specs.declared.status.PipeEnd.{PipeEnd}
 use Rattle.pod_pipe.specs.declared.status.PipeEnd.TheVariants.{Peer, Cut, Closed, Limit, Upgraded, Bad, ReadFault, WriteFault, NoMemory, ReadLimit}
 use Rattle.pod_pipe.proofs.Weaker.{pipes_weaker, session_weaker}
 use Rattle.pod_records.specs.OpenedStores.{HasPodCause}
 use Rattle.store_lines.specs.Refusals.{open_status}
-use Rattle.store_pipe.specs.StoreRuns.{RunsKeeper, Streams, TokenSource}
+use Rattle.store_pipe.specs.StoreRuns.{RunsKeeper, Streams}
 use Rattle.store_pipe.specs.StoredPods.{LeavesKeeper, Passes, StandsFor, stored_faults}
-use Rattle.store_pipe.specs.Tables.{IsAsked}
+use Rattle.store_pipe.specs.Tables.{IsAsked, TokenSource}
 use Rattle.store_pipe.specs.declared.stored.StoredPod.{StoredPod}
 
 module _ {D : Type 0} (image : D → List ℕ → Type 0) (moment : D → ℕ) (left_since : D → ℕ → List ℕ → Type 0) (faults : D → ℕ) (old new : StoredPod D) (history : History) where
@@ -31,15 +31,16 @@ module _ {D : Type 0} (image : D → List ℕ → Type 0) (moment : D → ℕ) (
   keeper_left items left = record { gone = left.gone; counted = left.counted.disks }
 
 module _ {D : Type 0} (image : D → List ℕ → Type 0) (moment : D → ℕ) (left_since : D → ℕ → List ℕ → Type 0) (faults : D → ℕ) (may_give : ℕ → Type 0) (by_tokens trail : Bool) (old new : StoredPod D) (tokens : TokenSource) (streams : Streams) (status : ℕ) where
-  pub runs_piped : (agents : Agents) (end : PipeEnd) → IsAsked by_tokens old.keeper.pod.owner agents tokens.old tokens.new → status ≡ status_of end
+  pub runs_piped : (agents : Agents) (end : PipeEnd) → IsAsked by_tokens old.keeper.pod.owner agents tokens → AddsReads tokens.old_reads tokens.new_reads → status ≡ status_of end
       → ((history : History) → StandsFor image old.keeper history → PipesAndTells may_give (asking_of agents) trail history (LeavesHolder image moment left_since faults old new history) end
       streams.old_input streams.new_input streams.old_output streams.new_output streams.old_errors streams.new_errors streams.old_faults streams.new_faults)
       → ((history : History) → StandsFor image old.keeper history → WritesSession may_give (asking_of agents) trail history (LeavesHolder image moment left_since faults old new history)
       streams.old_input streams.new_input streams.old_output streams.new_output)
       → CountsInput end streams.old_reads streams.new_reads streams.old_ends streams.new_ends → RunsKeeper image moment left_since faults may_give by_tokens trail old.keeper new.keeper tokens streams status
-  runs_piped agents end asked is pipes session counts = inr (record {
+  runs_piped agents end asked reads is pipes session counts = inr (record {
     agents = agents;
     asked = asked;
+    table_reads = reads;
     end = end;
     status_is = is;
     pipes = λ history stands. pipes_weaker may_give (asking_of agents) trail history (LeavesHolder image moment left_since faults old new history) _ (keeper_left image moment left_since faults old new history) end

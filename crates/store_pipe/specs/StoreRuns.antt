@@ -9,13 +9,13 @@ use Rattle.pod_pipe.specs.Agents.{asking_of}
 use Rattle.pod_pipe.specs.Served.{WritesSession}
 use Rattle.line_sink.specs.Writing.{AddsOrPart}
 use Rattle.pod_pipe.specs.Statuses.{PipesAndTells, status_of}
-use Rattle.pod_pipe.specs.Streams.{CountsInput}
+use Rattle.pod_pipe.specs.Streams.{AddsReads, CountsInput}
 use Rattle.pod_pipe.specs.declared.agents.Agents.{Agents}
 use Rattle.pod_pipe.specs.declared.status.PipeEnd.{PipeEnd}
 use Rattle.pod_records.specs.OpenedStores.{HasPodCause}
 use Rattle.store_lines.specs.Refusals.{TellsRefusal, open_status}
 use Rattle.store_pipe.specs.StoredPods.{LeavesKeeper, StandsFor}
-use Rattle.store_pipe.specs.Tables.{HasTableCause, IsAsked, table_line, table_status}
+use Rattle.store_pipe.specs.Tables.{HasAgentsCause, IsAsked, TokenSource, table_line, table_status}
 use Rattle.store_pipe.specs.declared.tokens.TableFault.{TableFault}
 use Rattle.store_pipe.specs.declared.tokens.TableFault.TheVariants.{Line}
 
@@ -50,15 +50,6 @@ pub record IsUnserved (streams : Streams) : Type 0 where
   pub reads : streams.new_reads ≡ streams.old_reads
   pub output : streams.new_output ≡ streams.old_output
 
--- what the source of the token table was before a run and after it
-pub record TokenSource : Type 0 where
-  pub old : Option (List ℕ)
-  pub new : Option (List ℕ)
-  pub old_faults : ℕ
-  pub new_faults : ℕ
-  pub old_reads : ℕ
-  pub new_reads : ℕ
-
 module _ {D : Type 0} (image : D → List ℕ → Type 0) (moment : D → ℕ)
     (left_since : D → ℕ → List ℕ → Type 0) (faults : D → ℕ) (may_give : ℕ → Type 0)
     (by_tokens trail : Bool) where
@@ -68,8 +59,8 @@ module _ {D : Type 0} (image : D → List ℕ → Type 0) (moment : D → ℕ)
     pub kept : left ≡ keeper
     pub unserved : IsUnserved streams
     pub fault : TableFault
-    pub cause : HasTableCause fault tokens.old tokens.new tokens.old_faults tokens.new_faults
-        tokens.old_reads tokens.new_reads
+    pub cause : HasAgentsCause by_tokens fault tokens
+    pub table_reads : AddsReads tokens.old_reads tokens.new_reads
     pub tells : TellsLine (fault_line fault) (table_status fault) status streams.old_errors
         streams.new_errors streams.old_faults streams.new_faults
 
@@ -79,7 +70,8 @@ module _ {D : Type 0} (image : D → List ℕ → Type 0) (moment : D → ℕ)
   pub record IsPiped (keeper left : KeeperState D) (tokens : TokenSource) (streams : Streams)
       (status : ℕ) : Type 0 where
     pub agents : Agents
-    pub asked : IsAsked by_tokens keeper.pod.owner agents tokens.old tokens.new
+    pub asked : IsAsked by_tokens keeper.pod.owner agents tokens
+    pub table_reads : AddsReads tokens.old_reads tokens.new_reads
     pub end : PipeEnd
     pub status_is : status ≡ status_of end
     pub pipes : (history : History) → StandsFor image keeper history

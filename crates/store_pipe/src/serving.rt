@@ -1,10 +1,11 @@
 //! [`pipe_store`]: `pipe` over a store.
-ghost use Rattle.std.specs.Prelude.{◌≡◌, ◌≢◌, ◌≤◌, ◌⊎◌, Some, IfOk, IfErr, IfSome, IsSome};
+ghost use Rattle.std.specs.Prelude.{◌≡◌, ◌≢◌, ◌≤◌, ◌⊎◌, Some, false, IfOk, IfErr, IfSome, IsSome};
 ghost use Rattle.pod_base.specs.Counts.{CountIncreased};
 ghost use Rattle.pod_core.specs.History.{History};
+ghost use Rattle.pod_pipe.specs.Streams.{AddsReads};
 ghost use Rattle.store_pipe.specs.StoredPods.{StandsFor};
 ghost use Rattle.store_pipe.specs.StoreRuns.{RunsKeeper, RunsStore};
-ghost use Rattle.store_pipe.specs.Tables.{HasTableCause, IsAsked};
+ghost use Rattle.store_pipe.specs.Tables.{HasAgentsCause, IsAsked, tokens_of};
 
 use crate::lines::{refuse, tell_table};
 use crate::stored::StoredPod;
@@ -32,10 +33,11 @@ fn agents_of<D: Disk, T: Source>(
     tokens: &mut T,
 ) -> Result<Agents, TableFault>
     ensures asked { IfOk result (λ agents. IsAsked by_tokens keeper.now.pod.owner agents
-        (T.rest tokens.old) (T.rest tokens.new)) }
-    ensures fault { IfErr result (λ fault. HasTableCause fault (T.rest tokens.old)
-        (T.rest tokens.new) (T.faults tokens.old) (T.faults tokens.new) (T.reads tokens.old)
-        (T.reads tokens.new)) }
+        (tokens_of T.rest T.faults T.reads T.ends tokens.old tokens.new)) }
+    ensures fault { IfErr result (λ fault. HasAgentsCause by_tokens fault
+        (tokens_of T.rest T.faults T.reads T.ends tokens.old tokens.new)) }
+    ensures reads { AddsReads (T.reads tokens.old) (T.reads tokens.new) }
+    ensures no_tokens { by_tokens ≡ false → tokens.new ≡ tokens.old }
     ensures faults { T.faults tokens.old ≤ T.faults tokens.new }
 {
     if by_tokens {
@@ -65,14 +67,8 @@ fn pipe_keeper<D: Disk, T: Source, S: Source, K: Sink, E: Sink, C: Clock>(
 ) -> (Status, Keeper<D>)
     requires { (history : History) × StandsFor D.image keeper history }
     ensures runs { RunsKeeper D.image D.moment D.left_since D.faults (C.may_give clock.now)
-        by_tokens trail keeper result.1 (record {
-          old = T.rest tokens.old;
-          new = T.rest tokens.new;
-          old_faults = T.faults tokens.old;
-          new_faults = T.faults tokens.new;
-          old_reads = T.reads tokens.old;
-          new_reads = T.reads tokens.new;
-        }) (record {
+        by_tokens trail keeper result.1
+        (tokens_of T.rest T.faults T.reads T.ends tokens.old tokens.new) (record {
           old_input = S.rest input.old;
           new_input = S.rest input.new;
           old_output = K.taken output.old;
@@ -88,6 +84,7 @@ fn pipe_keeper<D: Disk, T: Source, S: Source, K: Sink, E: Sink, C: Clock>(
         }) result.0.0 }
     ensures not_words { result.0.0 ≢ 2 }
     ensures no_refusal { result.0.0 ≢ 6 }
+    ensures no_tokens { by_tokens ≡ false → tokens.new ≡ tokens.old }
     ensures read_fault { result.0.0 ≡ 3
         → CountIncreased (S.faults input.old) (S.faults input.new)
         ⊎ CountIncreased (T.faults tokens.old) (T.faults tokens.new) }
@@ -124,14 +121,8 @@ fn run_store<D: Disk, T: Source, S: Source, K: Sink, E: Sink, C: Clock>(
 ) -> (Status, Disks<D>)
     ensures not_words { result.0.0 ≢ 2 }
     ensures runs { RunsStore D.image D.moment D.left_since D.faults (C.may_give clock.now) by_tokens
-        trail D.content disks.first disks.second result.1.first result.1.second (record {
-          old = T.rest tokens.old;
-          new = T.rest tokens.new;
-          old_faults = T.faults tokens.old;
-          new_faults = T.faults tokens.new;
-          old_reads = T.reads tokens.old;
-          new_reads = T.reads tokens.new;
-        }) (record {
+        trail D.content disks.first disks.second result.1.first result.1.second
+        (tokens_of T.rest T.faults T.reads T.ends tokens.old tokens.new) (record {
           old_input = S.rest input.old;
           new_input = S.rest input.new;
           old_output = K.taken output.old;
@@ -145,6 +136,7 @@ fn run_store<D: Disk, T: Source, S: Source, K: Sink, E: Sink, C: Clock>(
           old_ends = S.ends input.old;
           new_ends = S.ends input.new;
         }) result.0.0 }
+    ensures no_tokens { by_tokens ≡ false → tokens.new ≡ tokens.old }
     ensures read_fault { result.0.0 ≡ 3
         → CountIncreased (S.faults input.old) (S.faults input.new)
         ⊎ CountIncreased (T.faults tokens.old) (T.faults tokens.new) }
@@ -189,14 +181,8 @@ pub fn pipe_store<D: Disk, T: Source, S: Source, K: Sink, E: Sink, C: Clock>(
     ensures not_words { result.0 ≢ 2 }
     ensures runs { IfSome place.old.disks (λ old. IfSome place.new.disks (λ new.
         RunsStore D.image D.moment D.left_since D.faults (C.may_give clock.now) by_tokens trail
-        D.content old.first old.second new.first new.second (record {
-          old = T.rest place.old.tokens;
-          new = T.rest place.new.tokens;
-          old_faults = T.faults place.old.tokens;
-          new_faults = T.faults place.new.tokens;
-          old_reads = T.reads place.old.tokens;
-          new_reads = T.reads place.new.tokens;
-        }) (record {
+        D.content old.first old.second new.first new.second
+        (tokens_of T.rest T.faults T.reads T.ends place.old.tokens place.new.tokens) (record {
           old_input = S.rest input.old;
           new_input = S.rest input.new;
           old_output = K.taken output.old;
@@ -210,6 +196,7 @@ pub fn pipe_store<D: Disk, T: Source, S: Source, K: Sink, E: Sink, C: Clock>(
           old_ends = S.ends input.old;
           new_ends = S.ends input.new;
         }) result.0)) }
+    ensures no_tokens { by_tokens ≡ false → place.new.tokens ≡ place.old.tokens }
     ensures read_fault { result.0 ≡ 3
         → CountIncreased (S.faults input.old) (S.faults input.new)
         ⊎ CountIncreased (T.faults place.old.tokens) (T.faults place.new.tokens) }

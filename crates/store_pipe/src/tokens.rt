@@ -1,7 +1,9 @@
 //! Reads the token table.
 ghost use Rattle.std.specs.Prelude.{◌≡◌, ◌≤◌, IfOk, IfErr};
+ghost use Rattle.pod_pipe.specs.Streams.{AddsReads};
 ghost use Rattle.token_table.specs.TableLines.{AreSound, entries, lines_of};
 ghost use Rattle.store_pipe.specs.Tables.{HasTableCause, IsFaultOf, IsReadToEnd, IsTable};
+ghost use Rattle.store_pipe.specs.Tables.{tokens_of};
 
 use pod_io::Source;
 use std::alloc::Global;
@@ -27,11 +29,11 @@ pub enum TableFault {
 
 /// The text of a source, which is read to its end.
 fn read_all<T: Source>(alloc: Global, source: &mut T) -> Result<Vec<u8>, TableFault>
-    ensures text { IfOk result (λ text. IsReadToEnd text.items (T.rest source.old)
-        (T.rest source.new)) }
-    ensures fault { IfErr result (λ fault. HasTableCause fault (T.rest source.old)
-        (T.rest source.new) (T.faults source.old) (T.faults source.new) (T.reads source.old)
-        (T.reads source.new)) }
+    ensures text { IfOk result (λ text. IsReadToEnd text.items
+        (tokens_of T.rest T.faults T.reads T.ends source.old source.new)) }
+    ensures fault { IfErr result (λ fault. HasTableCause fault
+        (tokens_of T.rest T.faults T.reads T.ends source.old source.new)) }
+    ensures reads { AddsReads (T.reads source.old) (T.reads source.new) }
     ensures faults { T.faults source.old ≤ T.faults source.new }
 {
     let mut text = Vec::new(alloc);
@@ -65,10 +67,11 @@ fn table_of(alloc: Global, text: &[u8]) -> Result<Tokens, TableFault>
 
 /// The token table of a source, which is read to its end.
 pub(crate) fn read_table<T: Source>(alloc: Global, source: &mut T) -> Result<Tokens, TableFault>
-    ensures table { IfOk result (λ tokens. IsTable tokens (T.rest source.old) (T.rest source.new)) }
-    ensures fault { IfErr result (λ fault. HasTableCause fault (T.rest source.old)
-        (T.rest source.new) (T.faults source.old) (T.faults source.new) (T.reads source.old)
-        (T.reads source.new)) }
+    ensures table { IfOk result (λ tokens. IsTable tokens
+        (tokens_of T.rest T.faults T.reads T.ends source.old source.new)) }
+    ensures fault { IfErr result (λ fault. HasTableCause fault
+        (tokens_of T.rest T.faults T.reads T.ends source.old source.new)) }
+    ensures reads { AddsReads (T.reads source.old) (T.reads source.new) }
     ensures faults { T.faults source.old ≤ T.faults source.new }
 {
     match read_all(alloc, source) {

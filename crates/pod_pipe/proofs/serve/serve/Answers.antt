@@ -6,7 +6,7 @@ use Rattle.pod_pipe.specs.Agents.{asking_of}
 use Rattle.pod_pipe.specs.Served.{Leaves}
 use Rattle.pod_pipe.specs.Talks.{MayBeSent, TurnsIn}
 use Rattle.pod_pipe.proofs.ServingLemmas.{Serving, begins, end_reads, end_writes, read_fault, bounded, at_end, no_memory, ends, statuses, goes_on, ended, never_reads, counts_end, counts_heard, rose_in_one}
-use Rattle.pod_pipe.proofs.ReadsLemmas.{reads_more, reads_none, ended_at, some_read, met_end, met_no_end, one_more}
+use Rattle.pod_pipe.proofs.ReadsLemmas.{reads_more, reads_none, ended_at, some_read, met_end, met_no_end, none_counted, one_more, few_counted, all_counted, fails_counted}
 use Rattle.pod_pipe.proofs.serve.serve.Goals as goal
 
 pub reads-init : goal.reads-init
@@ -17,7 +17,7 @@ reads-init g c = (
   omega arith,
   omega arith,
   omega arith,
-  λ below. omega arith,
+  none_counted (g.S.Source.reads c.args.input.now),
   refl,
   omega arith,
   record { few = omega (arith, c.requires.first) },
@@ -107,7 +107,7 @@ reads-preserved g c =
       omega (arith, c.reads.invariant.1, read.faults.no_fewer),
       omega (arith, c.reads.invariant.2, c.in-Ok-answer_events.ensures.faults.no_fewer),
       omega (arith, c.reads.invariant.3, read.reads.no_fewer),
-      one_more (g.S.Source.reads c.args.input.now) (g.S.Source.reads c.reads.input) (g.S.Source.reads c.read.new.self) c.reads.counter c.reads.invariant.4 read.reads.read,
+      one_more (g.S.Source.reads c.args.input.now) (g.S.Source.reads c.reads.input) (g.S.Source.reads c.read.new.self) c.reads.counter c.reads.invariant.4 (omega (arith, c.reads-test.true)) read.reads.no_fewer read.reads.read,
       met_no_end (g.S.Source.ends c.reads.input) (g.S.Source.ends c.read.new.self) c.in-Ok.count c.if-count-eq0.false read.ends.read ∙ c.reads.invariant.5,
       omega (arith, c.reads.invariant.6, c.in-Ok-answer_events.ensures.faults.no_fewer_errors),
       c.in-Ok-answer_events.ensures.sound,
@@ -122,7 +122,7 @@ returns-clause-pipes g c = λ history held. bounded g.H.PodHolder.stands g.H.Pod
 
 pub returns-in_default-clause-counts : goal.returns-in_default-clause-counts
 returns-in_default-clause-counts g c = record {
-  reads = omega (arith, c.reads.invariant.3, c.in_default.ensures.reads.no_fewer);
+  reads = fails_counted (g.S.Source.reads c.args.input.now) (g.S.Source.reads c.reads.input) (g.S.Source.reads c.read.new.self) c.reads.counter c.reads.invariant.4 c.in_default.ensures.reads.failed;
   limit = λ e. absurd cc;
   ends = c.in_default.ensures.ends.failed ∙ c.reads.invariant.5;
 }
@@ -130,15 +130,17 @@ returns-in_default-clause-counts g c = record {
 pub returns-then-count-eq0-clause-counts : goal.returns-then-count-eq0-clause-counts
 returns-then-count-eq0-clause-counts g c =
     let read = c.in-Ok.ensures in
+    let counted = one_more (g.S.Source.reads c.args.input.now) (g.S.Source.reads c.reads.input) (g.S.Source.reads c.read.new.self) c.reads.counter c.reads.invariant.4 (omega (arith, c.reads-test.true)) read.reads.no_fewer read.reads.read in
     counts_end c.rest.result c.at_end.result (g.S.Source.reads c.args.input.now) (g.S.Source.reads c.read.new.self) (g.S.Source.ends c.args.input.now) (g.S.Source.ends c.read.new.self)
-    c.at_end.ensures (omega (arith, c.reads.invariant.3, read.reads.no_fewer))
+    c.at_end.ensures (few_counted _ _ _ counted)
     (met_end (g.S.Source.ends c.reads.input) (g.S.Source.ends c.read.new.self) c.in-Ok.count c.if-count-eq0.true read.ends.read ∙ ap next_count c.reads.invariant.5)
 
 pub returns-in_default-feed-clause-counts : goal.returns-in_default-feed-clause-counts
 returns-in_default-feed-clause-counts g c =
     let read = c.in-Ok.ensures in
+    let counted = one_more (g.S.Source.reads c.args.input.now) (g.S.Source.reads c.reads.input) (g.S.Source.reads c.read.new.self) c.reads.counter c.reads.invariant.4 (omega (arith, c.reads-test.true)) read.reads.no_fewer read.reads.read in
     record {
-      reads = omega (arith, c.reads.invariant.3, read.reads.no_fewer);
+      reads = few_counted _ _ _ counted;
       limit = λ e. absurd cc;
       ends = inl (met_no_end (g.S.Source.ends c.reads.input) (g.S.Source.ends c.read.new.self) c.in-Ok.count c.if-count-eq0.false read.ends.read ∙ c.reads.invariant.5);
     }
@@ -151,15 +153,16 @@ returns-in-Err-clause-counts g c =
     let told = c.in-Err.ensures.turns in
     let t = told.4 in
     let first = c.args.talk.now.holder in
+    let counted = one_more (g.S.Source.reads c.args.input.now) (g.S.Source.reads c.reads.input) (g.S.Source.reads c.read.new.self) c.reads.counter c.reads.invariant.4 (omega (arith, c.reads-test.true)) read.reads.no_fewer read.reads.read in
     counts_heard g.H.PodHolder.stands g.H.PodHolder.faults g.H.PodHolder.follows (g.C.Clock.may_give c.args.clock.now) (asking_of c.args.options.now.agents) c.args.options.now.trail begun (Leaves g.H.PodHolder.stands g.H.PodHolder.faults g.H.PodHolder.follows begun first c.answer_events.new.self.holder)
     c.in-Err.end (s.heard ++ t.front) (s.written ++ told.0) (s.trail ++ told.1)
     (g.S.Source.reads c.args.input.now) (g.S.Source.reads c.read.new.self) (g.S.Source.ends c.args.input.now) (g.S.Source.ends c.read.new.self)
-    (t.turns begun first s.heard s.written s.trail s.talks) (omega (arith, c.reads.invariant.3, read.reads.no_fewer))
+    (t.turns begun first s.heard s.written s.trail s.talks) (few_counted _ _ _ counted)
     (met_no_end (g.S.Source.ends c.reads.input) (g.S.Source.ends c.read.new.self) c.in-Ok.count c.if-count-eq0.false read.ends.read ∙ c.reads.invariant.5)
 
 pub returns-clause-counts : goal.returns-clause-counts
 returns-clause-counts g c = record {
-  reads = c.reads.invariant.3;
-  limit = λ e below. omega (arith, c.reads-test.false, c.reads.invariant.4 below);
+  reads = few_counted _ _ _ c.reads.invariant.4;
+  limit = λ e. all_counted _ _ _ c.reads.invariant.4 (omega (arith, c.reads-test.false));
   ends = c.reads.invariant.5;
 }

@@ -1,7 +1,8 @@
-use Rattle.std.proofs.Common.{◌≡◌, ◌+◌, ◌-◌, ◌^◌, ◌<◌, ◌≤◌}
+use Rattle.std.proofs.Common.{◌≡◌, ◌≤◌}
 use Rattle.pod_core.specs.History.{History}
 use Rattle.pod_pipe.specs.Agents.{asking_of}
 use Rattle.pod_pipe.specs.Talks.{IsSound}
+use Rattle.pod_pipe.proofs.ReadsLemmas.{AreCounted}
 use Rattle.pod_pipe.proofs.ServingLemmas.{Serving}
 use Rattle.pod_pipe.proofs.serve.serve.Given as goal
 
@@ -14,7 +15,7 @@ invariant-reads g l =
     × (g.S.Source.faults l.fn.input ≤ g.S.Source.faults l.input)
     × (g.K.Sink.faults l.fn.output ≤ g.K.Sink.faults l.output)
     × (g.S.Source.reads l.fn.input ≤ g.S.Source.reads l.input)
-    × (g.S.Source.reads l.input < 2 ^ 64 - 1 → g.S.Source.reads l.fn.input + l.counter ≤ g.S.Source.reads l.input)
+    × AreCounted (g.S.Source.reads l.fn.input) l.counter (g.S.Source.reads l.input)
     × (g.S.Source.ends l.input ≡ g.S.Source.ends l.fn.input)
     × (g.E.Sink.faults l.fn.errors ≤ g.E.Sink.faults l.errors)
     × IsSound l.talk.number
