@@ -55,7 +55,9 @@ pub record IsPutOf (base path : List ℕ) (step : Step) : Type 0 where
   pub target : target_of base step.request.method step.request.target ≡ Ok (Resource path)
 
 -- Both are PUTs of one path by one agent, who is another one. What is at the path is hidden from
--- the agent in both pods: it is no access list, may not be read, and is named for no group.
+-- the agent in both pods: it is no access list, may not be read, and is named for no group. There
+-- may be no row yet, and the moments may differ: then the containers above differ too that both
+-- PUTs make or touch.
 pub record ArePutsOfAnother (agent : Agent) (p q : Pod) (left right : Step) : Type 0 where
   pub other : agent_in left ≡ agent → ⊥
   pub one : agent_in left ≡ agent_in right
