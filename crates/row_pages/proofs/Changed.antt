@@ -1,6 +1,6 @@
 -- Items after a change are in order, and how many they are.
 use Rattle.std.proofs.Common.{subst, ◌≡◌, ◌+◌, ◌-◌, ◌<◌, ℕ, Bool, true, false, not, cond, List, [], ◌∷◌, ◌++◌, length, filter, Some, None, refl, ap, ◌∙◌, arith, bytes_eq}
-use Rattle.std.specs.Prelude.{is_some}
+use Rattle.std.specs.Prelude.{is_some, if◌then◌else◌}
 use Rattle.std.specs.Ordering.{is_lt, ordering_reverse}
 use Rattle.std.specs.declared.cmp.Ordering.{Ordering}
 use Rattle.std.specs.declared.cmp.Ordering.TheVariants.{Less, Equal, Greater}
@@ -119,6 +119,11 @@ put_new is i o e = let l = length_put is i o in let n = ap (λ x. number (is_som
 
 pub put_old : (is : List Placed) (i j : Placed) → AreItemsInOrder is → item_at is i.row.path ≡ Some j → length (put_item is i) ≡ length is
 put_old is i j o e = let l = length_put is i o in let n = ap (λ x. number (is_some x)) e in omega (arith, l, n)
+
+pub put_count : (is : List Placed) (i : Placed) (replaces : Bool) (before after : ℕ) → AreItemsInOrder is → replaces ≡ is_some (item_at is i.row.path) → before ≡ length is
+    → after ≡ (if replaces then before else before + 1) → after ≡ length (put_item is i)
+put_count is i true before after o e b a = let l = length_put is i o in let n = ap number e in omega (arith, l, n, b, a)
+put_count is i false before after o e b a = let l = length_put is i o in let n = ap number e in omega (arith, l, n, b, a)
 
 kept_all : (is : List Placed) (p : List ℕ) → AreAfter p is → length (remove_item is p) ≡ length is
 kept_all [] p h = refl

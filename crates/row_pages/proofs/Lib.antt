@@ -3,4 +3,5 @@ pub mod Around
 pub mod Below
 pub mod Changed
 pub mod Joined
+pub mod Taken
 pub mod Done

@@ -10,15 +10,16 @@
 //! A version has books of at most [`PAGE_LIMIT`] pages, and a page has at most [`PAGE_LIMIT`]
 //! items. A change copies the books' handles, one book's handles of pages, and one page's handles
 //! of rows; no row is copied. A page or book that becomes too large is halved, and an empty one is
-//! dropped; small ones aren't joined.
+//! dropped; small ones aren't joined. [`Rows::into_with`] puts an item into a version that nobody
+//! needs any more, and changes in place the books and pages that no other version shares.
 //!
 //! Contracts see a version as the list of its items, each a row with the access list that governs
 //! it. Proved: the items are in strict byte order of their paths ([`Rows::are_in_order`]); a search
 //! finds exactly the item at a path (`found`), and reads at most 15 paths more than the number of
 //! items has binary digits (`cost`); putting an item gives the items before it, the item and those
-//! after it, and a removal all others ([`Rows::put`], [`Rows::without`]); the items below a text
-//! are those whose paths begin with it, in order ([`Rows::below`]). No clause says which memory is
-//! shared.
+//! after it, and a removal all others ([`Rows::put`], [`Rows::into_with`], [`Rows::without`]); the
+//! items below a text are those whose paths begin with it, in order ([`Rows::below`]). No clause
+//! says which memory is shared.
 //!
 //! The crate stands on `pod_command`, `pod_path`, `rdf_graph` and `pod_base`.
 #![tactic(auto)]

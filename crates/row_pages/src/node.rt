@@ -1,5 +1,6 @@
 //! [`Node`]: a page of items, or a book of pages.
 ghost use Rattle.std.specs.Prelude.{◌≡◌, ◌+◌, ◌<◌, ◌≤◌, ◌++◌, length, IfOk, OnOk};
+ghost use Rattle.std.specs.Arc.{arc_value};
 ghost use Rattle.std.specs.List.{flat_map};
 ghost use Rattle.row_pages.specs.Nodes.{IsNode, HaveItems};
 ghost use Rattle.row_pages.specs.Parts.{items_of_both};
@@ -7,11 +8,12 @@ ghost use Rattle.row_pages.specs.Parts.{items_of_both};
 use crate::item::Item;
 use crate::limits::PAGE_LIMIT;
 use crate::part::{Grown, Part};
-use crate::parts::{below_in, find_in, put_in, share_all, without_in};
+use crate::parts::{below_in, find_in, into_with_in, put_in, share_all, without_in};
 use crate::steps::Steps;
 use pod_base::{Mem, NoMemory};
 use std::alloc::Global;
 use std::marker::Model;
+use std::mem;
 use std::sync::Arc;
 use std::sync::ledger::Ledger;
 
@@ -67,6 +69,49 @@ impl<T: Part> Node<T> {
     }
 }
 
+/// The parts that lie in some memory: taken out where nobody shares it, and else copied.
+fn taken_out<T: Part>(alloc: Global, memory: &mut Arc<Vec<T>>) -> Mem<Vec<T>>
+    ensures { IfOk result (λ parts. parts.items ≡ (arc_value memory.old).items) }
+{
+    match Arc::get_mut(memory) {
+        Some(parts) => Ok(mem::replace(parts, Vec::new(alloc))),
+        None => {
+            let mut copies = Vec::with_capacity(alloc, memory.len().saturating_add(1))?;
+            share_all(memory.as_slice(), &mut copies)?;
+            Ok(copies)
+        }
+    }
+}
+
+/// The node of these parts, in memory that other parts had, where nobody shares it.
+fn node_in<T: Part>(alloc: Global, memory: Arc<Vec<T>>, parts: Vec<T>) -> Mem<Node<T>>
+    requires { IsNode T.items parts.items }
+    ensures { IfOk result (λ node. node ≡ parts.items) }
+{
+    let mut memory = memory;
+    match Arc::get_mut(&mut memory) {
+        Some(place) => {
+            *place = parts;
+            Ok(Node { parts: memory })
+        }
+        None => Node::of(alloc, parts),
+    }
+}
+
+/// Half as many parts as a node has at most, and the others. The first half keeps the room that a
+/// node needs before it is halved.
+fn halved<T: Part>(parts: Vec<T>) -> Mem<(Vec<T>, Vec<T>)>
+    requires { 32 ≤ length parts.items }
+    ensures whole { IfOk result (λ halves. parts.items ≡ halves.0.items ++ halves.1.items) }
+    ensures first { IfOk result (λ halves. length halves.0.items ≡ 32) }
+    ensures second { IfOk result (λ halves. length halves.1.items + 32 ≡ length parts.items) }
+{
+    let mut first = parts;
+    let second = first.split_off(PAGE_LIMIT / 2)?;
+    first.shrink_to(PAGE_LIMIT + 2);
+    Ok((first, second))
+}
+
 /// The node of these parts, or two nodes, where they are too many for one.
 fn grown<T: Part>(alloc: Global, parts: Vec<T>) -> Mem<Grown<Node<T>>>
     requires some { 0 < length parts.items }
@@ -79,13 +124,28 @@ fn grown<T: Part>(alloc: Global, parts: Vec<T>) -> Mem<Grown<Node<T>>>
         let part = Node::of(alloc, parts)?;
         return Ok(Grown { part, more: None });
     }
-    let (first, second) = parts.as_slice().split_at(PAGE_LIMIT / 2);
-    let part = Node::of_slice(alloc, first)?;
-    let more = Node::of_slice(alloc, second)?;
+    let (first, second) = halved(parts)?;
+    let part = Node::of(alloc, first)?;
+    let more = Node::of(alloc, second)?;
     Ok(Grown {
         part,
         more: Some(more),
     })
+}
+
+/// [`grown`] in memory that other parts had, where nobody shares it and one node is enough.
+fn grown_in<T: Part>(alloc: Global, memory: Arc<Vec<T>>, parts: Vec<T>) -> Mem<Grown<Node<T>>>
+    requires some { 0 < length parts.items }
+    requires few { length parts.items ≤ 65 }
+    requires each { HaveItems T.items parts.items }
+    ensures { IfOk result (λ grown. items_of_both (flat_map T.items) grown.part grown.more
+        ≡ flat_map T.items parts.items) }
+{
+    if parts.len() > PAGE_LIMIT {
+        return grown(alloc, parts);
+    }
+    let part = node_in(alloc, memory, parts)?;
+    Ok(Grown { part, more: None })
 }
 
 /// Appends the nodes of parts: each but the last is full.
@@ -151,6 +211,13 @@ impl<T: Part> Part for Node<T> {
     fn put(&self, alloc: Global, item: &Item) -> Mem<Grown<Node<T>>> {
         let parts = put_in(alloc, self.parts(), item)?;
         grown(alloc, parts)
+    }
+
+    fn into_with(self, alloc: Global, item: Item) -> Mem<Grown<Node<T>>> {
+        let mut memory = self.parts;
+        let parts = taken_out(alloc, &mut memory)?;
+        let all = into_with_in(alloc, parts, item)?;
+        grown_in(alloc, memory, all)
     }
 
     fn without(&self, alloc: Global, path: &[u8]) -> Mem<Option<Node<T>>> {

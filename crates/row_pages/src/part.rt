@@ -27,7 +27,8 @@ pub(crate) struct Grown<P> {
     pub more: Option<P>,
 }
 
-/// A part of the items, which isn't changed: changes make new parts, which share what stays.
+/// A part of the items. A change makes new parts, which share what stays; one that takes the part
+/// by value uses its memory again.
 pub(crate) trait Part: Drop {
     /// The items of the part, in their order.
     ghost items: { Self → List Placed };
@@ -67,6 +68,12 @@ pub(crate) trait Part: Drop {
         requires { AreItemsInOrder (items self.now) }
         ensures { IfOk result (λ grown. items_of_both items grown.part grown.more
             ≡ put_item (items self.now) item.now) };
+
+    /// The part with this item, in one part or two. Memory that nobody shares is used again.
+    fn into_with(self, alloc: Global, item: Item) -> Mem<Grown<Self>>
+        requires { AreItemsInOrder (items self) }
+        ensures { IfOk result (λ grown. items_of_both items grown.part grown.more
+            ≡ put_item (items self) item) };
 
     /// The part without the item at the path, if an item is left.
     fn without(&self, alloc: Global, path: &[u8]) -> Mem<Option<Self>>
@@ -131,6 +138,23 @@ impl Part for Item {
                     more: Some(part),
                 })
             }
+        }
+    }
+
+    fn into_with(self, _alloc: Global, item: Item) -> Mem<Grown<Item>> {
+        match item.path().cmp(self.path()) {
+            Ordering::Less => Ok(Grown {
+                part: item,
+                more: Some(self),
+            }),
+            Ordering::Equal => Ok(Grown {
+                part: item,
+                more: None,
+            }),
+            Ordering::Greater => Ok(Grown {
+                part: self,
+                more: Some(item),
+            }),
         }
     }
 

@@ -1,6 +1,7 @@
 //! Parts in their order: to which of them a path belongs, and what a change makes of them.
 ghost use Rattle.std.specs.Prelude.{◌≡◌, ◌+◌, ◌-◌, ◌<◌, ◌≤◌, ◌^◌, ◌++◌, ◌∷◌, [], ℕ, List, false};
 ghost use Rattle.std.specs.Prelude.{IfOk, OnOk, IfSome, IfNone, IsTrue, length, option_copied};
+ghost use Rattle.std.specs.Prelude.{take, drop};
 ghost use Rattle.std.specs.List.{flat_map};
 ghost use Rattle.std.specs.Option.{option_to_list};
 ghost use Rattle.row_pages.specs.Borders.{first_of, first_at, starts_by, starts_after};
@@ -231,6 +232,102 @@ pub(crate) fn put_in<T: Part>(alloc: Global, parts: &[T], item: &Item) -> Mem<Ve
             Ok(all)
         }
     }
+}
+
+/// Where the part to which a path belongs stands, found on a count that nobody reads.
+fn place_blank<T: Part, L: Ledger>(parts: &[T], path: &[u8], blank: Blank) -> usize
+    requires name { blank.name ≡ L.name }
+    requires parts { blank.parts ≡ L.parts }
+    requires some { 0 < blank.parts }
+    requires order { AreItemsInOrder (flat_map T.items parts.now) }
+    requires there { 0 < length parts.now }
+    ensures within { result < length parts.now }
+    ensures before { AreBefore path.now (flat_map T.items (take result parts.now)) }
+    ensures after { AreAfter path.now (flat_map T.items (drop (result + 1) parts.now)) }
+{
+    let mut steps = Steps::<L>::new(blank);
+    let place = place_between(parts, 0, parts.len(), path, &mut steps);
+    place.saturating_sub(1)
+}
+
+/// Where the part to which a path belongs stands: the last that begins at the path or before it, or
+/// else the first.
+fn place_of<T: Part>(parts: &[T], path: &[u8]) -> usize
+    requires order { AreItemsInOrder (flat_map T.items parts.now) }
+    requires there { 0 < length parts.now }
+    ensures within { result < length parts.now }
+    ensures before { AreBefore path.now (flat_map T.items (take result parts.now)) }
+    ensures after { AreAfter path.now (flat_map T.items (drop (result + 1) parts.now)) }
+{
+    place_blank::<T, Brand>(parts, path, Blank::new(1))
+}
+
+/// Inserts a part, if there is one.
+fn insert_some<T: Part>(parts: &mut Vec<T>, place: usize, part: Option<T>) -> Mem<()>
+    requires { place ≤ length parts.old.items }
+    ensures items { OnOk result (parts.new.items ≡ take place parts.old.items
+        ++ (option_to_list part ++ drop place parts.old.items)) }
+    ensures some { OnOk result (HaveItems T.items (option_to_list part)) }
+{
+    match part {
+        Some(part) => {
+            part.has_items();
+            parts.insert(place, part)?;
+            Ok(())
+        }
+        None => Ok(()),
+    }
+}
+
+/// Puts one part or two where another was taken out.
+fn put_back<T: Part>(parts: &mut Vec<T>, place: usize, part: T, more: Option<T>) -> Mem<()>
+    requires { place ≤ length parts.old.items }
+    ensures items { OnOk result (parts.new.items ≡ take place parts.old.items
+        ++ (part ∷ (option_to_list more ++ drop place parts.old.items))) }
+    ensures part { OnOk result (0 < length (T.items part)) }
+    ensures more { OnOk result (HaveItems T.items (option_to_list more)) }
+{
+    insert_some(parts, place, more)?;
+    part.has_items();
+    parts.insert(place, part)?;
+    Ok(())
+}
+
+/// One part of this item, where there are no parts.
+fn one_part<T: Part>(alloc: Global, parts: Vec<T>, item: &Item) -> Mem<Vec<T>>
+    requires { length parts.items ≡ 0 }
+    ensures items { IfOk result (λ all. flat_map T.items all.items ≡ item.now ∷ []) }
+    ensures one { IfOk result (λ all. length all.items ≡ 1) }
+    ensures each { IfOk result (λ all. HaveItems T.items all.items) }
+{
+    let mut all = parts;
+    let part = T::single(alloc, item)?;
+    part.has_items();
+    all.push(part)?;
+    Ok(all)
+}
+
+/// [`put_in`] of parts that nobody shares: all but one stay where they are.
+pub(crate) fn into_with_in<T: Part>(alloc: Global, parts: Vec<T>, item: Item) -> Mem<Vec<T>>
+    requires { AreItemsInOrder (flat_map T.items parts.items) }
+    ensures items { IfOk result (λ all. flat_map T.items all.items
+        ≡ put_item (flat_map T.items parts.items) item) }
+    ensures few { IfOk result (λ all. length all.items ≤ length parts.items + 1) }
+    ensures each { IfOk result (λ all. HaveItems T.items parts.items
+        → HaveItems T.items all.items) }
+    ensures some { IfOk result (λ all. 0 < length all.items) }
+{
+    if parts.is_empty() {
+        let all = one_part(alloc, parts, &item)?;
+        return Ok(all);
+    }
+    let mut all = parts;
+    let place = place_of(all.as_slice(), item.path());
+    let old = all.remove(place);
+    let grown = old.into_with(alloc, item)?;
+    let (part, more) = (grown.part, grown.more);
+    put_back(&mut all, place, part, more)?;
+    Ok(all)
 }
 
 /// The parts without the item at the path.

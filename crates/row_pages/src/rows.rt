@@ -1,13 +1,13 @@
 //! [`Rows`]: items in byte order of their paths.
 ghost use Rattle.std.specs.Prelude.{◌≡◌, ◌+◌, ◌<◌, ◌≤◌, ◌^◌, [], ℕ, List, IfOk, length};
-ghost use Rattle.std.specs.Prelude.{option_copied};
+ghost use Rattle.std.specs.Prelude.{option_copied, is_some, if◌then◌else◌};
 ghost use Rattle.row_pages.specs.Items.{AreItemsInOrder, Placed, item_at, put_item, remove_item};
 ghost use Rattle.row_pages.specs.Items.{items_below};
 
 use crate::item::Item;
 use crate::node::{Node, push_nodes};
 use crate::part::Part;
-use crate::parts::{below_in, find_in, put_in, share_all, without_in};
+use crate::parts::{below_in, find_in, into_with_in, put_in, share_all, without_in};
 use crate::steps::Steps;
 use pod_base::{Mem, NoMemory};
 use std::alloc::Global;
@@ -136,6 +136,17 @@ impl Rows {
         Ok(Rows { books, len })
     }
 
+    /// [`Rows::put`] of items that nobody needs any more: what nobody shares is changed in place.
+    /// `replaces` says whether there is an item at the path.
+    pub fn into_with(self, alloc: Global, item: Item, replaces: bool) -> Mem<Rows>
+        requires { replaces ≡ is_some (item_at self item.row.path) }
+        ensures { IfOk result (λ rows. rows ≡ put_item self item) }
+    {
+        let len = len_put(self.len, replaces)?;
+        let books = into_with_in(alloc, self.books, item)?;
+        Ok(Rows { books, len })
+    }
+
     /// The items without the one at a path.
     pub fn without(&self, alloc: Global, path: &[u8]) -> Mem<Rows>
         ensures { IfOk result (λ rows. rows ≡ remove_item self.now path.now) }
@@ -163,4 +174,14 @@ fn next(len: usize) -> Mem<usize>
         Some(next) => Ok(next),
         None => Err(NoMemory),
     }
+}
+
+/// How many items there are after one was put, of so many before.
+fn len_put(len: usize, replaces: bool) -> Mem<usize>
+    ensures { IfOk result (λ after. after ≡ (if replaces then len else len + 1)) }
+{
+    if replaces {
+        return Ok(len);
+    }
+    next(len)
 }
