@@ -2,7 +2,7 @@
 use Rattle.std.proofs.Common.{◌≡◌, ◌+◌, ◌≤◌, ◌-◌, ℕ, Bool, true, false, not, cond, ◌||◌, ◌&&◌, List, [], ◌∷◌, ◌++◌, length, filter, map, Option, Some, None, Ok, refl, sym, ap, ◌∙◌, subst, arith, ⊎_elim, inl, inr, ◌⊎◌}
 use Rattle.std.specs.Prelude.{is_some, bytes_eq, codes}
 use Rattle.std.specs.List.{list_all}
-use Rattle.std.proofs.lemmas.Bool.{and_parts, and_from, or_left, or_right, false≢true, true≢false, not-true, false_from_ne_true, le-leb, leb-true}
+use Rattle.std.proofs.lemmas.Bool.{and_parts, and_from, false≢true, true≢false, not-true, false_from_ne_true, le-leb, leb-true}
 use Rattle.std.proofs.lemmas.Slice.Eq.{bytes_eq-Decides}
 use Rattle.pod_command.specs.declared.row.Content.{Content}
 use Rattle.pod_command.specs.declared.row.Kind.{Kind}
@@ -67,7 +67,7 @@ right_normal : (r : Row) → is_right r ≡ true → norm r.path ≡ Ok r.path
 unfolding is_right has_normal_path
 right_normal r h = parse_is (norm r.path) r.path (and_parts (has_normal_path r) (has_right_kind r && lacks_stored_containment r) h).0
 
-right_from : (r : Row) → is_right r ≡ true → IsRight r
+pub right_from : (r : Row) → is_right r ≡ true → IsRight r
 unfolding is_right
 right_from r h =
     let parts = and_parts (has_right_kind r) (lacks_stored_containment r) (and_parts (has_normal_path r) (has_right_kind r && lacks_stored_containment r) h).1 in
@@ -80,7 +80,7 @@ right_to p q r w e =
     and_from (has_normal_path r) (has_right_kind r && lacks_stored_containment r) (all_found has_normal_path p.rows q r w.paths e) (and_from (has_right_kind r) (lacks_stored_containment r) i.kind i.containment)
 
 -- the guard of the root's access list
-guard_from : (p : Pod) (path : List ℕ) (c : Content) → keeps_guard p path c ≡ true → is_root_list path ≡ true → guards_content p c ≡ true
+pub guard_from : (p : Pod) (path : List ℕ) (c : Content) → keeps_guard p path c ≡ true → is_root_list path ≡ true → guards_content p c ≡ true
 unfolding keeps_guard
 guard_from p path c h l = ap (λ (b : Bool). not b || guards_content p c) (sym l) ∙ h
 
@@ -400,7 +400,7 @@ free_here p rows at f w q none =
     description true = refl
     description false = no_subject_row (q ++ codes ".meta") (meta_back q)
 
-row_here : (p : Pod) (rows : List Row) (at : List ℕ → Option Row) → ((q : List ℕ) → row_at rows q ≡ at q) → WellFormed (with_rows p rows) → (q : List ℕ) (r : Row) → row_at rows q ≡ Some r → is_row_fine p at q r ≡ true
+pub row_here : (p : Pod) (rows : List Row) (at : List ℕ → Option Row) → ((q : List ℕ) → row_at rows q ≡ at q) → WellFormed (with_rows p rows) → (q : List ℕ) (r : Row) → row_at rows q ≡ Some r → is_row_fine p at q r ≡ true
 row_here p rows at f w q r e =
     and_from (is_right r) (keeps_guard p q r.content && is_placed at q) (right_to (with_rows p rows) q r w e)
     (and_from (keeps_guard p q r.content) (is_placed at q) (guard_to p q r.content guard) (placed_to rows at f q (placed_at (with_rows p rows) q w (is_found rows q r e))))

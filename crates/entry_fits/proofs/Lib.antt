@@ -3,3 +3,4 @@ pub mod Counts
 pub mod MadeSteps
 pub mod Fine
 pub mod Whole
+pub mod Replacements

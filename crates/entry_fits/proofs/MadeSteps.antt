@@ -18,7 +18,7 @@ use Rattle.pod_rows.specs.Pod.{row_at, is_row}
 use Rattle.pod_rows.proofs.OrderedRows.{order_put, order_filter}
 use Rattle.pod_rows.proofs.Steps.{edits_append, edits_more, edits_stopped}
 use Rattle.pod_edits.proofs.FoundRows.{found_path, is_found, put_found, removed_found}
-use Rattle.entry_fits.specs.Made.{HasMade, added, gone, is_added, is_gone, found_in, made_by, made_by_change, made_by_touch, made_by_removal, made_of, path_of, replaced}
+use Rattle.entry_fits.specs.Made.{HasMade, added, gone, found_in, made_by, made_by_change, made_by_touch, made_by_removal, made_of, path_of, replaced}
 use Rattle.entry_fits.specs.declared.made.Made.{Made}
 use Rattle.entry_fits.proofs.Counts.{one_if, put_count, removed_count, added_more, gone_more}
 use Rattle.entry_fits.proofs.Latest.{found_more}

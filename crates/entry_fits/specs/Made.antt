@@ -8,8 +8,9 @@ use Rattle.pod_command.specs.declared.edit.Edit.{Edit}
 use Rattle.pod_command.specs.declared.edit.Edit.TheVariants as edits
 use Rattle.pod_command.specs.declared.row.Row.{Row}
 use Rattle.rdf_graph.specs.declared.change.Change.{Change}
-use Rattle.pod_rows.specs.Apply.{after_edits, changed_row, with_moment}
-use Rattle.pod_rows.specs.Pod.{row_at}
+use Rattle.pod_rows.specs.Apply.{after_edits, changed_row, with_moment, with_rows}
+use Rattle.pod_rows.specs.Pod.{Pod, row_at}
+use Rattle.pod_rows.specs.WellFormed.{WellFormed}
 use Rattle.entry_fits.specs.declared.made.Made.{Made}
 
 -- Was this made of the path?
@@ -84,3 +85,9 @@ pub record HasMade (old : List Row) (steps : List Edit) (made : List Made) : Typ
   pub order : AreInOrder rows
   pub found : (path : List ℕ) → row_at rows path ≡ found_in old made path
   pub count : length rows + gone made ≡ length old + added made
+
+-- The edits can be carried out on the rows of the pod, which is well-formed after them.
+pub record EditsFit (pod : Pod) (steps : List Edit) : Type 0 where
+  pub rows : List Row
+  pub after : after_edits (Some pod.rows) steps ≡ Some rows
+  pub well_formed : WellFormed (with_rows pod rows)

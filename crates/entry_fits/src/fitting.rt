@@ -1,11 +1,12 @@
 //! [`fits`]: whether an entry applies to a state.
 ghost use Rattle.std.specs.Prelude.{◌≡◌, IfOk, IsTrue, List, Some};
-ghost use Rattle.entry_fits.specs.Made.{HasMade};
+ghost use Rattle.entry_fits.specs.Made.{HasMade, EditsFit};
 ghost use Rattle.pod_command.specs.declared.edit.Edit.{Edit};
 ghost use Rattle.pod_rows.specs.Apply.{Applies, after_edits, with_rows_if};
 ghost use Rattle.pod_rows.specs.WellFormed.{WellFormed};
 
 use crate::made::{Made, all_made};
+use crate::replaced::{may_replace, replacement};
 use crate::touched::{are_fine, has_room};
 use pod_base::Mem;
 use pod_command::Entry;
@@ -29,11 +30,24 @@ fn stays_well_formed<S: PodState>(alloc: Global, state: &S, made: &[Made]) -> Me
     are_fine(alloc, state, made)
 }
 
+/// Whether the edits of the entry can be carried out, and the pod is well-formed after them.
+fn edits_fit<S: PodState>(alloc: Global, state: &S, entry: &Entry) -> Mem<bool>
+    ensures sound { IfOk result (λ r. IsTrue r
+        → EditsFit (S.pod state.now) entry.now.edits.items) }
+    ensures complete { IfOk result (λ r.
+        EditsFit (S.pod state.now) entry.now.edits.items → IsTrue r) }
+{
+    match all_made(alloc, state, entry.edits.as_slice())? {
+        Some(made) => stays_well_formed(alloc, state, made.as_slice()),
+        None => Ok(false),
+    }
+}
+
 /// Whether the entry applies to the state: it has the next number, its edits can be carried out,
 /// and the pod is well-formed after them.
 ///
 /// It takes time and memory by the edits and by the rows at their paths, and by the children of the
-/// containers that they remove.
+/// containers that they remove. A `Put` alone of a row in place of another takes no memory.
 pub fn fits<S: PodState>(alloc: Global, state: &S, entry: &Entry) -> Mem<bool>
     ensures sound { IfOk result (λ r. IsTrue r
         → Applies (S.pod state.now) (S.next_number state.now) entry.now) }
@@ -47,8 +61,9 @@ pub fn fits<S: PodState>(alloc: Global, state: &S, entry: &Entry) -> Mem<bool>
     if lacks_number(state) {
         return Ok(false);
     }
-    match all_made(alloc, state, entry.edits.as_slice())? {
-        Some(made) => stays_well_formed(alloc, state, made.as_slice()),
-        None => Ok(false),
+    state.is_well_formed();
+    match replacement(state, entry.edits.as_slice()) {
+        Some(row) => Ok(may_replace(state, row)),
+        None => edits_fit(alloc, state, entry),
     }
 }

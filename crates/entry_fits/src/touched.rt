@@ -152,7 +152,7 @@ fn guards_content<S: PodState>(state: &S, content: &Content) -> bool
 
 /// Whether the path is not that of the root's access list, or the content passes the guard.
 #[tactic(auto, unfolding(crate::specs::Touched::keeps_guard))]
-fn keeps_guard<S: PodState>(state: &S, path: &Path, content: &Content) -> bool
+pub(crate) fn keeps_guard<S: PodState>(state: &S, path: &Path, content: &Content) -> bool
     ensures { result ≡ keeps_guard (S.pod state.now) path.now content.now }
 {
     !is_root_list(path) || guards_content(state, content)
@@ -160,7 +160,7 @@ fn keeps_guard<S: PodState>(state: &S, path: &Path, content: &Content) -> bool
 
 /// Whether the row has a normal path, a kind of its path and a content of its kind.
 #[tactic(auto, unfolding(crate::specs::Touched::is_right))]
-fn is_right(row: &Row) -> bool
+pub(crate) fn is_right(row: &Row) -> bool
     ensures { result ≡ is_right row.now }
 {
     has_normal_path(row) && has_right_kind(row) && lacks_stored_containment(row)

@@ -1,8 +1,7 @@
-use Rattle.std.proofs.Common.{rules, ◌∙◌, sym, subst, List}
+use Rattle.std.proofs.Common.{rules, ◌∙◌, sym}
 use Rattle.std.proofs.lemmas.Result.{IfOk-weaker}
-use Rattle.pod_command.specs.declared.edit.Edit.{Edit}
-use Rattle.entry_fits.specs.Made.{HasMade}
-use Rattle.entry_fits.proofs.Whole.{no_number, applies_from}
+use Rattle.entry_fits.proofs.Replacements.{replaced_from, replaced_to}
+use Rattle.entry_fits.proofs.Whole.{no_number, applies_from, fit_from}
 use Rattle.entry_fits.proofs.fitting.fits.Goals as goal
 
 pub returns-then-lacks_number-clause-complete : goal.returns-then-lacks_number-clause-complete
@@ -11,11 +10,23 @@ returns-then-lacks_number-clause-complete g c =
 
 pub returns-in-Some-clause-sound : goal.returns-in-Some-clause-sound
 returns-in-Some-clause-sound g c =
-    let rows = (g.S.PodState.pod c.args.state.now).rows in
-    IfOk-weaker c.stays_well_formed.result _ _
-    (λ r s t. applies_from (g.S.PodState.pod c.args.state.now) (g.S.PodState.next_number c.args.state.now) c.args.entry.now c.as_slice-in-Some.result.now
+    λ t. applies_from (g.S.PodState.pod c.args.state.now) (g.S.PodState.next_number c.args.state.now) c.args.entry.now
     (search rules) (sym c.lacks_number.ensures ∙ c.if-lacks_number.false)
-    (subst (λ (steps : List Edit). HasMade rows steps c.as_slice-in-Some.result.now) c.as_slice.ensures
-    (subst (HasMade rows c.as_slice.result.now) (sym c.as_slice-in-Some.ensures.value) (rw c.in-Some.is at c.in_ok-made.ensures.some)))
-    (s t))
-    c.stays_well_formed.ensures.sound
+    (replaced_from (g.S.PodState.pod c.args.state.now) c.args.entry.now.edits.items c.in-Some.row.now c.is_well_formed.ensures
+    (sym c.as_slice.ensures ∙ (rw c.in-Some.is at c.replacement.ensures.only)) (rw c.in-Some.is at c.replacement.ensures.there) (sym c.may_replace.ensures ∙ t))
+
+pub returns-in-Some-clause-complete : goal.returns-in-Some-clause-complete
+returns-in-Some-clause-complete g c =
+    λ a. c.may_replace.ensures ∙ replaced_to (g.S.PodState.pod c.args.state.now) c.args.entry.now.edits.items c.in-Some.row.now
+    (sym c.as_slice.ensures ∙ (rw c.in-Some.is at c.replacement.ensures.only)) (fit_from (g.S.PodState.pod c.args.state.now) (g.S.PodState.next_number c.args.state.now) c.args.entry.now a)
+
+pub returns-in-None-clause-sound : goal.returns-in-None-clause-sound
+returns-in-None-clause-sound g c =
+    IfOk-weaker c.edits_fit.result _ _
+    (λ r s t. applies_from (g.S.PodState.pod c.args.state.now) (g.S.PodState.next_number c.args.state.now) c.args.entry.now
+    (search rules) (sym c.lacks_number.ensures ∙ c.if-lacks_number.false) (s t))
+    c.edits_fit.ensures.sound
+
+pub returns-in-None-clause-complete : goal.returns-in-None-clause-complete
+returns-in-None-clause-complete g c =
+    IfOk-weaker c.edits_fit.result _ _ (λ r s a. s (fit_from (g.S.PodState.pod c.args.state.now) (g.S.PodState.next_number c.args.state.now) c.args.entry.now a)) c.edits_fit.ensures.complete
