@@ -55,7 +55,7 @@ fn after_put(alloc: Global, version: &Version) -> anyhow::Result<Option<Version>
 }
 
 /// The version of a snapshot, after as many changes as versions keep the effects of.
-fn changed_version(alloc: Global, snapshot: &Snapshot) -> anyhow::Result<Version> {
+fn changed_version(alloc: Global, snapshot: Snapshot) -> anyhow::Result<Version> {
     let mut version = Version::of(alloc, snapshot)?;
     for _ in 0..EFFECTS_ENTRIES_LIMIT {
         if let Some(after) = after_put(alloc, &version)? {
@@ -68,7 +68,7 @@ fn changed_version(alloc: Global, snapshot: &Snapshot) -> anyhow::Result<Version
 /// A version of so many rows, after as many changes as versions keep the effects of.
 fn make_version(alloc: Global, rows: usize) -> anyhow::Result<Version> {
     let snapshot = make_snapshot(alloc, rows)?;
-    changed_version(alloc, &snapshot)
+    changed_version(alloc, snapshot)
 }
 
 /// The value of the tag that the replies about documents have.

@@ -202,19 +202,19 @@ fn print_made(
 fn lay_snapshot(
     rt: &HostRuntime,
     alloc: Global,
-    snapshot: &Snapshot,
+    snapshot: Snapshot,
     before: u64,
     rounds: usize,
     times: bool,
 ) -> anyhow::Result<()> {
-    let rows = snapshot.rows.as_slice();
     let filled = memory(rt)?;
     let start = used_micros(rt)?;
     let version = Version::of(alloc, snapshot)?;
     if times {
-        print_made(rt, rows.len(), before, filled, start)?;
+        print_made(rt, version.count(), before, filled, start)?;
     }
-    use_version(rt, alloc, &version, rows, rounds, times)
+    let rows = version.rows(alloc)?;
+    use_version(rt, alloc, &version, rows.as_slice(), rounds, times)
 }
 
 /// Makes the version of a pod of so many rows, and uses it.
@@ -227,5 +227,5 @@ pub fn lay_pages(
 ) -> anyhow::Result<()> {
     let before = memory(rt)?;
     let snapshot = make_snapshot(alloc, count)?;
-    lay_snapshot(rt, alloc, &snapshot, before, rounds, times)
+    lay_snapshot(rt, alloc, snapshot, before, rounds, times)
 }

@@ -6,7 +6,8 @@
 //! `run` prints whether the version was as one list of rows after each entry, what governs each
 //! path, and the effects that are kept. `random` has a seed, and how many entries of its own making
 //! are to apply; it prints after how many of them the version was as the list, a copy of it too,
-//! and the version before as it was. `window` has a number of entries that touch the root, and
+//! and the version before as it was. `replayed` has the same, and prints whether a replay of these
+//! entries comes to the same version. `window` has a number of entries that touch the root, and
 //! prints which effects are kept after them. `fill` has a number of rows, and prints whether a pod
 //! of so many has a state and a version, and at how many of six paths they have the same.
 #![tactic(auto)]
@@ -23,6 +24,7 @@ fn answer(alloc: Global, fields: &[&str]) -> Result<String, AllocError> {
     let found = match fields {
         ["run", entries @ ..] => runs::run(alloc, entries),
         ["random", seed, count] => runs::random(alloc, seed, count),
+        ["replayed", seed, count] => runs::replayed(alloc, seed, count),
         ["fill", count] => runs::fill(alloc, count),
         ["window", count] => runs::window(alloc, count),
         _ => return String::from_str(alloc, "no case"),

@@ -5,7 +5,7 @@ use crate::shown::{access_text, effects_text, place_text, state_text};
 use entry_fits::fits as fits_touched;
 use pod_base::{Mem, NoMemory};
 use pod_command::Entry;
-use pod_pages::Version;
+use pod_pages::{Replay, Version};
 use pod_path::Path;
 use pod_rows::{PlainRows, PodState, StateFault, fits};
 use std::alloc::Global;
@@ -61,7 +61,7 @@ fn memory(fault: StateFault) -> NoMemory {
 fn start(alloc: Global) -> Mem<Both> {
     let snapshot = first(alloc)?;
     match PlainRows::of(alloc, &snapshot) {
-        Ok(plain) => match Version::of(alloc, &snapshot) {
+        Ok(plain) => match Version::of(alloc, snapshot) {
             Ok(version) => Ok(Both {
                 plain,
                 version,
@@ -228,12 +228,14 @@ fn words(alloc: Global, version: &Version, paths: &[Path], number: u64) -> Mem<(
     Ok((text, now))
 }
 
-/// A run from a seed, until so many entries applied, or 64 times as many were tried.
-pub fn random(alloc: Global, seed: &str, count: &str) -> Mem<String> {
+/// Both after a run from a seed, until so many entries applied, or 64 times as many were tried; and
+/// the words of the entries that applied.
+fn run_random(alloc: Global, seed: &str, count: &str) -> Mem<(Both, Vec<String>)> {
     let mut number: u64 = seed.parse().unwrap_or(0);
     let count: usize = count.parse().unwrap_or(0);
     let paths = all_paths(alloc)?;
     let mut both = start(alloc)?;
+    let mut applied = Vec::new(alloc);
     for _ in 0..count.saturating_mul(64) {
         if both.applied >= count {
             break;
@@ -242,9 +244,57 @@ pub fn random(alloc: Global, seed: &str, count: &str) -> Mem<String> {
         number = next;
         if let Some(next) = step(alloc, &both, text.as_str(), paths.as_slice())? {
             both = next;
+            applied.push(text)?;
         }
     }
+    Ok((both, applied))
+}
+
+/// A run from a seed, until so many entries applied, or 64 times as many were tried.
+pub fn random(alloc: Global, seed: &str, count: &str) -> Mem<String> {
+    let (both, _applied) = run_random(alloc, seed, count)?;
     Ok(format!(in alloc; "{} of {} the same", both.same, both.applied)?)
+}
+
+/// The replay after an entry, if it applies.
+fn replay_after(alloc: Global, replay: Replay, words: &str) -> Mem<Option<Replay>> {
+    let entry = entry(alloc, replay.version().next(), words)?;
+    if !fits_touched(alloc, replay.version(), &entry)? {
+        return Ok(None);
+    }
+    let next = replay.after(alloc, &entry)?;
+    Ok(Some(next))
+}
+
+/// The version to which entries come, if each of them applies.
+fn version_replayed(alloc: Global, entries: &[String]) -> Mem<Option<Version>> {
+    let Some(replay) = made(Replay::of(alloc, first(alloc)?))? else {
+        return Ok(None);
+    };
+    let mut replay = replay;
+    for words in entries {
+        match replay_after(alloc, replay, words.as_str())? {
+            Some(next) => replay = next,
+            None => return Ok(None),
+        }
+    }
+    Ok(Some(replay.into_version()))
+}
+
+/// Whether the entries of a run from a seed come to the same in place.
+pub fn replayed(alloc: Global, seed: &str, count: &str) -> Mem<String> {
+    let (both, applied) = run_random(alloc, seed, count)?;
+    let Some(version) = version_replayed(alloc, applied.as_slice())? else {
+        return Ok(String::from_str(alloc, "an entry doesn't apply")?);
+    };
+    let paths = all_paths(alloc)?;
+    let wanted = state_text(alloc, &both.version, paths.as_slice())?;
+    let found = state_text(alloc, &version, paths.as_slice())?;
+    let effects = effects_text(alloc, &both.version)?;
+    let same = found.as_str() == wanted.as_str()
+        && effects_text(alloc, &version)?.as_str() == effects.as_str();
+    let word = if same { "the same" } else { "another" };
+    Ok(format!(in alloc; "{word} after {} entries", both.applied)?)
 }
 
 /// How many effects a version keeps after so many touches of the root, and of which entries.
@@ -303,7 +353,7 @@ fn same_places(alloc: Global, plain: &PlainRows, version: &Version) -> Mem<usize
 pub fn fill(alloc: Global, count: &str) -> Mem<String> {
     let snapshot = full(alloc, count.parse().unwrap_or(0))?;
     let plain = made(PlainRows::of(alloc, &snapshot))?;
-    match (plain, made(Version::of(alloc, &snapshot))?) {
+    match (plain, made(Version::of(alloc, snapshot))?) {
         (Some(plain), Some(version)) => {
             let same = same_places(alloc, &plain, &version)?;
             let (rows, pages) = (plain.count(), version.count());

@@ -143,7 +143,7 @@ beside_edits (edit ∷ more) rows x q e h = by_first (edited rows edit) refl e (
 
 -- ---- effects that are kept
 
-filter_append : (p : Effect → Bool) (xs ys : List Effect) → filter p (xs ++ ys) ≡ filter p xs ++ filter p ys
+pub filter_append : (p : Effect → Bool) (xs ys : List Effect) → filter p (xs ++ ys) ≡ filter p xs ++ filter p ys
 filter_append p [] ys = refl
 filter_append p (x ∷ xs) ys = by_test (p x) (filter_append p xs ys)
   where
@@ -157,7 +157,7 @@ one_seq seq rows (edits.Change path change modified) = refl
 one_seq seq rows (edits.Touch path modified) = refl
 one_seq seq rows (edits.Remove path) = refl
 
-all_new : (oldest seq : ℕ) → nat_le oldest seq ≡ true → (o : Option (List Row)) (list : List Edit) → kept_effects oldest (effects_of seq o list) ≡ effects_of seq o list
+pub all_new : (oldest seq : ℕ) → nat_le oldest seq ≡ true → (o : Option (List Row)) (list : List Edit) → kept_effects oldest (effects_of seq o list) ≡ effects_of seq o list
 all_new oldest seq h o [] = refl
 all_new oldest seq h None (edit ∷ more) = all_new oldest seq h None more
 all_new oldest seq h (Some rows) (edit ∷ more) =

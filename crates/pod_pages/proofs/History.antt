@@ -1,5 +1,5 @@
 -- Versions after the entries of a history.
-use Rattle.std.proofs.Common.{◌≡◌, ◌+◌, ◌-◌, ◌≤◌, ℕ, suc, Bool, true, false, cond, List, [], ◌∷◌, ◌++◌, length, filter, refl, sym, ap, ◌∙◌, arith, append_assoc}
+use Rattle.std.proofs.Common.{◌≡◌, ◌+◌, ◌-◌, ◌≤◌, ℕ, suc, Bool, true, false, cond, List, [], ◌∷◌, ◌++◌, length, refl, sym, ap, ◌∙◌, arith, append_assoc}
 use Rattle.std.specs.Prelude.{nat_le}
 use Rattle.std.proofs.lemmas.Bool.{leb-true, le-leb, leb-false}
 use Rattle.std.proofs.lemmas.List.{append-nil}
@@ -10,6 +10,7 @@ use Rattle.pod_rows.specs.WellFormed.{pod_of}
 use Rattle.pod_pages.specs.Effects.{entry_effects, history_effects, kept_effects, oldest_after}
 use Rattle.pod_pages.specs.State.{VersionState, first_state, state_after, states_after}
 use Rattle.pod_pages.specs.declared.effects.Effect.{Effect}
+use Rattle.pod_pages.proofs.EditSteps.{filter_append}
 
 pub pod_replayed : (v : VersionState) (history : List Entry) → (states_after v history).pod ≡ replayed v.pod history
 pod_replayed v [] = refl
@@ -21,7 +22,7 @@ next_replayed v (entry ∷ more) = next_replayed (state_after v entry) more ∙ 
 
 -- ---- the oldest entry
 
-oldest_grows : (oldest next : ℕ) → oldest ≤ oldest_after oldest next
+pub oldest_grows : (oldest next : ℕ) → oldest ≤ oldest_after oldest next
 oldest_grows oldest next = by_test (nat_le oldest (next - 256)) refl
   where
     by_test : (b : Bool) → nat_le oldest (next - 256) ≡ b → oldest ≤ cond b (next - 256) oldest
@@ -72,15 +73,7 @@ oldest_replayed v (entry ∷ more) h =
 
 -- ---- the effects
 
-filter_append : (p : Effect → Bool) (xs ys : List Effect) → filter p (xs ++ ys) ≡ filter p xs ++ filter p ys
-filter_append p [] ys = refl
-filter_append p (x ∷ xs) ys = by_test (p x) (filter_append p xs ys)
-  where
-    by_test : (b : Bool) → filter p (xs ++ ys) ≡ filter p xs ++ filter p ys → cond b (x ∷ filter p (xs ++ ys)) (filter p (xs ++ ys)) ≡ cond b (x ∷ filter p xs) (filter p xs) ++ filter p ys
-    by_test true more = ap (λ (zs : List Effect). x ∷ zs) more
-    by_test false more = more
-
-kept_later : (oldest later : ℕ) → oldest ≤ later → (xs : List Effect) → kept_effects later (kept_effects oldest xs) ≡ kept_effects later xs
+pub kept_later : (oldest later : ℕ) → oldest ≤ later → (xs : List Effect) → kept_effects later (kept_effects oldest xs) ≡ kept_effects later xs
 kept_later oldest later h [] = refl
 kept_later oldest later h (x ∷ xs) = by_tests (nat_le oldest x.seq) (nat_le later x.seq) refl refl (kept_later oldest later h xs)
   where

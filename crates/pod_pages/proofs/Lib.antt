@@ -10,4 +10,6 @@ pub mod Assembled
 pub mod Readiness
 pub mod EditSteps
 pub mod VersionLaws
+pub mod Placed
 pub mod History
+pub mod Replaying

@@ -183,6 +183,11 @@ unmarked_order [] o = Rattle.row_pages.proofs.Ordered.order_nil
 unmarked_order (r ∷ rs) o =
     Rattle.row_pages.proofs.Ordered.order_cons (unmarked r) (map unmarked rs) (unmarked_after r.path rs (Rattle.pod_rows.proofs.OrderedRows.order_first r rs o)) (unmarked_order rs (Rattle.pod_rows.proofs.OrderedRows.order_rest r rs o))
 
+-- all rows are done where none is left
+pub unmarked_all : (items : List Placed) (rest rows : List Row) → length rest ≡ 0 → items ++ map unmarked rest ≡ map unmarked rows → items ≡ map unmarked rows
+unmarked_all items [] rows none all = sym (Rattle.std.proofs.lemmas.List.append-nil items) ∙ all
+unmarked_all items (r ∷ rs) rows none all = absurd (omega (arith, none))
+
 -- ---- the version of a snapshot
 
 pub first_ready : (snapshot : Snapshot) (items : List Placed) (places : Places) (paths : List (List ℕ)) → IsWellFormedSnapshot snapshot → items ≡ map unmarked snapshot.rows.items → places ≡ []
@@ -228,6 +233,11 @@ after_kept state new items now places places' entry k a same r =
       kept = omega (arith, oldest_most state.oldest state.next k.kept);
     })
 
+-- the effects of the entry are kept
+pub recent : (state : VersionState) (entry : Entry) → Applies state.pod state.next entry → state.oldest ≤ state.next → nat_le (oldest_after state.oldest (state.next + 1)) entry.seq ≡ true
+recent state entry a most =
+    Rattle.std.proofs.lemmas.Bool.le-leb (oldest_after state.oldest (state.next + 1)) entry.seq (omega (arith, a.number, oldest_most state.oldest state.next most))
+
 pub after_state : (state : VersionState) (entry : Entry) (items now : List Placed) (next oldest : ℕ) (base owner : List ℕ) (kept effects : List Effect) → (a : Applies state.pod state.next entry) → state.pod.rows ≡ rows_of items → state.oldest ≤ state.next
     → Some (rows_of now) ≡ after_edits (Some (rows_of items)) entry.edits.items → next ≡ state.next + 1 → base ≡ state.pod.base → owner ≡ state.pod.owner → oldest ≡ oldest_after state.oldest (state.next + 1)
     → kept ≡ kept_effects oldest state.effects → effects ≡ kept ++ effects_of entry.seq (Some (rows_of items)) entry.edits.items
@@ -239,7 +249,7 @@ after_state state entry items now next oldest base owner kept effects a same mos
     (sym rows ∙ sym (ap (λ o. (with_rows_if state.pod o).rows) a.edits))
     (ee ∙ ap (λ (xs : List Effect). xs ++ effects_of entry.seq (Some (rows_of items)) entry.edits.items) (ek ∙ ap (λ (n : ℕ). kept_effects n state.effects) el)
     ∙ ap (λ (rs : List Row). kept_effects oldest_now state.effects ++ effects_of entry.seq (Some rs) entry.edits.items) (sym same)
-    ∙ kept_all oldest_now entry.seq state.effects (Some state.pod.rows) entry.edits.items recent)
+    ∙ kept_all oldest_now entry.seq state.effects (Some state.pod.rows) entry.edits.items (recent state entry a most))
     el
   where
     oldest_now : ℕ
@@ -250,9 +260,6 @@ after_state state entry items now next oldest base owner kept effects a same mos
 
     rows : a.rows ≡ rows_of now
     rows = cc
-
-    recent : nat_le oldest_now entry.seq ≡ true
-    recent = Rattle.std.proofs.lemmas.Bool.le-leb oldest_now entry.seq (omega (arith, a.number, oldest_most state.oldest state.next most))
 
 -- other effects
 pub kept_with : (next : ℕ) (base owner : List ℕ) (items : List Placed) (effects others : List Effect) (oldest : ℕ) (places : Places) → IsVersion (state_of next base owner items effects oldest) items places

@@ -5,4 +5,5 @@ pub mod Marks
 pub mod Lists
 pub mod Edited
 pub mod Numbering
+pub mod Placings
 pub mod Versions

@@ -1,5 +1,5 @@
 //! [`Effect`]: what one edit of an entry did to a row.
-ghost use Rattle.std.specs.Prelude.{◌≡◌, IfOk};
+ghost use Rattle.std.specs.Prelude.{◌≡◌, IfOk, OnOk};
 ghost use Rattle.pod_rows.specs.Pod.{is_row};
 ghost use Rattle.row_pages.specs.Items.{rows_of};
 ghost use Rattle.pod_pages.specs.Effects.{effect_of, effect_on, kept_effects, oldest_after};
@@ -7,7 +7,7 @@ ghost use Rattle.pod_pages.specs.Effects.{put_kind};
 
 use crate::limits::EFFECTS_ENTRIES_LIMIT;
 use pod_base::Mem;
-use pod_command::Edit;
+use pod_command::{Edit, Row};
 use pod_path::Path;
 use row_pages::Rows;
 use std::alloc::Global;
@@ -111,4 +111,25 @@ pub(crate) fn drop_old(effects: &mut Vec<Effect>, oldest: u64)
     ensures { effects.new.items ≡ kept_effects oldest effects.old.items }
 {
     effects.retain(|effect| oldest <= effect.seq);
+}
+
+/// Makes room for one more effect: it drops the effects of the entries before a number, where all
+/// room is taken, and then makes room for as many as are left. So dropping costs little for each.
+pub(crate) fn make_room(effects: &mut Vec<Effect>, oldest: u64) -> Mem<()>
+    ensures { OnOk result (kept_effects oldest effects.new.items
+        ≡ kept_effects oldest effects.old.items) }
+{
+    if effects.len() < effects.capacity() {
+        return Ok(());
+    }
+    drop_old(effects, oldest);
+    effects.reserve(effects.len().saturating_add(1))?;
+    Ok(())
+}
+
+/// The effect of putting a row, by whether it replaces one.
+pub(crate) fn put_effect(alloc: Global, seq: u64, row: &Row, replaces: bool) -> Mem<Effect>
+    ensures { IfOk result (λ made. made ≡ effect_on seq row.now.path (put_kind replaces)) }
+{
+    make_effect(alloc, seq, &row.path, put_kind(replaces))
 }

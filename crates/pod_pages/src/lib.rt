@@ -1,7 +1,7 @@
 //! A pod in pages that versions share.
 //!
 //! ```text
-//! let version = Version::of(alloc, &snapshot)?;      // refused where it isn't well-formed
+//! let version = Version::of(alloc, snapshot)?;       // refused where it isn't well-formed
 //! let next = version.after(alloc, &entry)?;          // shares what the entry doesn't change
 //! let found = next.find_counted(&path, &mut steps);  // a row and its access list, in one search
 //! let changed = next.effects();                      // of the last 256 entries
@@ -10,11 +10,11 @@
 //! Contracts see a version as its pod, the number of its next change, and the effects that it
 //! keeps; they say nothing of pages. Proved: `of` refuses exactly the snapshots that aren't
 //! well-formed (`refused`, `well_formed`); a version has all that a [`pod_rows::PodState`] has;
-//! `after` is the version after an entry (`Version::after_entry`, and of a version that isn't needed
-//! any more `Version::into_after`); `find_counted` finds the row and
-//! the access list that governs it, and reads at most 16 paths more than the number of rows has
-//! binary digits (`cost`); a copy is equal (`Version::share`). [`laws`] says what a version is
-//! after a history. No clause says which memory is shared.
+//! `after` is the version after an entry (`Version::after_entry`), and so is [`Replay::after`],
+//! which changes in place what nobody looks at; `find_counted` finds the row and the access list
+//! that governs it, and reads at most 16 paths more than the number of rows has binary digits
+//! (`cost`); a copy is equal (`Version::share`). [`laws`] says what a version is after a history.
+//! No clause says which memory is shared.
 //!
 //! The crate stands on `row_pages`, `access_index`, `pod_rows`, `acl_rules`, `pod_command`,
 //! `rdf_graph`, `pod_path`, `iri_ref` and `pod_base`.
@@ -27,12 +27,15 @@ mod limits;
 mod lists;
 mod mark_all;
 mod numbers;
+mod one_row;
 mod relist;
 mod remark;
+mod replay;
 mod resolved;
 mod version;
 
 pub use effects::{Effect, EffectKind};
 pub use limits::EFFECTS_ENTRIES_LIMIT;
+pub use replay::Replay;
 pub use row_pages::Steps;
 pub use version::Version;

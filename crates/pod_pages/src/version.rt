@@ -1,6 +1,8 @@
 //! [`Version`]: a state of a pod in pages that versions share.
-ghost use Rattle.std.specs.Prelude.{◌≡◌, ◌+◌, ◌<◌, ◌≤◌, ◌^◌, ℕ, [], IfOk, IfNone, IfSome, IsErrOf};
-ghost use Rattle.std.specs.Prelude.{List as ListOf, None, Some, filter, is_some, length, map, refl, true};
+ghost use Rattle.std.specs.Prelude.{◌≡◌, ◌+◌, ◌<◌, ◌≤◌, ◌^◌, ◌++◌, ℕ, [], IfOk, IfNone, IfSome};
+ghost use Rattle.std.specs.Prelude.{IsErrOf, OnOk};
+ghost use Rattle.std.specs.Prelude.{List as ListOf, None, Some, filter, is_some, length, map, refl};
+ghost use Rattle.std.specs.Prelude.{true};
 ghost use Rattle.pod_command.specs.Encodable.{AreInOrder};
 ghost use Rattle.pod_command.specs.declared.row.Row.{Row};
 ghost use Rattle.pod_rows.specs.Access.{effective_of, governed, rules_at};
@@ -12,15 +14,16 @@ ghost use Rattle.pod_rows.specs.WellFormed.{IsWellFormedSnapshot, pod_of};
 ghost use Rattle.row_pages.specs.Items.{Placed, rows_of};
 ghost use Rattle.pod_pages.specs.Lists.{list_at};
 ghost use Rattle.pod_pages.specs.Marks.{how_of};
-ghost use Rattle.pod_pages.specs.Effects.{kept_effects, oldest_after};
+ghost use Rattle.pod_pages.specs.Effects.{entry_effects, kept_effects, oldest_after};
 ghost use Rattle.pod_pages.specs.State.{first_state, state_after, with_effects};
 ghost use Rattle.pod_pages.specs.Versions.{path_of_edit, unmarked};
 ghost use Rattle.pod_pages.specs.declared.effects.Effect.{Effect as EffectValue};
 
 use crate::edits::{after_edits, row_at};
-use crate::effects::{Effect, drop_old, is_row, kept_effects, oldest_after};
+use crate::effects::{Effect, is_row, kept_effects, oldest_after};
 use crate::lists::ListTable;
 use crate::numbers::path_mark;
+use crate::one_row::{edit_path, placing_of, put_placing};
 use crate::resolved::marked_again;
 use acl_rules::{Groups, How};
 use iri_ref::Iri;
@@ -67,13 +70,13 @@ impl Version {
     /// # Errors
     ///
     /// [`StateFault::NotWellFormed`] exactly where the snapshot isn't well-formed.
-    pub fn of(alloc: Global, snapshot: &Snapshot) -> Result<Version, StateFault>
-        ensures version { IfOk result (λ version. version ≡ first_state snapshot.now) }
-        ensures well_formed { IfOk result (λ _. IsWellFormedSnapshot snapshot.now) }
+    pub fn of(alloc: Global, snapshot: Snapshot) -> Result<Version, StateFault>
+        ensures version { IfOk result (λ version. version ≡ first_state snapshot) }
+        ensures well_formed { IfOk result (λ _. IsWellFormedSnapshot snapshot) }
         ensures refused { IsErrOf result StateFault.NotWellFormed
-            → IsWellFormedSnapshot snapshot.now → ⊥ }
+            → IsWellFormedSnapshot snapshot → ⊥ }
     {
-        if !is_snapshot_well_formed(alloc, snapshot)? {
+        if !is_snapshot_well_formed(alloc, &snapshot)? {
             return Err(StateFault::NotWellFormed);
         }
         let version = first_version(alloc, snapshot)?;
@@ -149,36 +152,39 @@ impl Version {
 }
 
 /// The version of a snapshot that is well-formed.
-fn first_version(alloc: Global, snapshot: &Snapshot) -> Mem<Version>
-    requires { IsWellFormedSnapshot snapshot.now }
-    ensures { IfOk result (λ version. version ≡ first_state snapshot.now) }
+fn first_version(alloc: Global, snapshot: Snapshot) -> Mem<Version>
+    requires { IsWellFormedSnapshot snapshot }
+    ensures { IfOk result (λ version. version ≡ first_state snapshot) }
 {
-    let rows = first_rows(alloc, snapshot.rows.as_slice())?;
-    let paths = paths_of(alloc, snapshot.rows.as_slice())?;
+    let Snapshot {
+        seq,
+        base,
+        owner,
+        rows,
+    } = snapshot;
+    let paths = paths_of(alloc, rows.as_slice())?;
+    let rows = first_rows(alloc, rows)?;
     let none = ListTable::new(alloc, Vec::new(alloc))?;
-    let resolved = marked_again(alloc, &snapshot.base, &rows, &none, &rows, paths.as_slice())?;
-    let base = copy_iri(alloc, &snapshot.base)?;
-    let owner = snapshot.owner.copy(alloc)?;
+    let resolved = marked_again(alloc, &base, &rows, &none, &rows, paths.as_slice())?;
     Ok(Version {
-        next: snapshot.seq,
+        next: seq,
         base,
         owner,
         rows: resolved.rows,
         table: resolved.table,
         effects: Vec::new(alloc),
-        oldest: snapshot.seq,
+        oldest: seq,
     })
 }
 
-/// The rows without marks.
-fn first_rows(alloc: Global, rows: &[Row]) -> Mem<Rows>
-    requires { AreInOrder rows.now }
-    ensures { IfOk result (λ all. all ≡ map unmarked rows.now) }
+/// The rows without marks. None is copied.
+fn first_rows(alloc: Global, rows: List<Row>) -> Mem<Rows>
+    requires { AreInOrder rows.items }
+    ensures { IfOk result (λ all. all ≡ map unmarked rows.items) }
 {
     let mut items = Vec::with_capacity(alloc, rows.len())?;
-    for row in rows {
-        let copy = row.copy(alloc)?;
-        let item = Item::new(alloc, copy, 0, false)?;
+    for row in rows.into_vec() {
+        let item = Item::new(alloc, row, 0, false)?;
         items.push(item)?;
     }
     let all = Rows::of(alloc, items.as_slice())?;
@@ -195,22 +201,6 @@ fn paths_of(alloc: Global, rows: &[Row]) -> Mem<Vec<Path>>
         paths.push(path)?;
     }
     Ok(paths)
-}
-
-/// The path of an edit.
-fn edit_path(edit: &Edit) -> &Path
-    ensures { result.now ≡ path_of_edit edit.entry.now }
-{
-    match edit {
-        Edit::Put(row) => &row.path,
-        Edit::Change {
-            path,
-            change: _,
-            modified: _,
-        } => path,
-        Edit::Touch { path, modified: _ } => path,
-        Edit::Remove { path } => path,
-    }
 }
 
 /// The paths of edits.
@@ -372,15 +362,76 @@ impl Version {
         self.after_with(alloc, entry, oldest, kept)
     }
 
-    /// [`Version::after_entry`] of a version that nobody needs any more: its effects aren't copied.
-    pub fn into_after(self, alloc: Global, entry: &Entry) -> Mem<Version>
-        requires { Applies self.pod self.next entry.now }
-        ensures { IfOk result (λ version. version ≡ state_after self entry.now) }
+    /// The number of the oldest entry whose effects are kept after the next one.
+    fn next_oldest(&self) -> u64
+        ensures { result ≡ oldest_after self.now.oldest (self.now.next + 1) }
     {
-        let oldest = oldest_after(self.oldest, self.next + 1);
-        let (bare, mut kept) = self.into_bare(alloc);
-        drop_old(&mut kept, oldest);
-        bare.after_with(alloc, entry, oldest, kept)
+        oldest_after(self.oldest, self.next + 1)
+    }
+
+    /// The version without effects after an entry that applies to it, of a version that nobody
+    /// needs any more. It appends the effects of the entry.
+    ///
+    /// An entry that puts one row alone, and no access list, changes a version in place that nobody
+    /// shares: no page is copied.
+    pub(crate) fn into_next(
+        self,
+        alloc: Global,
+        entry: &Entry,
+        effects: &mut Vec<Effect>,
+    ) -> Mem<Version>
+        requires { Applies self.pod self.next entry.now }
+        ensures version { IfOk result (λ version. version
+            ≡ with_effects [] (state_after self entry.now)) }
+        ensures effects { OnOk result (effects.new.items
+            ≡ effects.old.items ++ entry_effects self.pod entry.now) }
+    {
+        match placing_of(alloc, &self.rows, entry)? {
+            Some(placing) => {
+                let oldest = self.next_oldest();
+                let rows = put_placing(alloc, self.rows, entry.seq, placing, effects)?;
+                Ok(Version {
+                    next: self.next + 1,
+                    base: self.base,
+                    owner: self.owner,
+                    rows,
+                    table: self.table,
+                    effects: Vec::new(alloc),
+                    oldest,
+                })
+            }
+            None => self.into_edited(alloc, entry, effects),
+        }
+    }
+
+    /// [`Version::into_next`] of any entry.
+    fn into_edited(self, alloc: Global, entry: &Entry, effects: &mut Vec<Effect>) -> Mem<Version>
+        requires { Applies self.pod self.next entry.now }
+        ensures version { IfOk result (λ version. version
+            ≡ with_effects [] (state_after self entry.now)) }
+        ensures effects { OnOk result (effects.new.items
+            ≡ effects.old.items ++ entry_effects self.pod entry.now) }
+    {
+        let oldest = self.next_oldest();
+        let next = self.after_with(alloc, entry, oldest, Vec::new(alloc))?;
+        let (bare, mut new) = next.into_bare(alloc);
+        effects.append(&mut new)?;
+        Ok(bare)
+    }
+
+    /// The version with these effects in place of its own.
+    pub(crate) fn with_effects(self, effects: Vec<Effect>) -> Version
+        ensures { result ≡ with_effects effects.items self }
+    {
+        Version {
+            next: self.next,
+            base: self.base,
+            owner: self.owner,
+            rows: self.rows,
+            table: self.table,
+            effects,
+            oldest: self.oldest,
+        }
     }
 
     /// The version without its effects, and these.

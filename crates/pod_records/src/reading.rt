@@ -19,7 +19,7 @@ ghost use Rattle.pod_rows.specs.WellFormed.{IsWellFormedSnapshot};
 use entry_fits::fits;
 use pod_base::{Bytes, Mem, Moment, NoMemory};
 use pod_command::{Entry, ReadBack, Snapshot, decode_entry, decode_entry_1, decode_snapshot};
-use pod_pages::Version;
+use pod_pages::{Replay, Version};
 use pod_rows::StateFault;
 use std::alloc::Global;
 
@@ -48,39 +48,45 @@ impl From<NoMemory> for RecordFault {
     }
 }
 
-/// What records hold: the pod after their entries, the moment of the last entry, and the offset of
-/// the gate after them.
+/// What records hold: the pod after their entries, and the moment of the last entry.
 #[derive(Drop)]
 pub struct Reading {
     pub version: Version,
     pub last: Option<Moment>,
-    pub at: u64,
 }
 
-/// The version of a stored snapshot. None where the record isn't the text of a well-formed one.
-fn read_snapshot(alloc: Global, text: &[u8]) -> Mem<Option<Version>>
+/// What the records before the gate at an offset hold: entries are applied in place.
+#[derive(Drop)]
+struct Progress {
+    replay: Replay,
+    last: Option<Moment>,
+    at: u64,
+}
+
+/// The replay from a stored snapshot. None where the record isn't the text of a well-formed one.
+fn read_snapshot(alloc: Global, text: &[u8]) -> Mem<Option<Replay>>
     ensures some { IfOk result (λ found. IfSome found
         (IsSnapshotRead text.now)) }
     ensures none { IfOk result (λ found. found ≡ None
         → (snapshot : SnapshotValue) → IsSnapshotOf text.now snapshot → ⊥) }
 {
     match decode_snapshot(alloc, text) {
-        Ok(snapshot) => version_of(alloc, &snapshot),
+        Ok(snapshot) => replay_of(alloc, snapshot),
         Err(ReadBack::NotCanonical) => Ok(None),
         Err(ReadBack::NoMemory) => Err(NoMemory),
     }
 }
 
-/// The version of a snapshot. None where it isn't well-formed.
-fn version_of(alloc: Global, snapshot: &Snapshot) -> Mem<Option<Version>>
-    ensures version { IfOk result
-        (λ found. IfSome found (λ version. version ≡ first_state snapshot.now)) }
+/// The replay from a snapshot. None where it isn't well-formed.
+fn replay_of(alloc: Global, snapshot: Snapshot) -> Mem<Option<Replay>>
+    ensures replay { IfOk result
+        (λ found. IfSome found (λ replay. replay ≡ first_state snapshot)) }
     ensures well_formed { IfOk result
-        (λ found. IfSome found (λ _. IsWellFormedSnapshot snapshot.now)) }
-    ensures none { IfOk result (λ found. found ≡ None → IsWellFormedSnapshot snapshot.now → ⊥) }
+        (λ found. IfSome found (λ _. IsWellFormedSnapshot snapshot)) }
+    ensures none { IfOk result (λ found. found ≡ None → IsWellFormedSnapshot snapshot → ⊥) }
 {
-    match Version::of(alloc, snapshot) {
-        Ok(version) => Ok(Some(version)),
+    match Replay::of(alloc, snapshot) {
+        Ok(replay) => Ok(Some(replay)),
         Err(StateFault::NotWellFormed) => Ok(None),
         Err(StateFault::NoMemory) => Err(NoMemory),
     }
@@ -126,41 +132,41 @@ fn read_entry(alloc: Global, format: u8, text: &[u8]) -> Mem<Option<Entry>>
     }
 }
 
-/// The version after an entry. None where the entry doesn't apply.
-fn version_after(alloc: Global, version: Version, entry: &Entry) -> Mem<Option<Version>>
+/// The replay after an entry. None where the entry doesn't apply.
+fn replay_after(alloc: Global, replay: Replay, entry: &Entry) -> Mem<Option<Replay>>
     ensures applies { IfOk result (λ found. IfSome found
-        (λ _. Applies version.pod version.next entry.now)) }
+        (λ _. Applies replay.pod replay.next entry.now)) }
     ensures after { IfOk result
-        (λ found. IfSome found (λ after. after ≡ state_after version entry.now)) }
+        (λ found. IfSome found (λ after. after ≡ state_after replay entry.now)) }
     ensures none { IfOk result (λ found. found ≡ None
-        → Applies version.pod version.next entry.now → ⊥) }
+        → Applies replay.pod replay.next entry.now → ⊥) }
 {
-    if fits(alloc, &version, entry)? {
-        let after = version.into_after(alloc, entry)?;
+    if fits(alloc, replay.version(), entry)? {
+        let after = replay.after(alloc, entry)?;
         Ok(Some(after))
     } else {
         Ok(None)
     }
 }
 
-/// The version after the entry of a record, and the entry's moment. None where the record isn't the
+/// The replay after the entry of a record, and the entry's moment. None where the record isn't the
 /// text of an entry that applies.
 fn read_next(
     alloc: Global,
     format: u8,
-    version: Version,
+    replay: Replay,
     text: &[u8],
-) -> Mem<Option<(Version, Moment)>>
+) -> Mem<Option<(Replay, Moment)>>
     requires { (format ≡ 1) ⊎ (format ≡ 2) }
     ensures some { IfOk result (λ found. IfSome found (λ next.
         (bodies : List (List ℕ)) (last : Option MomentValue)
-        → IsReadTo format bodies version last
+        → IsReadTo format bodies replay last
         → IsReadTo format (bodies ++ text.now ∷ []) next.0 (Some next.1))) }
     ensures none { IfOk result (λ found. found ≡ None
-        → HasNoEntry format text.now version.pod version.next) }
+        → HasNoEntry format text.now replay.pod replay.next) }
 {
     match read_entry(alloc, format, text)? {
-        Some(entry) => match version_after(alloc, version, &entry)? {
+        Some(entry) => match replay_after(alloc, replay, &entry)? {
             Some(after) => Ok(Some((after, entry.moment))),
             None => Ok(None),
         },
@@ -168,19 +174,19 @@ fn read_next(
     }
 }
 
-impl Reading {
+impl Progress {
     /// What the first record holds.
-    fn begin(alloc: Global, text: &[u8]) -> Result<Reading, RecordFault>
+    fn begin(alloc: Global, text: &[u8]) -> Result<Progress, RecordFault>
         requires { frame_len text.now + 16 < 2 ^ 64 }
-        ensures read { IfOk result (λ reading. (format : ℕ)
-            → IsReadTo format (text.now ∷ []) reading.version reading.last) }
-        ensures at { IfOk result (λ reading. reading.at ≡ gate_after (text.now ∷ [])) }
+        ensures read { IfOk result (λ progress. (format : ℕ)
+            → IsReadTo format (text.now ∷ []) progress.replay progress.last) }
+        ensures at { IfOk result (λ progress. progress.at ≡ gate_after (text.now ∷ [])) }
         ensures cause { IfErr result (λ fault. (format : ℕ) (rest : List (List ℕ))
             → HasRecordCause format (text.now ∷ rest) fault) }
     {
         match read_snapshot(alloc, text)? {
-            Some(version) => Ok(Reading {
-                version,
+            Some(replay) => Ok(Progress {
+                replay,
                 last: None,
                 at: FIRST_GATE + FRAME_LEN + text.len() as u64,
             }),
@@ -189,22 +195,22 @@ impl Reading {
     }
 
     /// What it holds with the next record.
-    fn after(self, alloc: Global, format: u8, text: &[u8]) -> Result<Reading, RecordFault>
+    fn after(self, alloc: Global, format: u8, text: &[u8]) -> Result<Progress, RecordFault>
         requires format { (format ≡ 1) ⊎ (format ≡ 2) }
         requires room { self.at + frame_len text.now < 2 ^ 64 }
         ensures read { IfOk result (λ next. (bodies : List (List ℕ))
-            → IsReadTo format bodies self.version self.last
-            → IsReadTo format (bodies ++ text.now ∷ []) next.version next.last) }
+            → IsReadTo format bodies self.replay self.last
+            → IsReadTo format (bodies ++ text.now ∷ []) next.replay next.last) }
         ensures at { IfOk result (λ next. next.at ≡ self.at + frame_len text.now) }
         ensures cause { IfErr result (λ fault. (bodies rest : List (List ℕ))
-            → IsReadTo format bodies self.version self.last
+            → IsReadTo format bodies self.replay self.last
             → self.at ≡ gate_after bodies
             → HasRecordCause format (bodies ++ text.now ∷ rest) fault) }
     {
         let at = self.at;
-        match read_next(alloc, format, self.version, text)? {
-            Some((version, moment)) => Ok(Reading {
-                version,
+        match read_next(alloc, format, self.replay, text)? {
+            Some((replay, moment)) => Ok(Progress {
+                replay,
                 last: Some(moment),
                 at: at + FRAME_LEN + text.len() as u64,
             }),
@@ -231,10 +237,13 @@ pub fn read_records(
         reading.version reading.last) }
     ensures cause { IfErr result (HasRecordCause format (snapshot.now ∷ entries.now)) }
 {
-    let mut reading = Reading::begin(alloc, snapshot)?;
+    let mut progress = Progress::begin(alloc, snapshot)?;
     for record in entries {
-        let next = reading.after(alloc, format, record.as_slice())?;
-        reading = next;
+        let next = progress.after(alloc, format, record.as_slice())?;
+        progress = next;
     }
-    Ok(reading)
+    Ok(Reading {
+        version: progress.replay.into_version(),
+        last: progress.last,
+    })
 }

@@ -38,7 +38,7 @@ fn first_state(alloc: Global, owner: &Iri, moment: Moment) -> Mem<Version>
     let base = base(alloc)?;
     let snapshot = first_snapshot(alloc, &base, owner, moment)?;
     first_pods_are_well_formed();
-    match Version::of(alloc, &snapshot) {
+    match Version::of(alloc, snapshot) {
         Ok(state) => Ok(state),
         Err(StateFault::NoMemory) => Err(NoMemory),
         Err(StateFault::NotWellFormed) => unreachable!(),

@@ -5,6 +5,6 @@ use Rattle.pod_records.proofs.reading.read_records.Given as goal
 
 abbrev pub invariant-loop-record : goal.invariant-loop-record
 invariant-loop-record l = record {
-  read : IsReadTo l.fn.format (l.fn.snapshot ∷ take l.record-index l.fn.entries) l.reading.version l.reading.last;
-  at : l.reading.at ≡ gate_after (l.fn.snapshot ∷ take l.record-index l.fn.entries);
+  read : IsReadTo l.fn.format (l.fn.snapshot ∷ take l.record-index l.fn.entries) l.progress.replay l.progress.last;
+  at : l.progress.at ≡ gate_after (l.fn.snapshot ∷ take l.record-index l.fn.entries);
 }
