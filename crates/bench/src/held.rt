@@ -3,7 +3,7 @@
 use pod_base::{Mem, Request, Stamp};
 use pod_core::is_change;
 use pod_disk::{Disk, Disks};
-use pod_live::{CommitFault, Done, Keeper, NotOpened, Version};
+use pod_keeper::{CommitFault, Done, Keeper, NotOpened, Version};
 use std::alloc::Global;
 use std::marker::Model;
 use token_table::Asked;
@@ -15,7 +15,7 @@ pub struct Held<D: Disk> {
 }
 
 impl<D: Disk> Model for Held<D> {
-    ghost use Rattle.pod_live.specs.Kept.{StandsForSome};
+    ghost use Rattle.pod_keeper.specs.Kept.{StandsForSome};
 
     ghost Value = { Unit {0} };
 

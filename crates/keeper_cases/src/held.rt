@@ -2,12 +2,12 @@
 
 ghost use Rattle.std.specs.Prelude.{◌≡◌};
 ghost use Rattle.pod_disk.specs.NotedCalls.{MayLeave};
-ghost use Rattle.pod_live.specs.Kept.{StandsForSome};
+ghost use Rattle.pod_keeper.specs.Kept.{StandsForSome};
 
 use pod_base::{Bytes, List, Mem, Moment, Request, Stamp, Text};
 use pod_core::is_change;
 use pod_disk::{Disks, MemDisk};
-use pod_live::{CommitFault, Done, Keeper, NotOpened, Version};
+use pod_keeper::{CommitFault, Done, Keeper, NotOpened, Version};
 use std::alloc::Global;
 use std::marker::Model;
 use token_table::Asked;
@@ -26,7 +26,7 @@ pub(crate) struct Held {
 
 impl Model for Held {
     ghost use Rattle.pod_disk.specs.NotedCalls.{MayLeave};
-    ghost use Rattle.pod_live.specs.Kept.{StandsForSome};
+    ghost use Rattle.pod_keeper.specs.Kept.{StandsForSome};
 
     ghost Value = { Unit {0} };
 

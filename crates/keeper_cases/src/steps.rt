@@ -7,7 +7,7 @@ use crate::requests::put;
 use crate::stores::{disk, disks_of, images};
 use pod_base::{Mem, NoMemory};
 use pod_disk::{Call, Disks, MemDisk, NotedCall};
-use pod_live::{CommitFault, Done};
+use pod_keeper::{CommitFault, Done};
 use pod_rows::PodState;
 use std::alloc::Global;
 

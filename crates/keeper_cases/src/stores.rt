@@ -13,7 +13,7 @@ use iri_ref::Iri;
 use pod_base::{Bytes, List, Mem, Method, Moment, NoMemory, Text};
 use pod_command::{Entry, ReadBack, decode_entry, encode_entry};
 use pod_disk::{Disks, MemDisk};
-use pod_live::{CommitFault, Keeper};
+use pod_keeper::{CommitFault, Keeper};
 use std::alloc::Global;
 
 /// A disk of these bytes whose calls of these numbers fail.

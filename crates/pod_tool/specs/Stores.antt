@@ -5,9 +5,9 @@ use Rattle.pod_command.specs.declared.entry.Entry.{Entry}
 use Rattle.pod_command.specs.declared.snapshot.Snapshot.{Snapshot}
 use Rattle.pod_core.specs.Session.{IsClockMoment}
 use Rattle.pod_io.specs.Visible.{IfVisible}
-use Rattle.pod_live.specs.CrashedPods.{StandsFor}
-use Rattle.pod_live.specs.NewStores.{new_history, IsNewStore}
-use Rattle.pod_live.specs.OpenedPods.{OpensDisks}
+use Rattle.pod_keeper.specs.CrashedPods.{StandsFor}
+use Rattle.pod_keeper.specs.NewStores.{new_history, IsNewStore}
+use Rattle.pod_keeper.specs.OpenedPods.{OpensDisks}
 use Rattle.store_commands.specs.Ends.{IsInitEnd, status_of}
 use Rattle.store_commands.specs.Making.{HoldsBytes}
 use Rattle.store_commands.specs.Prints.{Prints, Tells}

@@ -2,7 +2,7 @@
 ghost use Rattle.std.specs.Prelude.{◌≡◌, ◌≢◌, ◌⊎◌, ◌≤◌, IsTrue, IfSome, IsSome};
 ghost use Rattle.iri_ref.specs.Components.{IsAbsolute};
 ghost use Rattle.pod_base.specs.Counts.{CountIncreased};
-ghost use Rattle.pod_live.specs.OpenedPods.{OpensDisks};
+ghost use Rattle.pod_keeper.specs.OpenedPods.{OpensDisks};
 ghost use Rattle.pod_rows.specs.Base.{is_base};
 ghost use Rattle.pod_tool.specs.Stores.{IsUnbegun, Makes, PrintsStore};
 ghost use Rattle.pod_tool.specs.Texts.{text_of};

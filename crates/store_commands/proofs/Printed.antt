@@ -7,8 +7,8 @@ use Rattle.line_sink.specs.Writing.{Writes}
 use Rattle.pod_base.specs.Counts.{CountIncreased}
 use Rattle.pod_command.specs.declared.entry.Entry.{Entry}
 use Rattle.pod_command.specs.declared.snapshot.Snapshot.{Snapshot}
-use Rattle.pod_live.specs.KeeperState.{KeeperState}
-use Rattle.pod_live.specs.OpenedPods.{IsOpened}
+use Rattle.pod_keeper.specs.KeeperState.{KeeperState}
+use Rattle.pod_keeper.specs.OpenedPods.{IsOpened}
 use Rattle.pod_records.specs.OpenedStores.{HasPodCause}
 use Rattle.pod_records.specs.Records.{entry_text}
 use Rattle.store_lines.specs.Refusals.{TellsRefusal}

@@ -5,7 +5,7 @@ use Rattle.audit_trail.specs.Lines.{entry_line}
 use Rattle.pod_command.specs.declared.entry.Entry.{Entry}
 use Rattle.pod_command.specs.declared.snapshot.Snapshot.{Snapshot}
 use Rattle.pod_core.specs.History.{pod_at, end_of}
-use Rattle.pod_live.specs.Stored.{history_of}
+use Rattle.pod_keeper.specs.Stored.{history_of}
 
 -- how many rows the pod has, how many entries the active journal has, and the next number
 abbrev pub counts_line : ℕ → ℕ → ℕ → List ℕ

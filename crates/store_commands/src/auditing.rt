@@ -5,7 +5,7 @@ ghost use Rattle.audit_trail.specs.Lines.{entry_line};
 ghost use Rattle.line_sink.specs.Writing.{Writes};
 ghost use Rattle.pod_base.specs.Counts.{CountIncreased};
 ghost use Rattle.pod_command.specs.declared.entry.Entry.{Entry as EntryValue};
-ghost use Rattle.pod_live.specs.OpenedPods.{OpensDisks};
+ghost use Rattle.pod_keeper.specs.OpenedPods.{OpensDisks};
 ghost use Rattle.pod_records.specs.Readings.{IsEntryOf};
 ghost use Rattle.store_commands.specs.Prints.{Prints, Tells};
 ghost use Rattle.store_commands.specs.Records.{HasLine, HaveLines, IsRecordOf};
@@ -19,7 +19,7 @@ use pod_base::{Bytes, Mem, NoMemory};
 use pod_command::{Entry, ReadBack, decode_entry, decode_entry_1};
 use pod_disk::{Disk, Disks};
 use pod_io::Sink;
-use pod_live::Keeper;
+use pod_keeper::Keeper;
 use std::alloc::Global;
 
 /// The first byte of an entry in the format that is only read.

@@ -3,7 +3,7 @@ ghost use Rattle.std.specs.Prelude.{◌≡◌, ◌⊎◌, ◌≤◌, length, IsE
 ghost use Rattle.line_sink.specs.Writing.{Writes};
 ghost use Rattle.pod_base.specs.Counts.{CountIncreased};
 ghost use Rattle.pod_io.specs.Counts.{CountsFaults};
-ghost use Rattle.pod_live.specs.OpenedPods.{OpensDisks};
+ghost use Rattle.pod_keeper.specs.OpenedPods.{OpensDisks};
 ghost use Rattle.store_commands.specs.Prints.{Prints, Tells};
 ghost use Rattle.store_commands.specs.Texts.{check_text, counts_line};
 
@@ -13,7 +13,7 @@ use line_sink::{write_all, write_number};
 use pod_base::Bytes;
 use pod_disk::{Disk, Disks};
 use pod_io::{Failed, Sink};
-use pod_live::Keeper;
+use pod_keeper::Keeper;
 use pod_rows::PodState;
 use std::alloc::Global;
 

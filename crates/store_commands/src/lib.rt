@@ -11,7 +11,7 @@
 //! has its cause (`printed`, `told`, `not_empty`, `disk_fault`, `write_fault`), which the others
 //! exclude ([`laws`]); and the disks are returned as an opening leaves them (`disks`).
 //!
-//! It depends on `pod_live` for the store, on `audit_trail` for the line of an entry, on
+//! It depends on `pod_keeper` for the store, on `audit_trail` for the line of an entry, on
 //! `store_lines` for the line of a damage, and on `line_sink` for writing.
 #![tactic(auto)]
 

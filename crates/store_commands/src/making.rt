@@ -7,8 +7,8 @@ ghost use Rattle.pod_base.specs.Counts.{CountIncreased};
 ghost use Rattle.pod_disk.specs.Disk.{Passes, Unchanged};
 ghost use Rattle.pod_io.specs.Counts.{CountsFaults};
 ghost use Rattle.pod_io.specs.Visible.{IfVisible};
-ghost use Rattle.pod_live.specs.CrashedPods.{StandsFor};
-ghost use Rattle.pod_live.specs.NewStores.{new_history, IsNewStore};
+ghost use Rattle.pod_keeper.specs.CrashedPods.{StandsFor};
+ghost use Rattle.pod_keeper.specs.NewStores.{new_history, IsNewStore};
 ghost use Rattle.pod_rows.specs.Base.{is_base};
 ghost use Rattle.store_commands.specs.Ends.{IsInitEnd, IsMadeEnd};
 ghost use Rattle.store_commands.specs.Making.{HoldsBytes};
@@ -18,7 +18,7 @@ use iri_ref::Iri;
 use pod_base::{Moment, Text};
 use pod_disk::{Disk, Disks};
 use pod_io::Failed;
-use pod_live::{CommitFault, Keeper};
+use pod_keeper::{CommitFault, Keeper};
 use std::alloc::Global;
 
 /// Whether a disk is empty.

@@ -9,7 +9,7 @@ use journal_log::OpenFault;
 use pod_base::{Bytes, NoMemory};
 use pod_disk::Disk;
 use pod_io::{Failed, Sink};
-use pod_live::{Keeper, NotOpened};
+use pod_keeper::{Keeper, NotOpened};
 use store_lines::tell_refusal;
 
 /// Why not all was printed.

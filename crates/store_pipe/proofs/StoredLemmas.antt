@@ -9,11 +9,11 @@ use Rattle.pod_base.specs.declared.request.Request.{Request}
 use Rattle.pod_command.specs.declared.entry.Entry.{Entry}
 use Rattle.pod_core.specs.History.{History, end_of, longer, moment_before, pod_at}
 use Rattle.pod_core.specs.Answers.{IsComplete}
-use Rattle.pod_live.proofs.Stamps.{later_at_end}
+use Rattle.pod_keeper.proofs.Stamps.{later_at_end}
 use Rattle.pod_core.specs.KeeperSteps.{stamp_at_end}
-use Rattle.pod_live.specs.Commits.{FollowsReply, IsCommitted, IsCommitFaulted, LeavesPods, later}
-use Rattle.pod_live.specs.Kept.{Doubt, certain, IsKept}
-use Rattle.pod_live.specs.KeeperState.{KeeperState, IsCheckpointDue}
+use Rattle.pod_keeper.specs.Commits.{FollowsReply, IsCommitted, IsCommitFaulted, LeavesPods, later}
+use Rattle.pod_keeper.specs.Kept.{Doubt, certain, IsKept}
+use Rattle.pod_keeper.specs.KeeperState.{KeeperState, IsCheckpointDue}
 use Rattle.pod_reply.specs.Reply.{IsReply}
 use Rattle.pod_records.specs.Records.{last_after}
 use Rattle.pod_reply.specs.Replies.{reply_of}

@@ -3,8 +3,8 @@ use Rattle.std.specs.Prelude.{◌≡◌, ◌⊎◌, ℕ, Bool, List, [], Option}
 use Rattle.journal_log.specs.declared.fault.OpenFault.{OpenFault}
 use Rattle.pair_writes.specs.Doubts.{IsSure}
 use Rattle.pod_core.specs.History.{History}
-use Rattle.pod_live.specs.KeeperState.{KeeperState}
-use Rattle.pod_live.specs.OpenedPods.{IsOpened, OpensDisks}
+use Rattle.pod_keeper.specs.KeeperState.{KeeperState}
+use Rattle.pod_keeper.specs.OpenedPods.{IsOpened, OpensDisks}
 use Rattle.pod_pipe.specs.Agents.{asking_of}
 use Rattle.pod_pipe.specs.Served.{WritesSession}
 use Rattle.line_sink.specs.Writing.{AddsOrPart}

@@ -2,7 +2,7 @@
 use Rattle.std.specs.Prelude.{ℕ, List, [], ◌∷◌, ◌++◌, refl}
 use Rattle.std.proofs.Common.{subst}
 use Rattle.pod_core.specs.History.{History, IsHistory}
-use Rattle.pod_live.specs.KeeperState.{KeeperState}
+use Rattle.pod_keeper.specs.KeeperState.{KeeperState}
 use Rattle.store_pipe.specs.StoredPods.{ByCommits, Passes, StandsFor}
 
 pub kept_history : {D : Type 0} (image : D → List ℕ → Type 0) (keeper : KeeperState D)

@@ -6,9 +6,9 @@ use Rattle.pod_base.specs.declared.request.Request.{Request}
 use Rattle.pod_command.specs.declared.entry.Entry.{Entry}
 use Rattle.pod_core.specs.History.{History, longer}
 use Rattle.pod_core.specs.Session.{Item}
-use Rattle.pod_live.specs.Commits.{LeavesPods}
-use Rattle.pod_live.specs.Kept.{Doubt, IsKept}
-use Rattle.pod_live.specs.KeeperState.{KeeperState, IsCheckpointDue}
+use Rattle.pod_keeper.specs.Commits.{LeavesPods}
+use Rattle.pod_keeper.specs.Kept.{Doubt, IsKept}
+use Rattle.pod_keeper.specs.KeeperState.{KeeperState, IsCheckpointDue}
 use Rattle.pod_pipe.specs.Holders.{CountsDiskFaults, DiskFaults, Faults, Goes}
 use Rattle.pod_pipe.specs.Served as served
 use Rattle.session_laws.specs.Isolated.{grown}

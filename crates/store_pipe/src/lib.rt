@@ -15,7 +15,7 @@
 //! before it, or that with the entry in doubt or the one under way. A fault comes only where a
 //! count increased (`read_fault`, `write_fault`), and the disks are put back (`place`).
 //!
-//! It depends on `pod_live` for the store, on `pod_pipe` for the connection, on `token_table` for
+//! It depends on `pod_keeper` for the store, on `pod_pipe` for the connection, on `token_table` for
 //! agents, and on `store_lines` and `line_sink` for lines.
 #![tactic(auto)]
 

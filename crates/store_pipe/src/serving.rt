@@ -13,7 +13,7 @@ use crate::tokens::{TableFault, read_table};
 use pod_base::{Mem, NoMemory, Text};
 use pod_disk::{Disk, Disks, Place};
 use pod_io::{Clock, Sink, Source};
-use pod_live::{Keeper, NotOpened};
+use pod_keeper::{Keeper, NotOpened};
 use pod_pipe::{Agents, PipeOptions, Piped, Status, pipe};
 use pod_rows::PodState;
 use std::alloc::Global;

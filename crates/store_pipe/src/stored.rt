@@ -10,7 +10,7 @@ ghost use Rattle.store_pipe.specs.StoredPods.{Passes, StandsFor, disk_faults};
 use pod_base::{Mem, Moment, Request, Stamp};
 use pod_core::{Replied, answer, is_change};
 use pod_disk::Disk;
-use pod_live::{CommitFault, Done, Keeper};
+use pod_keeper::{CommitFault, Done, Keeper};
 use pod_pipe::{Answer, AnswerFault, PodHolder, moment_after};
 use std::alloc::Global;
 use token_table::Asked;

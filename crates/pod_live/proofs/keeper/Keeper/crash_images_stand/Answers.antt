@@ -1,6 +1,0 @@
-use Rattle.pod_live.proofs.Standing.{disks_stand_mended}
-use Rattle.pod_live.proofs.keeper.Keeper.crash_images_stand.Goals as goal
-
-pub returns : goal.returns
-returns g c = λ history place doubt kept sure.
-    disks_stand_mended g.D.Disk.image g.D.Disk.moment g.D.Disk.left_since c.args.self.now history place kept.bodies kept.stored doubt kept.disks sure
