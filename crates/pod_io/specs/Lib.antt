@@ -2,3 +2,6 @@
 pub mod Counts
 pub mod Visible
 pub mod Memory
+pub mod Links
+pub mod Gates
+pub mod Wires

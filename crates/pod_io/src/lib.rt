@@ -1,36 +1,72 @@
-//! The outside as the pod server sees it: where bytes come from, where they go to, and what the
-//! time is.
+//! The outside as the pod server sees it: where bytes come from, where they go to, where the
+//! connections of a server come from, and what the time is.
 //!
 //! ```text
 //! let mut source = MemSource::new(bytes, 3, Vec::new(alloc));
 //! let count = source.read(&mut into)?;        // at most 3 bytes; 0 exactly at the end
 //! source.rest();                              // those that are left
+//!
+//! let mut gates = TcpListen::new(host).open(alloc, 8080, 2)?;     // one for each of two workers
+//! let found = gate.next()?;                   // a connection, where there is another one
+//! gate.done(link);                            // it goes back
 //! ```
 //!
+//! | Trait | In memory | Of the host |
+//! |---|---|---|
+//! | [`Source`]: bytes that come | [`MemSource`] | [`StdSource`] |
+//! | [`Sink`]: bytes that go | [`MemSink`] | [`StdSink`] |
+//! | [`Link`]: one connection, both at once | [`MemLink`] | [`TcpLink`] |
+//! | [`Gate`]: the connections of one worker | [`MemGate`] | [`TcpGate`] |
+//! | [`Listen`]: the gates of all workers | [`MemListen`] | [`TcpListen`] |
+//! | [`Wire`]: texts to a peer | [`MemWire`] | in `notify_ws` |
+//! | [`Clock`]: the time | [`SetClock`] | [`HostClock`] |
+//!
 //! Each trait counts its faults, and a source its reads. A call fails only where the count of
-//! faults increased, and no count falls (`faults`, `reads`). Contracts see the bytes of objects in
-//! memory (`rest`, `taken`). What an object of the host takes or gives is what its writer takes or
-//! its reader gives, as far as that shows it (`written`, `given`). A terminal, a pipe and a socket
-//! show nothing, and are trusted.
+//! faults increased, and no count falls (`faults`, `reads`, `counts`). Contracts see the content of
+//! objects in memory (`rest`, `taken`, `sent`, `back`). What an object of the host takes or gives
+//! is what its writer takes or its reader gives, as far as that shows it (`written`, `given`). A
+//! terminal, a pipe and a socket show nothing, and are trusted.
 #![tactic(auto)]
 
 mod calls;
 mod clock;
+mod gate;
+mod link;
+mod listen;
+mod mem_gate;
+mod mem_link;
+mod mem_listen;
 mod mem_sink;
 mod mem_source;
+mod mem_wire;
 mod sink;
 mod source;
 mod std_sink;
 mod std_source;
+mod tcp_gate;
+mod tcp_link;
+mod tcp_listen;
+mod wire;
 
 pub use calls::Calls;
 pub use clock::{Clock, HostClock, SetClock};
+pub use gate::Gate;
+pub use link::{Link, LinkCounts, LinkFailed};
+pub use listen::{GATE_LIMIT, Listen, ListenFault};
+pub use mem_gate::MemGate;
+pub use mem_link::MemLink;
+pub use mem_listen::MemListen;
 pub use mem_sink::MemSink;
 pub use mem_source::MemSource;
+pub use mem_wire::MemWire;
 pub use sink::Sink;
 pub use source::{Failed, Source};
 pub use std_sink::StdSink;
 pub use std_source::StdSource;
+pub use tcp_gate::TcpGate;
+pub use tcp_link::TcpLink;
+pub use tcp_listen::TcpListen;
+pub use wire::{Polled, Wire, WireFault};
 
 #[cfg(test)]
 mod tests;
