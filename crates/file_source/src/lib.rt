@@ -1,6 +1,8 @@
-//! A source over a file of the host, opened at its first read.
+//! Files of the host: a source, whose file is opened at its first read, and those that keep the
+//! descriptors of the standard streams taken.
 //!
 //! ```ignore
+//! let held = HeldStreams::open(&rt)?;       // before any other file, and kept until the end
 //! let mut tokens = FileSource::new(rt.clone()?, Text::of(alloc, "pod.tokens")?);
 //! let count = tokens.read(&mut piece)?;     // opens the file
 //! ```
@@ -10,5 +12,7 @@
 #![tactic(auto)]
 
 mod file_source;
+mod held_streams;
 
 pub use file_source::FileSource;
+pub use held_streams::HeldStreams;

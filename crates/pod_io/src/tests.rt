@@ -123,16 +123,16 @@ fn gates_in_memory_give_links_and_get_them_back(rt: HostRuntime) -> Result<(), F
     let mut listen = MemListen::new(alloc, gates, vec![in alloc; 1]?);
     assert!(rt; matches!(&listen.open(alloc, 80, 2), Err(ListenFault::Failed)));
     let mut gates = listen.open(alloc, 80, 2).expect(&rt, "two gates");
-    for _ in 0..2 {
-        let mut gate = gates.pop().expect(&rt, "a gate");
-        if let Ok(Some(conn)) = gate.next() {
-            assert!(rt; matches!(&gate.next(), Err(Failed)));
-            assert!(rt; matches!(&gate.next(), Ok(None)));
-            gate.done(conn);
-            assert_eq!(rt; gate.back()[0].rest(), b"one".as_slice());
-        }
-        listen.close(gate);
-    }
+    let idle = gates.pop().expect(&rt, "a gate without connections");
+    listen.close(idle);
+    let mut gate = gates.pop().expect(&rt, "the first gate");
+    let found = gate.next().expect(&rt, "no fault");
+    let conn = found.expect(&rt, "a connection");
+    assert!(rt; matches!(&gate.next(), Err(Failed)));
+    assert!(rt; matches!(&gate.next(), Ok(None)));
+    gate.done(conn);
+    assert_eq!(rt; gate.back()[0].rest(), b"one".as_slice());
+    listen.close(gate);
     assert_eq!(rt; listen.back().len(), 2);
     Ok(())
 }

@@ -5,7 +5,7 @@
 ghost use Rattle.std.specs.Prelude.{◌≡◌, IfOk, IsSome};
 ghost use Rattle.std.specs.Process.{exit_status};
 
-use file_source::FileSource;
+use file_source::{FileSource, HeldStreams};
 use pod_base::{Mem, Text};
 use pod_disk::{Disks, FileDisk, Place};
 use pod_io::{Clock, HostClock, SetClock, StdSink, StdSource};
@@ -20,7 +20,7 @@ use std::{env, io};
 /// HTTP standard.
 const STILL: u64 = 784_111_777;
 
-/// The status of a run that is out of memory.
+/// The status of a run that is out of memory or of open files.
 const NO_MEMORY: u8 = 7;
 
 /// The words after the program's name.
@@ -94,6 +94,9 @@ fn exit_code(status: Status) -> ExitCode
 }
 
 fn main(rt: HostRuntime) -> ExitCode {
+    let Ok(_held) = HeldStreams::open(&rt) else {
+        return ExitCode::from(NO_MEMORY);
+    };
     let words = match words(&rt, rt.alloc()) {
         Ok(words) => words,
         Err(error) if error.kind() == ErrorKind::InvalidData => return ExitCode::from(2),
