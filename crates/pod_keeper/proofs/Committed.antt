@@ -19,10 +19,10 @@ use Rattle.pod_keeper.specs.CrashedPods.{StandsFor, StandsForOneOf}
 use Rattle.pod_keeper.specs.Kept.{Doubt, certain, entered, checkpointed, entries_in, IsNextEntry, IsCheckpointText, HasOnDisks, IsKept, version_of}
 use Rattle.pod_keeper.specs.KeeperState.{KeeperState, version_in, IsCheckpointDue}
 use Rattle.pod_keeper.specs.Stored.{IsStored}
+use Rattle.pod_keeper.proofs.HistoryLaws.{version_kept, version_longer}
 use Rattle.pod_keeper.proofs.Doubting.{IsDoubtOf, InRecords, in_records, on_disks, tail_entry, new_checkpoint}
 use Rattle.pod_keeper.proofs.Storing.{stored_more, stored_at_end, history_grows}
-use Rattle.pod_pages.proofs.History.{pod_replayed, next_replayed}
-use Rattle.pod_pages.specs.State.{VersionState, state_after, states_after}
+use Rattle.pod_pages.specs.State.{VersionState, state_after}
 use Rattle.pod_records.specs.Records.{entry_text, IsEntryIn, IsSnapshotText}
 use Rattle.pod_records.proofs.Entries.{last_more}
 use Rattle.pod_rows.specs.Apply.{Applies, applied}
@@ -34,18 +34,6 @@ only_one x y (suc k, lt, e) = absurd (omega (arith, lt))
 -- the same effects
 abbrev pub SameEffects : {D : Type 0} → KeeperState D → KeeperState D → Type 0
 SameEffects new old = (new.effects ≡ old.effects) × (new.oldest ≡ old.oldest)
-
--- the version after one entry more
-states_more : (v : VersionState) (entries : List Entry) (entry : Entry) → states_after v (entries ++ entry ∷ []) ≡ state_after (states_after v entries) entry
-states_more v [] entry = refl
-states_more v (one ∷ more) entry = states_more (state_after v one) more entry
-
-abbrev version_first : History → VersionState
-version_first history = record { pod = history.first; next = history.start; effects = []; oldest = history.start }
-
--- a version by its parts
-same_version : (v w : VersionState) → v.pod ≡ w.pod → v.next ≡ w.next → v.effects ≡ w.effects → v.oldest ≡ w.oldest → v ≡ w
-same_version v w pod next effects oldest = λ i. record { pod = pod i; next = next i; effects = effects i; oldest = oldest i }
 
 -- the head of the active journal
 known_head : {D : Type 0} (image : D → List ℕ → Type 0) (first second : D) (pair : PairState) (history : History) (bodies : List (List ℕ)) (doubt : Doubt) → HasOnDisks image first second pair history bodies doubt → IsKnownHead pair.journal.format pair.journal.epoch
@@ -59,12 +47,6 @@ in_new_format format entry is stored = record { storable = stored; bases = λ ol
 
 text_new : (format : ℕ) (entry : Entry) → format ≡ 2 → entry_bytes entry ≡ entry_text format entry
 text_new format entry is = subst (λ f. entry_bytes entry ≡ entry_text f entry) (sym is) refl
-
--- the keeper's version is that of the history
-version_kept : {D : Type 0} (image : D → List ℕ → Type 0) (old : KeeperState D) (history : History) (place : ℕ) (doubt : Doubt) → IsKept image old history place doubt → version_in old ≡ version_of history
-version_kept image old history place doubt h = same_version (version_in old) (version_of history)
-    (h.pod ∙ (pod_at_end history ∙ sym (pod_replayed (version_first history) history.entries)))
-    (h.next ∙ sym (next_replayed (version_first history) history.entries)) h.effects h.oldest
 
 module _ {D : Type 0} (image : D → List ℕ → Type 0) (moment : D → ℕ) (left_since : D → ℕ → List ℕ → Type 0) (old : KeeperState D) (history : History) (place : ℕ) (doubt : Doubt) (h : IsKept image old history place doubt) where
   pub records_of : InRecords image old.first old.second old.pair history h.bodies doubt
@@ -136,15 +118,15 @@ module _ {D : Type 0} (image : D → List ℕ → Type 0) (moment : D → ℕ) (
     -- the entry was written
     pub grown : (new : KeeperState D) {T E : Type 0} (x : T) → Writes image moment left_since old.first old.second new.first new.second old.pair new.pair {T = T} {E = E} (Ok x) snapshot (entry_bytes entry) → new.pod ≡ applied old.pod entry → new.next ≡ old.next + 1 → new.last ≡ Some entry.moment → (new.effects ≡ (state_after (version_in old) entry).effects) × (new.oldest ≡ (state_after (version_in old) entry).oldest) → IsGrown image old new history place entry
     grown new x w pod next last feed =
-        let after : state_after (version_in old) entry ≡ version_of (longer history (entry ∷ [])) =
-        ap (λ v. state_after v entry) (version_kept image old history place doubt h) ∙ sym (states_more (version_first history) history.entries entry) in record {
+        let after : version_of (longer history (entry ∷ [])) ≡ state_after (version_in old) entry =
+        version_longer history (version_in old) (entry ∷ []) (sym (version_kept image old history place doubt h)) in record {
           new_place = before_place snapshot;
           kept = record {
             is_history = history_grows history 2 entry h.is_history (next_entry 2 refl);
             pod = pod ∙ (ap (λ p. applied p entry) h.pod ∙ (ap (λ p. applied p entry) (pod_at_end history) ∙ (sym (replayed_next history.first history.entries entry) ∙ sym (pod_at_end (longer history (entry ∷ []))))));
             next = omega (arith, next, h.next, length-append history.entries (entry ∷ []));
-            effects = feed.0 ∙ ap (λ (v : VersionState). v.effects) after;
-            oldest = feed.1 ∙ ap (λ (v : VersionState). v.oldest) after;
+            effects = feed.0 ∙ ap (λ (v : VersionState). v.effects) (sym after);
+            oldest = feed.1 ∙ ap (λ (v : VersionState). v.oldest) (sym after);
             last = last ∙ sym (last_more None history.entries entry);
             bodies = records_before h.bodies snapshot ++ entry_bytes entry ∷ [];
             stored = subst (λ f. IsStored (longer history (entry ∷ [])) f (before_place snapshot) (records_before h.bodies snapshot ++ entry_bytes entry ∷ [])) (sym (moved_format snapshot new.pair w.moved)) (stored_after snapshot refl);

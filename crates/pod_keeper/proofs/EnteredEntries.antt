@@ -1,18 +1,26 @@
 -- The commit of an entry, from what was prepared and what was written.
-use Rattle.std.proofs.Common.{◌≡◌, ℕ, ◌+◌, List, [], ◌∷◌, ◌++◌, Option, Some, None, IfSome, Result, Ok, Err, refl, subst}
+use Rattle.std.proofs.Common.{◌≡◌, ◌⊎◌, ℕ, ◌+◌, List, [], ◌∷◌, ◌++◌, Option, Some, None, IfSome, Result, Ok, Err, refl, ap, subst}
 use Rattle.std.specs.Prelude.{IsSome}
+use Rattle.std.specs.Arc.{arc_value}
+use Rattle.journal_log.specs.declared.fault.DiskFault.{DiskFault}
+use Rattle.journal_pair.specs.PairMoments.{LeavesPairs}
+use Rattle.journal_pair.specs.PairState.{PairState}
 use Rattle.pair_writes.specs.Doubts.{IsSure, IsLong, HasRecords, RecordDoubt}
 use Rattle.pair_writes.specs.Writes.{Writes}
+use Rattle.pod_base.specs.Counts.{CountIncreased}
 use Rattle.pod_command.specs.Bare.{bare_entry}
 use Rattle.pod_command.specs.Storable.{IsStorable}
 use Rattle.pod_command.specs.StoredForms.{entry_bytes, origin_bytes, request_bytes}
 use Rattle.pod_command.specs.declared.entry.Entry.{Entry}
-use Rattle.pod_core.specs.History.{History}
+use Rattle.pod_core.specs.History.{History, longer}
 use Rattle.pod_keeper.specs.Commits.{IsGrown, IsLeftFaulted, LeavesPodsOf}
-use Rattle.pod_keeper.specs.Kept.{Doubt, entries_in, IsKept}
+use Rattle.pod_keeper.specs.CrashedPods.{StandsForOneOf}
+use Rattle.pod_keeper.specs.Kept.{Doubt, certain, entries_in, IsKept, StandsForSome}
 use Rattle.pod_keeper.specs.KeeperState.{KeeperState, version_in, IsCheckpointDue}
+use Rattle.pod_keeper.specs.Plans.{IsPlannedAt}
+use Rattle.pod_keeper.specs.declared.plan.Planned.{Planned}
 use Rattle.pod_keeper.proofs.Committed.{SameEffects, records_of, grown, failed, leaves}
-use Rattle.pod_pages.specs.State.{state_after}
+use Rattle.pod_pages.specs.State.{VersionState, state_after}
 use Rattle.pod_records.specs.Records.{IsSnapshotText}
 use Rattle.pod_rows.specs.Apply.{Applies, applied}
 use Rattle.pod_rows.specs.Pod.{Pod}
@@ -72,3 +80,88 @@ module _ {D : Type 0} (image : D → List ℕ → Type 0) (moment : D → ℕ) (
 
     pub entered_failed : (f : E) → Entering old new entry {T = T} {E = E} (Err f) → new.pod ≡ old.pod → new.next ≡ old.next → new.last ≡ old.last → SameEffects new old → (history : History) (place : ℕ) (doubt : Doubt) → IsKept image old history place doubt → IsLeftFaulted image new history place doubt (bare_entry entry)
     entered_failed f e pod next last feed history place doubt kept = failed image moment left_since old history place doubt kept (bare_entry entry) e.snapshot (bare_applies old.pod old.next entry e.applies) (bare_stored entry e.stored) e.text e.due e.not_due new f (bare_writes (Err f) e) pod next last feed
+
+-- what `carry` does, from what was planned and what was written
+module _ {D : Type 0} (image : D → List ℕ → Type 0) (moment : D → ℕ) (left_since : D → ℕ → List ℕ → Type 0) (old was : KeeperState D) (same : was ≡ old) (planned : Planned) (is : IsPlannedAt old planned) (first second : D) (pair : PairState) where
+  -- the keeper with the entry, and without
+  abbrev pub carried : KeeperState D
+  carried = record {
+    first = first;
+    second = second;
+    pair = pair;
+    pod = (arc_value planned.version).pod;
+    next = (arc_value planned.version).next;
+    effects = (arc_value planned.version).effects;
+    oldest = (arc_value planned.version).oldest;
+    last = Some planned.entry.moment;
+  }
+
+  abbrev pub stayed : KeeperState D
+  stayed = record {
+    first = first;
+    second = second;
+    pair = pair;
+    pod = was.pod;
+    next = was.next;
+    effects = was.effects;
+    oldest = was.oldest;
+    last = was.last;
+  }
+
+  abbrev pub Wrote : Result (Unit {0}) DiskFault → Type 0
+  Wrote r = Writes image moment left_since was.first was.second first second was.pair pair r planned.snapshot planned.body
+
+  entering : (new : KeeperState D) (r : Result (Unit {0}) DiskFault) → Writes image moment left_since old.first old.second new.first new.second old.pair new.pair r planned.snapshot planned.body → Entering image moment left_since old new planned.entry r
+  entering new r w = record {
+    snapshot = planned.snapshot;
+    applies = is.applies;
+    stored = is.storable;
+    text = is.snapshot_is;
+    due = is.due;
+    not_due = is.not_due;
+    writes = subst (Writes image moment left_since old.first old.second new.first new.second old.pair new.pair r planned.snapshot) is.body_is w;
+  }
+
+  entering_carried : (r : Result (Unit {0}) DiskFault) → Wrote r → Entering image moment left_since old carried planned.entry r
+  entering_carried r w = entering carried r (subst (λ (s : KeeperState D). Writes image moment left_since s.first s.second first second s.pair pair r planned.snapshot planned.body) same w)
+
+  entering_stayed : (r : Result (Unit {0}) DiskFault) → Wrote r → Entering image moment left_since old stayed planned.entry r
+  entering_stayed r w = entering stayed r (subst (λ (s : KeeperState D). Writes image moment left_since s.first s.second first second s.pair pair r planned.snapshot planned.body) same w)
+
+  -- at each moment, whatever the version is then
+  pub carried_pairs : (r : Result (Unit {0}) DiskFault) → Wrote r → (history : History) (place : ℕ) (doubt : Doubt) → IsKept image old history place doubt → IsSure image old.first old.second old.pair → (IsCheckpointDue old.pair → IsLong image old.first old.second old.pair)
+      → LeavesPairs moment left_since old.first old.second first second (StandsForOneOf history (entries_in doubt ++ bare_entry planned.entry ∷ []))
+  carried_pairs r w = entered_pairs image moment left_since old carried planned.entry r (entering_carried r w)
+
+  pub carried_sure : (r : Result (Unit {0}) DiskFault) → Wrote r → IsSure image old.first old.second old.pair → (IsCheckpointDue old.pair → IsLong image old.first old.second old.pair) → IsSure image first second pair
+  carried_sure r w = entered_sure image moment left_since old carried planned.entry r (entering_carried r w)
+
+  pub carried_long : (r : Result (Unit {0}) DiskFault) → Wrote r → IsSure image old.first old.second old.pair → IsLong image old.first old.second old.pair → IsLong image first second pair
+  carried_long r w = entered_long image moment left_since old carried planned.entry r (entering_carried r w)
+
+  -- the entry was written
+  pub carried_grown : (x : Unit {0}) → Wrote (Ok x) → (history : History) (place : ℕ) (doubt : Doubt) → IsKept image old history place doubt → IsGrown image old carried history place (bare_entry planned.entry)
+  carried_grown x w = entered_grown image moment left_since old carried planned.entry x (entering_carried (Ok x) w)
+      (ap (λ (v : VersionState). v.pod) is.after) (ap (λ (v : VersionState). v.next) is.after) refl
+      (ap (λ (v : VersionState). v.effects) is.after, ap (λ (v : VersionState). v.oldest) is.after)
+
+  pub stands_carried : (x : Unit {0}) → Wrote (Ok x) → StandsForSome image old → StandsForSome image carried
+  stands_carried x w stands =
+      let grown = carried_grown x w stands.0 stands.1 stands.2 stands.3 in
+      (longer stands.0 (bare_entry planned.entry ∷ []), grown.new_place, certain, grown.kept)
+
+  -- the write failed
+  pub carry_failed : (f : DiskFault) → Wrote (Err f) → (history : History) (place : ℕ) (doubt : Doubt) → IsKept image old history place doubt → IsLeftFaulted image stayed history place doubt (bare_entry planned.entry)
+  carry_failed f w = entered_failed image moment left_since old stayed planned.entry f (entering_stayed (Err f) w)
+      (ap (λ (s : KeeperState D). s.pod) same) (ap (λ (s : KeeperState D). s.next) same) (ap (λ (s : KeeperState D). s.last) same)
+      (ap (λ (s : KeeperState D). s.effects) same, ap (λ (s : KeeperState D). s.oldest) same)
+
+  pub stands_stayed : (f : DiskFault) → Wrote (Err f) → StandsForSome image old → StandsForSome image stayed
+  stands_stayed f w stands =
+      let left = carry_failed f w stands.0 stands.1 stands.2 stands.3 in
+      (stands.0, left.new_place, left.left, left.kept)
+
+  -- a count of faults rose
+  pub carry_counted : (faults : D → ℕ) → CountIncreased (faults was.first) (faults first) ⊎ CountIncreased (faults was.second) (faults second)
+      → CountIncreased (faults old.first) (faults first) ⊎ CountIncreased (faults old.second) (faults second)
+  carry_counted faults = subst (λ (s : KeeperState D). CountIncreased (faults s.first) (faults first) ⊎ CountIncreased (faults s.second) (faults second)) same

@@ -1,5 +1,7 @@
--- kept for the crates above: the moment of a change at the end of a history
+-- kept for the crates above: the moment of a change at the end of a history, and histories and
+-- versions with more entries
 pub mod Stamps
+pub mod HistoryLaws
 -- internal
 mod NewStore
 mod Opened

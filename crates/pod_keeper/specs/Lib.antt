@@ -5,6 +5,7 @@ pub mod CrashedPods
 pub mod KeeperState
 pub mod Kept
 pub mod Commits
+pub mod Plans
 pub mod CommitEvents
 pub mod OpenedPods
 pub mod NewStores

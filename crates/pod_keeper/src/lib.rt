@@ -7,27 +7,34 @@
 //! let version = keeper.version();
 //! ```
 //!
-//! `specs/Kept.antt` defines which histories a keeper represents (`IsKept`), and
-//! `specs/Commits.antt` what its calls do to them. Proved, for every disk: a committed change has
-//! the reply at the end of the history, and its entry is the next one (`done`); after a fault or
-//! out of memory the history is the same (`fault`, `memory`); a commit is a run of the events of a
-//! world, as `specs/CommitEvents.antt` lists them (`world_done`, `world_fault`); at each moment of
-//! each call every pair of crash images represents the history, or it with the one entry under way
-//! or in doubt (`pairs`), and so between calls ([`Keeper::crash_images_stand`]).
+//! A commit is two calls, for callers that do something between them: [`Keeper::plan`] answers the
+//! change and takes all memory, and [`Keeper::carry`] writes the planned entry and takes none.
+//!
+//! `specs/Kept.antt` defines which histories a keeper represents (`IsKept`), `specs/Commits.antt`
+//! what its calls do to them, and `specs/Plans.antt` what is planned. Proved, for every disk: a
+//! committed change has the reply at the end of the history, and its entry is the next one
+//! (`done`); after a fault or out of memory the history is the same (`fault`, `memory`); a commit
+//! is a run of the events of a world, as `specs/CommitEvents.antt` lists them (`world_done`,
+//! `world_fault`); at each moment of each call every pair of crash images represents the history,
+//! or it with the one entry under way or in doubt (`pairs`), and so between calls
+//! ([`Keeper::crash_images_stand`]). A plan has one reply for all histories that the keeper
+//! represents (`IsPlan`).
 //!
 //! It depends on `pod_core` for replies, on `pod_pages` for versions, on `pod_records` and
 //! `first_rows` for what records hold, and on `pair_writes` and `journal_pair` for the disks.
 #![tactic(auto)]
 
+mod carry;
 mod checkpoint;
 mod commit;
-mod entering;
 mod fault;
 mod keeper;
 mod laws;
 mod new_store;
 mod opening;
+mod plan;
 
 pub use fault::{CommitFault, Done, NotOpened};
 pub use keeper::Keeper;
+pub use plan::{Plan, Planned};
 pub use pod_pages::Version;
