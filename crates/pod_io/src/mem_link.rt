@@ -1,7 +1,7 @@
 //! [`MemLink`]: a link in memory.
-ghost use Rattle.std.specs.Prelude.{◌≡◌, ◌<◌, ◌≤◌, ◌↔◌, Some, length, IsErr, IfOk, IfErr, IsErrOf};
+ghost use Rattle.std.specs.Prelude.{◌≡◌, ◌<◌, ◌≤◌, ◌↔◌, ◌⊎◌, Some, length, IsErr, IfOk, IfErr, IsErrOf};
 ghost use Rattle.pod_io.specs.Links.{CountsLinkRead, CountsLinkWrite};
-ghost use Rattle.pod_io.specs.Memory.{NextFails, next_call};
+ghost use Rattle.pod_io.specs.Memory.{NextFails, IsNextCall, next_call};
 ghost use Rattle.pod_io.specs.Visible.{IfVisible, IsRead, Consumes, Appends};
 
 use crate::calls::Calls;
@@ -77,7 +77,12 @@ impl Link for MemLink {
         ensures counts { CountsLinkRead result self.old.counts self.new.counts }
         ensures sink { self.new.sink ≡ self.old.sink }
         ensures quiet { IsErrOf result LinkFailed.Quiet ↔ NextFails self.old.silence }
-        ensures fails { IsErrOf result LinkFailed.Failed → NextFails self.old.source.calls }
+        ensures fails { IsErr result
+            ↔ (NextFails self.old.silence ⊎ NextFails self.old.source.calls) }
+        ensures kept { NextFails self.old.silence → self.new.source ≡ self.old.source }
+        ensures calls { NextFails self.old.silence
+            ⊎ IsNextCall result self.old.source.calls self.new.source.calls }
+        ensures piece { self.new.source.piece ≡ self.old.source.piece }
         ensures numbered { self.new.silence.made ≡ next_call self.old.silence }
         ensures listed { self.new.silence.failing ≡ self.old.silence.failing }
     {
@@ -102,6 +107,8 @@ impl Link for MemLink {
         ensures source { self.new.source ≡ self.old.source }
         ensures silence { self.new.silence ≡ self.old.silence }
         ensures listed { NextFails self.old.sink.calls → IsErr result }
+        ensures calls { IsNextCall result self.old.sink.calls self.new.sink.calls }
+        ensures piece { self.new.sink.piece ≡ self.old.sink.piece }
     {
         let outcome = self.sink.write(piece).map_err(|_| LinkFailed::Failed);
         self.counts.count_write(outcome);
