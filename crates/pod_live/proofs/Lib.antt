@@ -1,0 +1,3 @@
+-- internal
+mod BookLemmas
+mod ReadLemmas

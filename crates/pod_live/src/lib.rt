@@ -1,0 +1,38 @@
+//! One keeper under a lock and its published versions, shared by many sessions.
+//!
+//! ```text
+//! let (live, mut sessions) = Live::<N, D>::new(rt, alloc, keeper, names, 4, &mut places)?;
+//! let response = live.change(rt, alloc, &mut session, &request, &asked, stamp)?;  // takes the lock
+//! let response = answer_read(alloc, &mut session, &request, &asked, stamp)?;      // waits for nobody
+//! let keeper = live.close(rt, seats);                                             // of all sessions
+//! ```
+//!
+//! The entries that are made since the store was opened are one list, which only grows, and what a
+//! session has seen of it only grows, too. Proved, whatever the threads do: a change has the reply
+//! at the end of one such list, which begins with what its session had seen, and its entry follows
+//! it in what the session has then seen (`changed`); a request that is no change has the reply at
+//! the end of what its session has seen by one look (`read`, `given`); when the sessions are
+//! gathered, or the store is closed, all have seen one list, whose length is the sum of their
+//! changes (`one_list`); the keeper then represents that list, and each disk fault of a change was
+//! counted by a disk (`faults`).
+//!
+//! `Names` gives the type parameter `N`, by which these contracts speak of one store. The crate
+//! depends on `pod_keeper` for the store, on `published_view` for the readers that don't wait, and
+//! on `pod_core` for replies.
+#![tactic(auto)]
+
+mod live;
+mod locked;
+mod names;
+mod read;
+mod session;
+mod shown;
+#[cfg(test)]
+mod tests;
+
+pub use live::{Live, NotLive, Rounds};
+pub use names::{Changes, Faults, Names, StoreName};
+pub use pod_keeper::{CommitFault, Done, Keeper, NotOpened, Version};
+pub use read::{PlacedResponse, answer_read};
+pub use session::{Seat, Session};
+pub use shown::{CommittedEntry, PodTold, Shown};
