@@ -1,0 +1,119 @@
+-- A walk is a session over each list that continues what was seen.
+use Rattle.std.proofs.Common.{◌≡◌, ℕ, ◌+◌, List, [], ◌∷◌, ◌++◌, length, map, Option, IfSome, refl, sym, ap, subst, length-append, ◌∙◌, arith}
+use Rattle.std.specs.List.{AllByRecursion, flat_map}
+use Rattle.std.specs.Option.{option_to_list}
+use mathlib.Core.List.{IsPrefix}
+use Rattle.pod_base.proofs.Prefixes.{prefix_length, prefix_self, prefix_trans}
+use Rattle.pod_base.specs.declared.heard.Heard.{Heard}
+use Rattle.pod_command.specs.declared.entry.Entry.{Entry}
+use Rattle.pod_core.specs.History.{History, end_of, longer}
+use Rattle.pod_core.specs.Session.{IsClockMoment, IsItem, IsRefused, IsSession, Item, NeverFalls, Outcome, Owes, UpgradesLast, answered, disk_fault, no_memory, places_of, places_on, requests_of}
+use Rattle.conn_talk.specs.Talks.{AreItems, Chain}
+use Rattle.conn_talk.specs.Turns.{Rules}
+use Rattle.conn_talk.specs.Walks.{Turn, Walk}
+use Rattle.conn_talk.proofs.AtEndLemmas.{falls_from, falls_on, longer_again, owes_at_end, owes_longer}
+
+module _ (kept : History → Type 0) (first conn : ℕ) where
+  turn_later : (clock : ℕ) (before after : List Entry) (item : Item) (o : Outcome) → Turn kept first conn clock before item o after → IsPrefix before after
+  turn_later clock before after item (answered place reply) t =
+      prefix_trans before t.entries after t.seen_before (prefix_trans t.entries (t.entries ++ option_to_list reply.entry) after (option_to_list reply.entry, refl) t.seen_after)
+  turn_later clock before after item no_memory t = t
+  turn_later clock before after item disk_fault t = t.0
+
+  module _ (may_give : ℕ → Type 0) where
+    -- what was seen is seen still
+    pub walk_later : (items : List Item) (before after : List Entry) → Walk kept first conn may_give before items after → IsPrefix before after
+    walk_later [] before after w = w
+    walk_later (item ∷ items) before after w = prefix_trans before w.0 after (turn_later w.1.0 before w.0 item item.outcome w.1.2) (walk_later items w.0 after w.2)
+
+    -- more may have been seen after a walk, and before it less
+    pub walk_on : (items : List Item) (before mid after : List Entry) → Walk kept first conn may_give before items mid → IsPrefix mid after → Walk kept first conn may_give before items after
+    walk_on [] before mid after w p = prefix_trans before mid after w p
+    walk_on (item ∷ items) before mid after w p = (w.0, w.1, walk_on items w.0 mid after w.2 p)
+
+    turn_from : (clock : ℕ) (before mid after : List Entry) (item : Item) (o : Outcome) → IsPrefix before mid → Turn kept first conn clock mid item o after → Turn kept first conn clock before item o after
+    turn_from clock before mid after item (answered place reply) p t = record {
+      entries = t.entries;
+      seen_before = prefix_trans before mid t.entries p t.seen_before;
+      replies = t.replies;
+      place_is = t.place_is;
+      seen_after = t.seen_after;
+    }
+    turn_from clock before mid after item no_memory p t = prefix_trans before mid after p t
+    turn_from clock before mid after item disk_fault p t = (prefix_trans before mid after p t.0, t.1)
+
+    pub walk_from : (items : List Item) (before mid after : List Entry) → IsPrefix before mid → Walk kept first conn may_give mid items after → Walk kept first conn may_give before items after
+    walk_from [] before mid after p w = prefix_trans before mid after p w
+    walk_from (item ∷ items) before mid after p w = (w.0, (w.1.0, w.1.1, turn_from w.1.0 before mid w.0 item item.outcome p w.1.2), w.2)
+
+    -- two walks, one after the other
+    pub walk_append : (xs ys : List Item) (before mid after : List Entry) → Walk kept first conn may_give before xs mid → Walk kept first conn may_give mid ys after → Walk kept first conn may_give before (xs ++ ys) after
+    walk_append [] ys before mid after w v = walk_from ys before mid after w v
+    walk_append (x ∷ xs) ys before mid after w v = (w.0, w.1, walk_append xs ys w.0 mid after w.2 v)
+
+    -- ---- over one history that was kept
+    module _ (history : History) (held : kept history) (at : end_of history ≡ first) where
+      -- an item is one of the history with each list that continues what was seen after it
+      owed : (clock : ℕ) → IsClockMoment may_give clock → (before after list : List Entry) (item : Item) (o : Outcome) → item.outcome ≡ o → Turn kept first conn clock before item o after → IsPrefix after list → Owes may_give conn (longer history list) item o
+      owed clock given before after list item (answered place reply) is t p =
+          let own = option_to_list reply.entry in
+          let all = prefix_trans (t.entries ++ own) after list t.seen_after p in
+          let there : Owes may_give conn (longer (longer history t.entries) own) item (answered place reply) =
+          owes_at_end may_give conn clock given (longer history t.entries) item place reply (omega (arith, t.place_is, at, length-append history.entries t.entries)) (t.replies history held) in
+          let here : Owes may_give conn (longer history (t.entries ++ own)) item (answered place reply) =
+          subst (λ (h : History). Owes may_give conn h item (answered place reply)) (longer_again history t.entries own) there in
+          subst (λ (xs : List Entry). Owes may_give conn (longer history xs) item (answered place reply)) all.1
+          (subst (λ (h : History). Owes may_give conn h item (answered place reply)) (longer_again history (t.entries ++ own) all.0)
+          (owes_longer may_give conn (longer history (t.entries ++ own)) all.0 item (answered place reply) is here))
+      owed clock given before after list item no_memory is t p = tt
+      owed clock given before after list item disk_fault is t p = t.1
+
+      pub walk_answers : (items : List Item) (before after list : List Entry) → Walk kept first conn may_give before items after → IsPrefix after list → AllByRecursion (IsItem may_give conn (longer history list)) items
+      walk_answers [] before after list w p = tt
+      walk_answers (item ∷ items) before after list w p = (
+        owed w.1.0 w.1.1 before w.0 list item item.outcome refl w.1.2 (prefix_trans w.0 after list (walk_later items w.0 after w.2) p),
+        walk_answers items w.0 after list w.2 p,
+      )
+
+      climbs : (clock : ℕ) (before mid : List Entry) (item : Item) (o : Outcome) → Turn kept first conn clock before item o mid → (zs : List ℕ) (after : ℕ) → NeverFalls (end_of (longer history mid)) zs after → NeverFalls (end_of (longer history before)) (places_on o ++ zs) after
+      climbs clock before mid item (answered place reply) t zs after k =
+          let own = option_to_list reply.entry in
+          let short = prefix_length before t.entries t.seen_before in
+          let long = prefix_length (t.entries ++ own) mid t.seen_after in
+          falls_on (end_of (longer history before)) place after reply.entry zs (omega (arith, t.place_is, at, short, length-append history.entries before))
+          (falls_from (place + length own) (end_of (longer history mid)) after zs (omega (arith, t.place_is, at, long, length-append t.entries own, length-append history.entries mid)) k)
+      climbs clock before mid item no_memory t zs after k =
+          falls_from (end_of (longer history before)) (end_of (longer history mid)) after zs (omega (arith, prefix_length before mid t, length-append history.entries before, length-append history.entries mid)) k
+      climbs clock before mid item disk_fault t zs after k =
+          falls_from (end_of (longer history before)) (end_of (longer history mid)) after zs (omega (arith, prefix_length before mid t.0, length-append history.entries before, length-append history.entries mid)) k
+
+      pub walk_places : (items : List Item) (before after : List Entry) → Walk kept first conn may_give before items after → NeverFalls (end_of (longer history before)) (flat_map places_of items) (end_of (longer history after))
+      walk_places [] before after w = omega (arith, prefix_length before after w, length-append history.entries before, length-append history.entries after)
+      walk_places (item ∷ items) before after w =
+          climbs w.1.0 before w.0 item item.outcome w.1.2 (flat_map places_of items) (end_of (longer history after)) (walk_places items w.0 after w.2)
+
+-- the items of a connection of which each turn is one of a walk, where `name` stays the same
+module _ {A N : Type 0} (rules : Rules A) (kept : History → Type 0) (first : ℕ) (seen : A → List Entry) (name : A → N)
+    (turns_are : (clock : ℕ) (old : A) (item : Item) (new : A) → rules.turns rules.conn clock old item new → (name old ≡ name new) × Turn kept first rules.conn clock (seen old) item item.outcome (seen new)) where
+  pub chain_is_walk : (items : List Item) (old new : A) → Chain rules old items new → (name old ≡ name new) × Walk kept first rules.conn rules.may_give (seen old) items (seen new)
+  chain_is_walk [] old new c = (ap name (sym c), subst (λ a. IsPrefix (seen old) (seen a)) (sym c) (prefix_self (seen old)))
+  chain_is_walk (item ∷ items) old new c =
+      let turn = turns_are c.1.0 old item c.0 c.1.2 in
+      let more = chain_is_walk items c.0 new c.2 in
+      (turn.0 ∙ more.0, (seen c.0, (c.1.0, c.1.1, turn.1), more.1))
+
+-- the session of a walk, over each history that was kept and each list that continues what was seen
+pub walk_is_session : {A : Type 0} (rules : Rules A) (kept : History → Type 0) (first : ℕ) (events : List Heard) (items : List Item) (refusal : Option ℕ) (before after : List Entry) (old new : A)
+    → AreItems rules old new items → IsPrefix (map (λ (item : Item). item.request) items) (requests_of events) → UpgradesLast items → IfSome refusal (IsRefused rules.may_give events items)
+    → Walk kept first rules.conn rules.may_give before items after
+    → (history : History) → kept history → end_of history ≡ first → (list : List Entry) → IsPrefix after list
+    → IsSession rules.may_give rules.asking events (end_of (longer history before)) (record { conn = rules.conn; items = items; refusal = refusal; history = longer history list }) (end_of (longer history after))
+walk_is_session rules kept first events items refusal before after old new are requests last refused walk history held at list p = record {
+  requests = requests;
+  numbers = are.numbers;
+  asked = are.asked;
+  answers = walk_answers kept first rules.conn rules.may_give history held at items before after list walk p;
+  places = walk_places kept first rules.conn rules.may_give history held at items before after walk;
+  last = last;
+  refused = refused;
+}
