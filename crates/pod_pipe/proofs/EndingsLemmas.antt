@@ -1,94 +1,59 @@
 -- A session, where the connection ends.
-use Rattle.std.proofs.Common.{◌≡◌, inl, inr, ℕ, Bool, true, false, List, [], ◌∷◌, ◌++◌, length, map, take, drop, Option, Some, None, is_some, IfSome, refl, sym, ap, subst, append_assoc, length-append, ◌∙◌, ◌≤◌, arith}
-use Rattle.std.specs.List.{AllByRecursion}
-use Rattle.std.proofs.lemmas.List.{append-nil, take-append-drop, length-map}
+use Rattle.std.proofs.Common.{◌≡◌, inl, inr, ℕ, Bool, true, false, List, [], ◌++◌, length, map, Option, Some, None, IfSome, refl, sym, ap, subst, length-append, ◌∙◌, ◌≤◌, arith}
+use Rattle.std.specs.List.{AllByRecursion, flat_map, range_with_len}
+use Rattle.std.proofs.lemmas.List.{append-nil, length-map}
 use mathlib.Core.List.{IsPrefix}
-use Rattle.http_conn.specs.Messages.{StaysOpen}
+use Rattle.conn_talk.specs.Talks.{AreItems, EndsPart, EndsWhole}
+use Rattle.conn_talk.specs.Trails.{trail_of}
+use Rattle.conn_talk.proofs.HeardLemmas.{requests_append, output_stops}
+use Rattle.conn_talk.proofs.ListLemmas.{whole_front}
 use Rattle.pod_base.proofs.Prefixes.{prefix_of_append, prefix_trans}
 use Rattle.pod_base.specs.declared.request.Request.{Request}
 use Rattle.pod_base.specs.declared.heard.Heard.{Heard}
-use Rattle.pod_base.specs.declared.heard.Heard.TheVariants as heard
-use Rattle.pod_core.specs.History.{History, end_of}
-use Rattle.pod_core.specs.Output.{output, output_of}
-use Rattle.pod_core.specs.Session.{IsSession, Item, Session, UpgradesLast, IsClockMoment, IsRefused, bad_status, ends_upgraded, requests_of, upgrades}
+use Rattle.pod_core.specs.History.{History, IsHistory, end_of}
+use Rattle.pod_core.specs.Output.{output}
+use Rattle.pod_core.specs.Session.{IsItem, IsSession, Item, NeverFalls, Session, UpgradesLast, IsRefused, ends_upgraded, places_of, requests_of}
 use Rattle.token_table.specs.Credentials.{AskedAgent}
-use Rattle.pod_pipe.specs.Served.{Continues, IsServed, IsStopped}
 use Rattle.session_laws.proofs.AlikeSessions.{session_isolated, still_isolated}
-use Rattle.session_laws.specs.Isolated.{grown}
-use Rattle.pod_pipe.specs.Talks.{IsPlain, Progress}
-use Rattle.pod_pipe.specs.Trails.{trail_of}
-use Rattle.pod_pipe.specs.Turns.{refusal_bytes}
-use Rattle.pod_pipe.proofs.HeardLemmas.{requests_append, bad_behind, output_grows, output_stops}
+use Rattle.session_laws.specs.Isolated.{AreIsolated, AreItemsFrom, IsolatesItems, grown}
+use Rattle.pod_pipe.specs.Held.{holder_rules}
+use Rattle.pod_pipe.specs.Holders.{Faults}
+use Rattle.pod_pipe.specs.Served.{Continues, IsServed, IsStopped, Leaves}
+use Rattle.pod_pipe.proofs.ChainLemmas.{Chained, chain_is_session}
 
--- the last of items that switched no protocols before
-pub plain_last : (items : List Item) (item : Item) → AllByRecursion IsPlain items → UpgradesLast (items ++ item ∷ [])
-plain_last [] item h = tt
-plain_last (one ∷ []) item h = (h.0, tt)
-plain_last (one ∷ other ∷ items) item h = (h.0, plain_last (other ∷ items) item h.1)
-
-pub last_end : (items : List Item) (item : Item) → ends_upgraded (items ++ item ∷ []) ≡ upgrades item.outcome
-last_end [] item = refl
-last_end (one ∷ []) item = refl
-last_end (one ∷ other ∷ items) item = last_end (other ∷ items) item
-
-pub plain_all : (items : List Item) → AllByRecursion IsPlain items → UpgradesLast items
-plain_all [] h = tt
-plain_all (item ∷ []) h = tt
-plain_all (item ∷ other ∷ items) h = (h.0, plain_all (other ∷ items) h.1)
-
-pub plain_end : (items : List Item) → AllByRecursion IsPlain items → ends_upgraded items ≡ false
-plain_end [] h = refl
-plain_end (item ∷ []) h = h.0
-plain_end (item ∷ other ∷ items) h = plain_end (other ∷ items) h.1
+-- The items of a session of connection 1 from the end of a history on.
+pub record AreSessionItems (may_give : ℕ → Type 0) (asking : Request → AskedAgent) (begun : History) (items : List Item) : Type 0 where
+  pub numbers : map (λ (item : Item). item.number) items ≡ range_with_len 1 (length items)
+  pub asked : AllByRecursion (λ (item : Item). item.asked ≡ asking item.request) items
+  pub answers : AllByRecursion (IsItem may_give 1 (grown begun items)) items
+  pub places : NeverFalls (end_of begun) (flat_map places_of items) (end_of (grown begun items))
+  pub is_history : IsHistory (grown begun items)
+  pub isolated : AreIsolated may_give 1 begun items
 
 module _ (may_give : ℕ → Type 0) (asking : Request → AskedAgent) (trails : Bool) (begun : History) (leaves : List Item → Type 0) where
-  -- what a connection has come to
-  pub record Came (requests : List Request) (items : List Item) : Type 0 where
-    pub progress : Progress may_give asking begun requests items
-    pub last : UpgradesLast items
-    pub left : leaves items
-
   abbrev pub session_of : List Item → Option ℕ → Session
   session_of items refusal = record { conn = 1; items = items; refusal = refusal; history = grown begun items }
 
-  module _ (requests : List Request) (items : List Item) (p : Came requests items) where
-    pub all_have_items : length items ≡ length requests
-    all_have_items = sym (length-map items (λ (i : Item). i.request)) ∙ ap length p.progress.requested
-
-    -- a session of all that was heard
-    pub continues : (hears : List Heard) (refusal : Option ℕ) → requests_of hears ≡ requests → IfSome refusal (IsRefused may_give hears items) → Continues may_give asking begun hears (session_of items refusal)
-    continues hears refusal same r =
-        let s : IsSession may_give asking hears (end_of begun) (session_of items refusal) (end_of (grown begun items)) = record {
-          requests = ([], append-nil _ ∙ p.progress.requested ∙ sym same);
-          numbers = p.progress.numbers;
-          asked = p.progress.asked;
-          answers = p.progress.answers;
-          places = p.progress.places;
-          last = p.last;
-          refused = r;
-        } in
-        record {
-          conn = refl;
-          history = refl;
-          is_history = p.progress.is_history;
-          is_session = s;
-          isolated = session_isolated may_give asking begun (session_of items refusal) hears refl s p.progress.isolated;
-        }
-
-  -- a front of what a session writes
-  pub begins : (hears : List Heard) (written lines : List ℕ) (session : Session) → Continues may_give asking begun hears session → leaves session.items
-      → (front text behind : List ℕ) → written ≡ front ++ text → front ++ (text ++ behind) ≡ output hears session → IsPrefix lines (trail_of trails session.items) → IsStopped may_give asking trails begun leaves hears written lines
-  begins hears written lines session goes left front text behind is whole l = record {
-    session = session;
-    continues = goes;
-    left = left;
-    bytes = (behind, ap (λ w. w ++ behind) is ∙ append_assoc front text behind ∙ whole);
-    lines = l;
-  }
-
-  -- a whole list is a front of it
-  pub whole_front : (xs ys : List ℕ) → xs ≡ ys → IsPrefix xs ys
-  whole_front xs ys is = ([], append-nil xs ∙ is)
+  -- a session of these events
+  pub continues : (items : List Item) → AreSessionItems may_give asking begun items → (events : List Heard) (refusal : Option ℕ) → IsPrefix (map (λ (item : Item). item.request) items) (requests_of events) → UpgradesLast items
+      → IfSome refusal (IsRefused may_give events items) → Continues may_give asking begun events (session_of items refusal)
+  continues items p events refusal requests last r =
+      let s : IsSession may_give asking events (end_of begun) (session_of items refusal) (end_of (grown begun items)) = record {
+        requests = requests;
+        numbers = p.numbers;
+        asked = p.asked;
+        answers = p.answers;
+        places = p.places;
+        last = last;
+        refused = r;
+      } in
+      record {
+        conn = refl;
+        history = refl;
+        is_history = p.is_history;
+        is_session = s;
+        isolated = session_isolated may_give asking begun (session_of items refusal) events refl s p.isolated;
+      }
 
   -- a whole session is one that stopped
   pub served_stops : (upgraded : Bool) (hears : List Heard) (written lines : List ℕ) → IsServed may_give asking trails begun leaves upgraded hears written lines → IsStopped may_give asking trails begun leaves hears written lines
@@ -99,61 +64,6 @@ module _ (may_give : ℕ → Type 0) (asking : Request → AskedAgent) (trails :
     bytes = ([], append-nil _ ∙ s.bytes);
     lines = ([], append-nil _ ∙ s.lines);
   }
-
-  -- all requests have an item, and nothing was refused
-  pub serves : (hears : List Heard) (items : List Item) (upgraded : Bool) (written lines : List ℕ) → Came (requests_of hears) items
-      → bad_status hears ≡ None → ends_upgraded items ≡ upgraded → written ≡ output_of hears items None → lines ≡ trail_of trails items → IsServed may_give asking trails begun leaves upgraded hears written lines
-  serves hears items upgraded written lines p no_bad last is l = record {
-    session = session_of items None;
-    continues = continues (requests_of hears) items p hears None refl tt;
-    left = p.left;
-    whole = inr (all_have_items (requests_of hears) items p, ap is_some (sym no_bad));
-    last = last;
-    bytes = is;
-    lines = l;
-  }
-
-  module _ (hears : List Heard) (items : List Item) (p : Came (requests_of hears) items) (plain : AllByRecursion IsPlain items) (stays : StaysOpen 0 hears) (status : ℕ) (moment : ℕ) (r : IsClockMoment may_give moment) where
-    abbrev pub refused : List Heard
-    refused = hears ++ heard.Bad status ∷ []
-
-    same_requests : requests_of refused ≡ requests_of hears
-    same_requests = requests_append hears (heard.Bad status ∷ []) ∙ append-nil _
-
-    all_items : length items ≡ length (requests_of refused)
-    all_items = all_have_items (requests_of hears) items p ∙ ap length (sym same_requests)
-
-    is_bad : bad_status refused ≡ Some status
-    is_bad = bad_behind 0 hears (heard.Bad status ∷ []) stays
-
-    is_refused : IsRefused may_give refused items moment
-    is_refused = record { bad = ap is_some is_bad; all = all_items; open_still = plain_end items plain; clock = r }
-
-    refused_session : Continues may_give asking begun refused (session_of items (Some moment))
-    refused_session = continues (requests_of hears) items p refused (Some moment) same_requests is_refused
-
-    refused_output : output_of hears items None ++ refusal_bytes status moment ≡ output_of refused items (Some moment)
-    refused_output =
-        sym (output_grows 0 hears (heard.Bad status ∷ []) items [] (Some moment) stays plain (all_have_items (requests_of hears) items p))
-        ∙ ap (λ all. output_of refused all (Some moment)) (append-nil items)
-
-    -- bytes that are no message were refused
-    pub serves_refused : (written lines : List ℕ) → written ≡ output_of hears items None ++ refusal_bytes status moment → lines ≡ trail_of trails items → IsServed may_give asking trails begun leaves false refused written lines
-    serves_refused written lines is l = record {
-      session = session_of items (Some moment);
-      continues = refused_session;
-      left = p.left;
-      whole = inr (all_items, ap is_some (sym is_bad));
-      last = plain_end items plain;
-      bytes = is ∙ refused_output;
-      lines = l;
-    }
-
-    -- a front of the refusal was written
-    pub stops_refused : (written lines : List ℕ) (count : ℕ) → written ≡ output_of hears items None ++ take count (refusal_bytes status moment) → lines ≡ trail_of trails items → IsStopped may_give asking trails begun leaves refused written lines
-    stops_refused written lines count is l =
-        begins refused written lines (session_of items (Some moment)) refused_session p.left (output_of hears items None) (take count (refusal_bytes status moment)) (drop count (refusal_bytes status moment)) is
-        (ap (λ more. output_of hears items None ++ more) (take-append-drop count (refusal_bytes status moment)) ∙ refused_output) (whole_front lines (trail_of trails items) l)
 
   -- the session of a switch of protocols is one of whatever was heard behind it
   module _ (hears more : List Heard) (written lines : List ℕ) (s : IsServed may_give asking trails begun leaves true hears written lines) where
@@ -199,3 +109,47 @@ module _ (may_give : ℕ → Type 0) (asking : Request → AskedAgent) (trails :
       bytes = s.bytes ∙ sym (output_stops hears more s.session.items s.session.refusal s.last few_items);
       lines = s.lines;
     }
+
+-- the ends of a connection that a holder answered, over one history that it represented
+module _ {A H : Type 0} (stands : H → History → Type 0) (faults : H → Faults) (follows : H → History → H → History → Type 0) (legal : (holder : H) (history : History) → stands holder history → IsHistory history) (still : (holder : H) (history : History) → follows holder history holder history)
+    (joins : (a b c : H) (h i j : History) → follows a h b i → follows b i c j → follows a h c j) (holder_of : A → H) (may_give : ℕ → Type 0) (asking : Request → AskedAgent) (trails : Bool) (law : IsolatesItems may_give) (begun : History) (first last : A) (held : stands (holder_of first) begun) where
+  abbrev pub holder_leaves : List Item → Type 0
+  holder_leaves = Leaves stands faults follows begun (holder_of first) (holder_of last)
+
+  chained : (items : List Item) → AreItems (holder_rules stands faults follows holder_of may_give asking trails) first last items → Chained stands faults follows still joins holder_of may_give asking trails begun first last items
+  chained items a = chain_is_session stands faults follows still joins holder_of may_give asking trails items first last begun held a.chain
+
+  session_items : (items : List Item) → AreItems (holder_rules stands faults follows holder_of may_give asking trails) first last items → AreSessionItems may_give asking begun items
+  session_items items a =
+      let c = chained items a in
+      let from : AreItemsFrom may_give 1 begun items = record { is_history = legal (holder_of last) (grown begun items) c.left.gone.0; answers = c.so_far.answers; places = c.so_far.places } in
+      record {
+        numbers = a.numbers;
+        asked = a.asked;
+        answers = from.answers;
+        places = from.places;
+        is_history = from.is_history;
+        isolated = law 1 begun items from;
+      }
+
+  -- all events were answered
+  pub served_of : (upgraded : Bool) (events : List Heard) (written trail : List ℕ) → EndsWhole (holder_rules stands faults follows holder_of may_give asking trails) upgraded first last events written trail → IsServed may_give asking trails begun holder_leaves upgraded events written trail
+  served_of upgraded events written trail e = record {
+    session = session_of may_give asking trails begun holder_leaves e.items e.refusal;
+    continues = continues may_give asking trails begun holder_leaves e.items (session_items e.items e.are_items) events e.refusal (whole_front _ _ e.requests) e.last e.refused;
+    left = (chained e.items e.are_items).left;
+    whole = inr (sym (length-map e.items (λ (i : Item). i.request)) ∙ ap length e.requests, e.refuses);
+    last = e.upgraded_is;
+    bytes = e.output;
+    lines = e.lines;
+  }
+
+  -- the connection was cut off
+  pub stopped_of : (events : List Heard) (written trail : List ℕ) → EndsPart (holder_rules stands faults follows holder_of may_give asking trails) first last events written trail → IsStopped may_give asking trails begun holder_leaves events written trail
+  stopped_of events written trail e = record {
+    session = session_of may_give asking trails begun holder_leaves e.items e.refusal;
+    continues = continues may_give asking trails begun holder_leaves e.items (session_items e.items e.are_items) events e.refusal e.requests e.last e.refused;
+    left = (chained e.items e.are_items).left;
+    bytes = e.output;
+    lines = e.lines;
+  }

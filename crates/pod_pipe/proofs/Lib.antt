@@ -1,14 +1,10 @@
+pub mod BareLemmas
+pub mod ChainLemmas
 pub mod EndingsLemmas
-pub mod HeardLemmas
+pub mod HolderLemmas
 pub mod LongerSessions
 pub mod MemoryLemmas
-pub mod OutcomeLemmas
-pub mod ProgressLemmas
 pub mod ReadsLemmas
-pub mod RefusedLemmas
 pub mod ServingLemmas
 pub mod SessionLemmas
-pub mod TakenLemmas
-pub mod TalksLemmas
 pub mod Weaker
-pub mod WritesLemmas

@@ -16,11 +16,11 @@ use Rattle.session_laws.proofs.AlikeSessions.{still_isolated}
 use Rattle.token_table.specs.Credentials.{AskedAgent}
 use Rattle.pod_pipe.specs.Served.{Continues, IsStopped, WritesSession}
 use Rattle.pod_pipe.specs.Statuses.{HearsFirst, IsHeard, IsWritten, Pipes}
-use Rattle.pod_pipe.specs.Trails.{trail_of}
+use Rattle.conn_talk.specs.Trails.{trail_of}
 use Rattle.pod_pipe.specs.declared.status.PipeEnd.{PipeEnd}
 use Rattle.pod_pipe.specs.declared.status.PipeEnd.TheVariants.{Peer, Cut, Closed, Limit, Upgraded, Bad, ReadFault, WriteFault, NoMemory, ReadLimit}
 use Rattle.pod_pipe.proofs.EndingsLemmas.{served_stops}
-use Rattle.pod_pipe.proofs.HeardLemmas.{requests_append}
+use Rattle.conn_talk.proofs.HeardLemmas.{requests_append}
 use Rattle.pod_pipe.proofs.ServingLemmas.{hears_first, all_first}
 
 -- no event follows a malformed message

@@ -17,7 +17,7 @@ use Rattle.reply_laws.specs.Granted.{is_change}
 use Rattle.token_table.specs.Credentials.{AskedAgent}
 use Rattle.pod_pipe.specs.Holders.{moment_of_request, stamp_of_request}
 use Rattle.pod_pipe.specs.Memory.{IsMemoryOf}
-use Rattle.pod_pipe.proofs.TakenLemmas.{bare_applied, bare_applies, bare_count, bare_seconds}
+use Rattle.pod_pipe.proofs.BareLemmas.{bare_applied, bare_applies, bare_count, bare_seconds}
 
 module _ (pod : Pod) (next last : ℕ) (history : History) (k : IsMemoryOf pod next last history) where
   at_end : pod ≡ replayed history.first history.entries

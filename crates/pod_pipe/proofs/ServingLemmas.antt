@@ -1,46 +1,42 @@
 -- The pieces of an input, one after the other.
 use Rattle.std.proofs.Common.{◌≡◌, inl, inr, ⊎_elim, ℕ, Bool, ◌+◌, ◌<◌, ◌≤◌, ◌^◌, ◌==◌, true, false, if◌then◌else◌, List, [], ◌++◌, length, ◌⊎◌, Option, Some, None, Ok, Err, refl, sym, ap, subst, append_assoc, length-append, ◌∙◌, arith}
-use Rattle.std.specs.List.{AllByRecursion}
 use Rattle.std.proofs.lemmas.Bool.Decides.{nat_tests}
 use Rattle.std.proofs.lemmas.List.{append-nil}
-use Rattle.http_conn.specs.Messages.{Messages, AreFirstEvents, NothingAfterEnd, StaysOpen}
+use Rattle.conn_talk.specs.Talks.{Ends, EndsPart, EndsWhole, TurnsIn}
+use Rattle.conn_talk.specs.Turns.{Rules}
+use Rattle.conn_talk.specs.declared.talk_end.TalkEnd.{TalkEnd}
+use Rattle.conn_talk.specs.declared.talk_end.TalkEnd.TheVariants as talks
+use Rattle.conn_talk.proofs.HeardLemmas.{not_bad}
+use Rattle.conn_talk.proofs.PieceLemmas.{Answering, EndedIn, all_ended, answering_messages, answering_more, answering_none, ended_in}
+use Rattle.conn_talk.proofs.TalksLemmas.{talks_part, talks_whole}
+use Rattle.http_conn.specs.Messages.{Messages, AreFirstEvents, StaysOpen}
 use Rattle.http_conn.specs.ParserStates.{Represents, rest_of}
 use Rattle.http_conn.specs.declared.parser_state.ParserState.{ParserState}
-use Rattle.http_conn.proofs.EndLemmas.{ends_there, ended_rest}
 use Rattle.http_conn.proofs.LongerTexts.{events_stay_first}
-use Rattle.http_conn.proofs.StepLemmas.{represents_messages}
 use Rattle.pod_base.specs.Counts.{CountIncreased}
 use Rattle.pod_base.specs.declared.heard.Heard.{Heard}
 use Rattle.pod_base.specs.declared.request.Request.{Request}
-use Rattle.pod_core.specs.History.{History, IsHistory}
-use Rattle.pod_core.specs.Session.{Item, requests_of}
+use Rattle.pod_core.specs.History.{History}
+use Rattle.pod_core.specs.Session.{Item}
 use Rattle.pod_io.specs.Counts.{next_count}
 use Rattle.token_table.specs.Credentials.{AskedAgent}
-use Rattle.pod_pipe.specs.Holders.{Faults}
+use Rattle.pod_pipe.specs.Held.{end_of_talk}
 use Rattle.pod_pipe.specs.Streams.{Reads, AtEnd, AddsReads, MeetsEnd, CountsInput}
-use Rattle.pod_pipe.specs.Served.{IsServed, IsStopped, Leaves}
+use Rattle.pod_pipe.specs.Served.{IsServed, IsStopped}
 use Rattle.line_sink.specs.Writing.{AddsOrPart, AddsPart, ExtendsBy}
 use Rattle.line_sink.proofs.Extending.{extends_more, nothing_added}
 use Rattle.pod_pipe.specs.Statuses.{HearsFirst, IsHeard, IsWritten, IsTold, Pipes, ComesOf, Tells, end_line}
-use Rattle.pod_pipe.specs.Talks.{Talks, MayBeSent, Ends, IsAll, TurnsIn}
 use Rattle.pod_pipe.specs.declared.status.PipeEnd.{PipeEnd}
 use Rattle.pod_pipe.specs.declared.status.PipeEnd.TheVariants.{Peer, Cut, Closed, Limit, Upgraded, Bad, ReadFault, WriteFault, NoMemory, ReadLimit}
 use Rattle.pod_pipe.proofs.EndingsLemmas.{served_longer, served_stops}
-use Rattle.pod_pipe.proofs.HeardLemmas.{ends_behind, refused_behind, not_bad}
-use Rattle.pod_pipe.proofs.ProgressLemmas.{nothing_left, nothing_yet}
-use Rattle.pod_pipe.proofs.RefusedLemmas.{are_refused}
-use Rattle.pod_pipe.proofs.TalksLemmas.{items_count, stops_before, serves_before}
 
 -- What was read so far was answered, and the connection is open.
-pub record Serving {H : Type 0} (stands : H → History → Type 0) (faults : H → Faults) (follows : H → History → H → History → Type 0) (may_give : ℕ → Type 0) (asking : Request → AskedAgent) (trails : Bool) (begun : History) (first : H) (stage : ParserState) (holder : H) (number : ℕ)
-    (old_input new_input old_output new_output old_errors new_errors : Option (List ℕ)) (pieces : ℕ) : Type 0 where
+pub record Serving {A : Type 0} (rules : Rules A) (first : A) (stage : ParserState) (holder : A) (number : ℕ) (old_input new_input old_output new_output old_errors new_errors : Option (List ℕ)) (pieces : ℕ) : Type 0 where
   pub text : List ℕ
-  pub heard : List Heard
   pub written : List ℕ
   pub trail : List ℕ
   pub reads : Reads text old_input new_input
-  pub represents : Represents stage text heard
-  pub talks : Talks stands faults follows may_give asking trails begun first holder number heard written trail
+  pub answering : Answering rules first stage holder number text written trail
   pub writes : ExtendsBy written old_output new_output
   pub trails_too : ExtendsBy trail old_errors new_errors
   pub many : pieces ≤ length text
@@ -70,232 +66,201 @@ first_heard text more hears those rest m = hears_first (text ++ more) hears (rec
 pub all_first : (text : List ℕ) (hears : List Heard) (rest : ℕ) → Messages text hears rest → HearsFirst text hears
 all_first text hears rest m = hears_first text hears (record { prefix = text; is_prefix = ([], append-nil text); all = hears; rest = rest; messages = m; first = ([], sym (sym (append-nil hears))) })
 
-module _ {H : Type 0} (stands : H → History → Type 0) (faults : H → Faults) (follows : H → History → H → History → Type 0) (legal : (holder : H) (history : History) → stands holder history → IsHistory history) (still : (holder : H) (history : History) → follows holder history holder history) (joins : (a b c : H) (h i j : History) → follows a h b i → follows b i c j → follows a h c j) (may_give : ℕ → Type 0) (asking : Request → AskedAgent) (trails : Bool) where
-  pub begins : (begun : History) (stage : ParserState) (holder : H) (input output errors : Option (List ℕ)) → stands holder begun → Represents stage [] []
-      → Serving stands faults follows may_give asking trails begun holder stage holder 0 input input output output errors errors 0
-  begins begun stage holder input output errors held represents = record {
+module _ {A : Type 0} (rules : Rules A) where
+  pub begins : (stage : ParserState) (holder : A) (input output errors : Option (List ℕ)) → Represents stage [] [] → Serving rules holder stage holder 0 input input output output errors errors 0
+  begins stage holder input output errors represents = record {
     text = [];
-    heard = [];
     written = [];
     trail = [];
     reads = nothing_read input;
-    represents = represents;
-    talks = record {
-      items = [];
-      progress = nothing_yet may_give asking begun (legal holder begun held);
-      plain = tt;
-      left = nothing_left stands faults follows still begun holder held;
-      number_is = refl;
-      stays = tt;
-      output = refl;
-      lines = refl;
-    };
+    answering = answering_none rules holder stage represents;
     writes = nothing_added output;
     trails_too = nothing_added errors;
     many = omega arith;
   }
 
-  module _ (begun : History) (first : H) (stage : ParserState) (holder : H) (number : ℕ) (old_input new_input old_output new_output old_errors new_errors : Option (List ℕ)) (pieces : ℕ) (s : Serving stands faults follows may_give asking trails begun first stage holder number old_input new_input old_output new_output old_errors new_errors pieces) where
-    abbrev leaves : List Item → Type 0
-    leaves = Leaves stands faults follows begun first holder
-
-    messages : Messages s.text s.heard (rest_of stage)
-    messages = represents_messages stage s.text s.heard s.represents
-
-    -- a read failed
-    pub read_fault : (last : Option (List ℕ)) → last ≡ new_input → Pipes may_give asking trails begun leaves ReadFault old_input last old_output new_output old_errors new_errors
-    read_fault last same = record {
-      read = s.text;
-      heard = s.heard;
-      written = s.written;
-      trail = s.trail;
-      reads = subst (Reads s.text old_input) (sym same) s.reads;
-      hears = (rest_of stage, messages, s.talks.stays);
-      serves = serves_before stands faults follows legal still joins may_give asking trails begun first holder number s.heard s.written s.trail s.talks;
-      writes = s.writes;
-      trails_too = s.trails_too;
+  module _ (first : A) (stage : ParserState) (holder : A) (number : ℕ) (old_input new_input old_output new_output old_errors new_errors : Option (List ℕ)) (pieces : ℕ) (s : Serving rules first stage holder number old_input new_input old_output new_output old_errors new_errors pieces) where
+    -- all of a piece was answered
+    pub goes_on : (piece : List ℕ) (last_input : Option (List ℕ)) (next : ParserState) (those : List Heard) (rest : ℕ) (after : A) (number_now : ℕ) (text lines : List ℕ) (output errors : Option (List ℕ))
+        → Reads (s.text ++ piece) old_input last_input → Messages (s.text ++ piece) (s.answering.heard ++ those) rest → Represents next (s.text ++ piece) (s.answering.heard ++ those) → ExtendsBy text new_output output → ExtendsBy lines new_errors errors
+        → TurnsIn rules holder number after number_now those text lines (Ok tt) → 0 < length piece
+        → Serving rules first next after number_now old_input last_input old_output output old_errors errors (pieces + 1)
+    goes_on piece last_input next those rest after number_now text lines output errors reads m represents adds adds_lines t some = record {
+      text = s.text ++ piece;
+      written = s.written ++ text;
+      trail = s.trail ++ lines;
+      reads = reads;
+      answering = answering_more rules first stage holder number s.text s.written s.trail s.answering (s.text ++ piece) those rest m after number_now text lines next represents t;
+      writes = extends_more old_output new_output output s.written text s.writes adds;
+      trails_too = extends_more old_errors new_errors errors s.trail lines s.trails_too adds_lines;
+      many = omega (arith, s.many, some, length-append s.text piece);
     }
 
-    -- the bound on reads was reached
-    pub bounded : 2 ^ 40 ≤ pieces → Pipes may_give asking trails begun leaves ReadLimit old_input new_input old_output new_output old_errors new_errors
-    bounded all = record {
-      read = s.text;
-      heard = s.heard;
-      written = s.written;
-      trail = s.trail;
-      reads = s.reads;
-      hears = (rest_of stage, messages, s.talks.stays, omega (arith, all, s.many));
-      serves = serves_before stands faults follows legal still joins may_give asking trails begun first holder number s.heard s.written s.trail s.talks;
-      writes = s.writes;
-      trails_too = s.trails_too;
-    }
+    -- the answered events of a piece end no connection without a place for a request
+    pub has_place : (those : List Heard) (after : A) (number_now : ℕ) (text lines : List ℕ) (end : TalkEnd) → ((request : Request) (old new : A) → rules.passes request old new → ⊥)
+        → TurnsIn rules holder number after number_now those text lines (Err end) → end ≡ talks.NoPlace → ⊥
+    has_place those after number_now text lines end placed t is =
+        let e : Ends rules talks.NoPlace first after (s.answering.heard ++ t.front) (s.written ++ text) (s.trail ++ lines) =
+        subst (λ x. Ends rules x first after (s.answering.heard ++ t.front) (s.written ++ text) (s.trail ++ lines)) is (t.turns first s.answering.heard s.written s.trail s.answering.talks) in
+        placed e.request e.mid after e.passed
 
-    -- the input ended
-    pub at_end : (rest : ℕ) (end : PipeEnd) (last : Option (List ℕ)) → rest ≡ rest_of stage → end ≡ (if rest == 0 then Peer else Cut rest) → Reads s.text old_input last → AtEnd last
-        → Pipes may_give asking trails begun leaves end old_input last old_output new_output old_errors new_errors
-    at_end rest end last left is reads over =
-        let told : Messages s.text s.heard rest = subst (Messages s.text s.heard) (sym left) messages in
-        subst (λ e. Pipes may_give asking trails begun leaves e old_input last old_output new_output old_errors new_errors) (sym is)
-        (elim (rest == 0) as (λ b. (rest == 0) ≡ b → Pipes may_give asking trails begun leaves (if b then Peer else Cut rest) old_input last old_output new_output old_errors new_errors) [
-          | true ↦ λ e.
-              let none : rest ≡ 0 = grind (arith, nat_tests) in
-              record {
-                read = s.text;
-                heard = s.heard;
-                written = s.written;
-                trail = s.trail;
-                reads = reads;
-                hears = (subst (Messages s.text s.heard) none told, s.talks.stays, over);
-                serves = serves_before stands faults follows legal still joins may_give asking trails begun first holder number s.heard s.written s.trail s.talks;
-                writes = s.writes;
-                trails_too = s.trails_too;
-              }
-          | false ↦ λ e.
-              let some : rest ≡ 0 → ⊥ = λ z. grind (arith, nat_tests) in
-              record {
-                read = s.text;
-                heard = s.heard;
-                written = s.written;
-                trail = s.trail;
-                reads = reads;
-                hears = (told, omega (arith, some), s.talks.stays, over);
-                serves = serves_before stands faults follows legal still joins may_give asking trails begun first holder number s.heard s.written s.trail s.talks;
-                writes = s.writes;
-                trails_too = s.trails_too;
-              }
-        ] refl)
+  -- `serves` and `stops`: what the ends of the connection say of one history, where `last` is what
+  -- answered at the end
+  module _ (may_give : ℕ → Type 0) (asking : Request → AskedAgent) (trails : Bool) (begun : History) (leaves : List Item → Type 0) (first last : A)
+      (serves : (upgraded : Bool) (events : List Heard) (written trail : List ℕ) → EndsWhole rules upgraded first last events written trail → IsServed may_give asking trails begun leaves upgraded events written trail)
+      (stops : (events : List Heard) (written trail : List ℕ) → EndsPart rules first last events written trail → IsStopped may_give asking trails begun leaves events written trail) where
+    module _ (stage : ParserState) (number : ℕ) (old_input new_input old_output new_output old_errors new_errors : Option (List ℕ)) (pieces : ℕ) (s : Serving rules first stage last number old_input new_input old_output new_output old_errors new_errors pieces) where
+      messages : Messages s.text s.answering.heard (rest_of stage)
+      messages = answering_messages rules first stage last number s.text s.written s.trail s.answering
 
-    -- what was heard ends no connection by a read
-    pub never_reads : (after : H) (number_now : ℕ) (those : List Heard) (text lines : List ℕ) (end : PipeEnd) → TurnsIn stands faults follows may_give asking trails holder number after number_now those text lines (Err end) → end ≡ ReadFault → ⊥
-    never_reads after number_now those text lines end t is =
-        subst (λ e. Ends stands faults follows may_give asking trails begun (Leaves stands faults follows begun first after) e (s.heard ++ t.front) (s.written ++ text) (s.trail ++ lines)) is (t.turns begun first s.heard s.written s.trail s.talks)
+      so_far : IsServed may_give asking trails begun leaves false s.answering.heard s.written s.trail
+      so_far = serves false s.answering.heard s.written s.trail (talks_whole rules first last number s.answering.heard s.written s.trail s.answering.talks)
 
-    module _ (piece : List ℕ) (last_input : Option (List ℕ)) (reads : Reads (s.text ++ piece) old_input last_input) where
-      -- no memory was left to hear the piece
-      pub no_memory : Pipes may_give asking trails begun leaves NoMemory old_input last_input old_output new_output old_errors new_errors
-      no_memory = record {
-        read = s.text ++ piece;
-        heard = s.heard;
+      -- a read failed
+      pub read_fault : (input : Option (List ℕ)) → input ≡ new_input → Pipes may_give asking trails begun leaves ReadFault old_input input old_output new_output old_errors new_errors
+      read_fault input same = record {
+        read = s.text;
+        heard = s.answering.heard;
         written = s.written;
         trail = s.trail;
-        reads = reads;
-        hears = first_heard s.text piece s.heard [] (rest_of stage) (subst (λ h. Messages s.text h (rest_of stage)) (sym (append-nil s.heard)) messages);
-        serves = stops_before stands faults follows legal still joins may_give asking trails begun first holder number s.heard s.written s.trail s.talks;
+        reads = subst (Reads s.text old_input) (sym same) s.reads;
+        hears = (rest_of stage, messages, s.answering.talks.stays);
+        serves = so_far;
         writes = s.writes;
         trails_too = s.trails_too;
       }
 
-      module _ (next : ParserState) (those : List Heard) (rest : ℕ) (m : Messages (s.text ++ piece) (s.heard ++ those) rest) where
-        count_is : 0 + length (requests_of s.heard) ≡ number
-        count_is = omega (arith, s.talks.number_is, items_count stands faults follows legal still joins may_give asking trails begun first holder number s.heard s.written s.trail s.talks)
+      -- the limit on reads was reached
+      pub bounded : 2 ^ 40 ≤ pieces → Pipes may_give asking trails begun leaves ReadLimit old_input new_input old_output new_output old_errors new_errors
+      bounded all = record {
+        read = s.text;
+        heard = s.answering.heard;
+        written = s.written;
+        trail = s.trail;
+        reads = s.reads;
+        hears = (rest_of stage, messages, s.answering.talks.stays, omega (arith, all, s.many));
+        serves = so_far;
+        writes = s.writes;
+        trails_too = s.trails_too;
+      }
 
-        -- what the piece says ends where the connection does
-        pub ends : NothingAfterEnd number those
-        ends = subst (λ n. NothingAfterEnd n those) count_is (ends_behind 0 s.heard those s.talks.stays (ends_there (s.text ++ piece) (s.heard ++ those) rest m))
+      -- the input ended
+      pub at_end : (rest : ℕ) (end : PipeEnd) (input : Option (List ℕ)) → rest ≡ rest_of stage → end ≡ (if rest == 0 then Peer else Cut rest) → Reads s.text old_input input → AtEnd input
+          → Pipes may_give asking trails begun leaves end old_input input old_output new_output old_errors new_errors
+      at_end rest end input left is reads over =
+          let told : Messages s.text s.answering.heard rest = subst (Messages s.text s.answering.heard) (sym left) messages in
+          subst (λ e. Pipes may_give asking trails begun leaves e old_input input old_output new_output old_errors new_errors) (sym is)
+          (elim (rest == 0) as (λ b. (rest == 0) ≡ b → Pipes may_give asking trails begun leaves (if b then Peer else Cut rest) old_input input old_output new_output old_errors new_errors) [
+            | true ↦ λ e.
+                let none : rest ≡ 0 = grind (arith, nat_tests) in
+                record {
+                  read = s.text;
+                  heard = s.answering.heard;
+                  written = s.written;
+                  trail = s.trail;
+                  reads = reads;
+                  hears = (subst (Messages s.text s.answering.heard) none told, s.answering.talks.stays, over);
+                  serves = so_far;
+                  writes = s.writes;
+                  trails_too = s.trails_too;
+                }
+            | false ↦ λ e.
+                let some : rest ≡ 0 → ⊥ = λ z. grind (arith, nat_tests) in
+                record {
+                  read = s.text;
+                  heard = s.answering.heard;
+                  written = s.written;
+                  trail = s.trail;
+                  reads = reads;
+                  hears = (told, omega (arith, some), s.answering.talks.stays, over);
+                  serves = so_far;
+                  writes = s.writes;
+                  trails_too = s.trails_too;
+                }
+          ] refl)
 
-        pub statuses : AllByRecursion MayBeSent those
-        statuses = refused_behind s.heard those (are_refused (s.text ++ piece) (s.heard ++ those) rest m)
+      -- no memory was left to parse a piece
+      pub no_memory : (piece : List ℕ) (input : Option (List ℕ)) → Reads (s.text ++ piece) old_input input → Pipes may_give asking trails begun leaves NoMemory old_input input old_output new_output old_errors new_errors
+      no_memory piece input reads = record {
+        read = s.text ++ piece;
+        heard = s.answering.heard;
+        written = s.written;
+        trail = s.trail;
+        reads = reads;
+        hears = first_heard s.text piece s.answering.heard [] (rest_of stage) (subst (λ h. Messages s.text h (rest_of stage)) (sym (append-nil s.answering.heard)) messages);
+        serves = stops s.answering.heard s.written s.trail (talks_part rules first last number s.answering.heard s.written s.trail s.answering.talks);
+        writes = s.writes;
+        trails_too = s.trails_too;
+      }
 
-        -- all of it was answered
-        pub goes_on : Represents next (s.text ++ piece) (s.heard ++ those) → (after : H) (number_now : ℕ) (text lines : List ℕ) (output errors : Option (List ℕ)) → ExtendsBy text new_output output → ExtendsBy lines new_errors errors
-            → TurnsIn stands faults follows may_give asking trails holder number after number_now those text lines (Ok tt) → 0 < length piece
-            → Serving stands faults follows may_give asking trails begun first next after number_now old_input last_input old_output output old_errors errors (pieces + 1)
-        goes_on represents after number_now text lines output errors adds adds_lines t some =
-            let whole : t.front ≡ those = sym (append-nil t.front) ∙ ap (λ b. t.front ++ b) (sym t.over) ∙ t.cut in
-            record {
-              text = s.text ++ piece;
-              heard = s.heard ++ those;
-              written = s.written ++ text;
-              trail = s.trail ++ lines;
-              reads = reads;
-              represents = represents;
-              talks = subst (λ h. Talks stands faults follows may_give asking trails begun first after number_now (s.heard ++ h) (s.written ++ text) (s.trail ++ lines)) whole (t.turns begun first s.heard s.written s.trail s.talks);
-              writes = extends_more old_output new_output output s.written text s.writes adds;
-              trails_too = extends_more old_errors new_errors errors s.trail lines s.trails_too adds_lines;
-              many = omega (arith, s.many, some, length-append s.text piece);
-            }
+    -- the connection ended in a piece
+    module _ (text written trail : List ℕ) (placed : (request : Request) (old new : A) → rules.passes request old new → ⊥) where
+      heard_so : (end : TalkEnd) (e : EndedIn rules first last end text written trail) (input : Option (List ℕ)) → IsHeard (end_of_talk end) text (events_at (end_of_talk end) e.all e.front) input
+      heard_so talks.Closed e input = (all_ended rules first last talks.Closed text written trail e e.over e.ends.1, (e.ends.1, e.ends.3), e.ends.2)
+      heard_so talks.Limit e input = (all_ended rules first last talks.Limit text written trail e e.over e.ends.1, (e.ends.1, e.ends.3), e.ends.2)
+      heard_so talks.Upgraded e input = (e.rest, e.messages)
+      heard_so (talks.Bad status) e input = (all_ended rules first last (talks.Bad status) text written trail e e.over (λ stays. not_bad 0 e.front status stays e.ends.1), e.ends.1)
+      heard_so talks.WriteFault e input = (e.all, e.rest, e.messages, (e.more, e.cut))
+      heard_so talks.NoMemory e input = hears_first text e.front (record { prefix = text; is_prefix = ([], append-nil text); all = e.all; rest = e.rest; messages = e.messages; first = (e.more, sym e.cut) })
+      heard_so talks.NoPlace e input = absurd (placed e.ends.request e.ends.mid last e.ends.passed)
 
-        -- the connection ended in it
-        pub ended : (after : H) (number_now : ℕ) (end : PipeEnd) (text lines : List ℕ) (output errors : Option (List ℕ)) → ExtendsBy text new_output output → ExtendsBy lines new_errors errors
-            → TurnsIn stands faults follows may_give asking trails holder number after number_now those text lines (Err end)
-            → Pipes may_give asking trails begun (Leaves stands faults follows begun first after) end old_input last_input old_output output old_errors errors
-        ended after number_now end text lines output errors adds adds_lines t = record {
+      written_so : (end : TalkEnd) (e : EndedIn rules first last end text written trail) → IsWritten may_give asking trails begun leaves (end_of_talk end) (events_at (end_of_talk end) e.all e.front) written trail
+      written_so talks.Closed e = serves false e.front written trail e.ends.0
+      written_so talks.Limit e = serves false e.front written trail e.ends.0
+      written_so talks.Upgraded e =
+          subst (λ (h : List Heard). IsServed may_give asking trails begun leaves true h written trail) (sym e.cut)
+          (served_longer may_give asking trails begun leaves e.front e.more written trail (serves true e.front written trail e.ends))
+      written_so (talks.Bad status) e = serves false e.front written trail e.ends.0
+      written_so talks.WriteFault e = stops e.front written trail e.ends
+      written_so talks.NoMemory e = stops e.front written trail e.ends
+      written_so talks.NoPlace e = absurd (placed e.ends.request e.ends.mid last e.ends.passed)
+
+    pub ended : (stage : ParserState) (holder : A) (number number_now : ℕ) (old_input new_input old_output new_output old_errors new_errors : Option (List ℕ)) (pieces : ℕ) (s : Serving rules first stage holder number old_input new_input old_output new_output old_errors new_errors pieces)
+        (piece : List ℕ) (input : Option (List ℕ)) (those : List Heard) (rest : ℕ) (end : TalkEnd) (text lines : List ℕ) (output errors : Option (List ℕ)) → ((request : Request) (old new : A) → rules.passes request old new → ⊥)
+        → Reads (s.text ++ piece) old_input input → Messages (s.text ++ piece) (s.answering.heard ++ those) rest → ExtendsBy text new_output output → ExtendsBy lines new_errors errors
+        → TurnsIn rules holder number last number_now those text lines (Err end) → Pipes may_give asking trails begun leaves (end_of_talk end) old_input input old_output output old_errors errors
+    ended stage holder number number_now old_input new_input old_output new_output old_errors new_errors pieces s piece input those rest end text lines output errors placed reads m adds adds_lines t =
+        let e = ended_in rules first stage holder number s.text s.written s.trail s.answering (s.text ++ piece) those rest m last number_now text lines end t in
+        record {
           read = s.text ++ piece;
-          heard = events_at end (s.heard ++ those) (s.heard ++ t.front);
+          heard = events_at (end_of_talk end) e.all e.front;
           written = s.written ++ text;
           trail = s.trail ++ lines;
           reads = reads;
-          hears = heard_so end t.front t.behind t.cut t.over told;
-          serves = written_so end t.front t.behind t.cut told;
+          hears = heard_so (s.text ++ piece) (s.written ++ text) (s.trail ++ lines) placed end e input;
+          serves = written_so (s.text ++ piece) (s.written ++ text) (s.trail ++ lines) placed end e;
           writes = extends_more old_output new_output output s.written text s.writes adds;
           trails_too = extends_more old_errors new_errors errors s.trail lines s.trails_too adds_lines;
         }
-          where
-            told : Ends stands faults follows may_give asking trails begun (Leaves stands faults follows begun first after) end (s.heard ++ t.front) (s.written ++ text) (s.trail ++ lines)
-            told = t.turns begun first s.heard s.written s.trail s.talks
 
-            none : (front behind : List Heard) → front ++ behind ≡ those → behind ≡ [] → s.heard ++ those ≡ s.heard ++ front
-            none front behind cut is = ap (λ h. s.heard ++ h) (sym cut ∙ ap (λ b. front ++ b) is ∙ append-nil front)
+-- answered events end no connection by a read, and neither by the end of the input nor by the limit on
+-- reads
+pub never_reads : (end : TalkEnd) → end_of_talk end ≡ ReadFault → ⊥
+never_reads talks.Closed is = cc
+never_reads talks.Limit is = cc
+never_reads talks.Upgraded is = cc
+never_reads (talks.Bad status) is = cc
+never_reads talks.WriteFault is = cc
+never_reads talks.NoMemory is = cc
+never_reads talks.NoPlace is = cc
 
-            all_of : (front behind : List Heard) → front ++ behind ≡ those → behind ≡ [] → (StaysOpen 0 (s.heard ++ front) → ⊥) → Messages (s.text ++ piece) (s.heard ++ front) 0
-            all_of front behind cut is closed =
-                let whole : Messages (s.text ++ piece) (s.heard ++ front) rest = subst (λ h. Messages (s.text ++ piece) h rest) (none front behind cut is) m in
-                subst (Messages (s.text ++ piece) (s.heard ++ front)) (ended_rest (s.text ++ piece) (s.heard ++ front) rest whole closed) whole
+pub is_write_fault : (end : TalkEnd) → end_of_talk end ≡ WriteFault → end ≡ talks.WriteFault
+is_write_fault talks.WriteFault is = refl
+is_write_fault talks.Closed is = absurd cc
+is_write_fault talks.Limit is = absurd cc
+is_write_fault talks.Upgraded is = absurd cc
+is_write_fault (talks.Bad status) is = absurd cc
+is_write_fault talks.NoMemory is = absurd cc
+is_write_fault talks.NoPlace is = absurd cc
 
-            longer : (front behind : List Heard) → front ++ behind ≡ those → s.heard ++ those ≡ (s.heard ++ front) ++ behind
-            longer front behind cut = ap (λ h. s.heard ++ h) (sym cut) ∙ sym (append_assoc s.heard front behind)
-
-            first_of : (front behind : List Heard) → front ++ behind ≡ those → AreFirstEvents (s.text ++ piece) (s.heard ++ front)
-            first_of front behind cut = record {
-              prefix = s.text ++ piece;
-              is_prefix = ([], append-nil (s.text ++ piece));
-              all = s.heard ++ those;
-              rest = rest;
-              messages = m;
-              first = (behind, sym (longer front behind cut));
-            }
-
-            heard_so : (end : PipeEnd) (front behind : List Heard) → front ++ behind ≡ those → IsAll behind (Err end) → Ends stands faults follows may_give asking trails begun (Leaves stands faults follows begun first after) end (s.heard ++ front) (s.written ++ text) (s.trail ++ lines)
-                → IsHeard end (s.text ++ piece) (events_at end (s.heard ++ those) (s.heard ++ front)) last_input
-            heard_so Closed front behind cut over e = (all_of front behind cut over e.1, (e.1, e.3), e.2)
-            heard_so Limit front behind cut over e = (all_of front behind cut over e.1, (e.1, e.3), e.2)
-            heard_so Upgraded front behind cut over e = (rest, m)
-            heard_so (Bad status) front behind cut over e = (all_of front behind cut over (λ open_still. not_bad 0 (s.heard ++ front) status open_still e.1), e.1)
-            heard_so WriteFault front behind cut over e = (s.heard ++ those, rest, m, (behind, longer front behind cut))
-            heard_so NoMemory front behind cut over e = hears_first (s.text ++ piece) (s.heard ++ front) (first_of front behind cut)
-            heard_so Peer front behind cut over e = absurd e
-            heard_so (Cut left) front behind cut over e = absurd e
-            heard_so ReadFault front behind cut over e = absurd e
-            heard_so ReadLimit front behind cut over e = absurd e
-
-            written_so : (end : PipeEnd) (front behind : List Heard) → front ++ behind ≡ those → Ends stands faults follows may_give asking trails begun (Leaves stands faults follows begun first after) end (s.heard ++ front) (s.written ++ text) (s.trail ++ lines)
-                → IsWritten may_give asking trails begun (Leaves stands faults follows begun first after) end (events_at end (s.heard ++ those) (s.heard ++ front)) (s.written ++ text) (s.trail ++ lines)
-            written_so Closed front behind cut e = e.0
-            written_so Limit front behind cut e = e.0
-            written_so Upgraded front behind cut e =
-                subst (λ (h : List Heard). IsServed may_give asking trails begun (Leaves stands faults follows begun first after) true h (s.written ++ text) (s.trail ++ lines)) (sym (longer front behind cut))
-                (served_longer may_give asking trails begun (Leaves stands faults follows begun first after) (s.heard ++ front) behind (s.written ++ text) (s.trail ++ lines) e)
-            written_so (Bad status) front behind cut e = e.0
-            written_so WriteFault front behind cut e = e
-            written_so NoMemory front behind cut e = e
-            written_so Peer front behind cut e = absurd e
-            written_so (Cut left) front behind cut e = absurd e
-            written_so ReadFault front behind cut e = absurd e
-            written_so ReadLimit front behind cut e = absurd e
-
--- a piece that was heard ended the connection: neither the end of the input nor the limit on reads did
-pub counts_heard : {H : Type 0} (stands : H → History → Type 0) (faults : H → Faults) (follows : H → History → H → History → Type 0) (may_give : ℕ → Type 0) (asking : Request → AskedAgent) (trails : Bool) (begun : History) (leaves : List Item → Type 0) (end : PipeEnd) (events : List Heard) (written trail : List ℕ) (old_reads new_reads old_ends new_ends : ℕ)
-    → Ends stands faults follows may_give asking trails begun leaves end events written trail → AddsReads old_reads new_reads → new_ends ≡ old_ends → CountsInput end old_reads new_reads old_ends new_ends
-counts_heard stands faults follows may_give asking trails begun leaves Closed events written trail old_reads new_reads old_ends new_ends e le same = record { reads = le; limit = λ is. absurd cc; ends = same }
-counts_heard stands faults follows may_give asking trails begun leaves Limit events written trail old_reads new_reads old_ends new_ends e le same = record { reads = le; limit = λ is. absurd cc; ends = same }
-counts_heard stands faults follows may_give asking trails begun leaves Upgraded events written trail old_reads new_reads old_ends new_ends e le same = record { reads = le; limit = λ is. absurd cc; ends = same }
-counts_heard stands faults follows may_give asking trails begun leaves (Bad status) events written trail old_reads new_reads old_ends new_ends e le same = record { reads = le; limit = λ is. absurd cc; ends = same }
-counts_heard stands faults follows may_give asking trails begun leaves WriteFault events written trail old_reads new_reads old_ends new_ends e le same = record { reads = le; limit = λ is. absurd cc; ends = inl same }
-counts_heard stands faults follows may_give asking trails begun leaves NoMemory events written trail old_reads new_reads old_ends new_ends e le same = record { reads = le; limit = λ is. absurd cc; ends = inl same }
-counts_heard stands faults follows may_give asking trails begun leaves Peer events written trail old_reads new_reads old_ends new_ends e le same = absurd e
-counts_heard stands faults follows may_give asking trails begun leaves (Cut left) events written trail old_reads new_reads old_ends new_ends e le same = absurd e
-counts_heard stands faults follows may_give asking trails begun leaves ReadFault events written trail old_reads new_reads old_ends new_ends e le same = absurd e
-counts_heard stands faults follows may_give asking trails begun leaves ReadLimit events written trail old_reads new_reads old_ends new_ends e le same = absurd e
+pub counts_heard : (end : TalkEnd) (old_reads new_reads old_ends new_ends : ℕ) → AddsReads old_reads new_reads → new_ends ≡ old_ends → CountsInput (end_of_talk end) old_reads new_reads old_ends new_ends
+counts_heard talks.Closed old_reads new_reads old_ends new_ends le same = record { reads = le; limit = λ is. absurd cc; ends = same }
+counts_heard talks.Limit old_reads new_reads old_ends new_ends le same = record { reads = le; limit = λ is. absurd cc; ends = same }
+counts_heard talks.Upgraded old_reads new_reads old_ends new_ends le same = record { reads = le; limit = λ is. absurd cc; ends = same }
+counts_heard (talks.Bad status) old_reads new_reads old_ends new_ends le same = record { reads = le; limit = λ is. absurd cc; ends = same }
+counts_heard talks.WriteFault old_reads new_reads old_ends new_ends le same = record { reads = le; limit = λ is. absurd cc; ends = inl same }
+counts_heard talks.NoMemory old_reads new_reads old_ends new_ends le same = record { reads = le; limit = λ is. absurd cc; ends = inl same }
+counts_heard talks.NoPlace old_reads new_reads old_ends new_ends le same = record { reads = le; limit = λ is. absurd cc; ends = inl same }
 
 -- the end of the input
 pub counts_end : (rest : ℕ) (end : PipeEnd) (old_reads new_reads old_ends new_ends : ℕ) → end ≡ (if rest == 0 then Peer else Cut rest) → AddsReads old_reads new_reads

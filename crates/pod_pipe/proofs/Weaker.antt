@@ -1,5 +1,5 @@
 -- The same with less said of what is left of the holder, and where nothing was served.
-use Rattle.std.proofs.Common.{ℕ, Bool, true, false, List, [], Option, refl, arith}
+use Rattle.std.proofs.Common.{ℕ, Bool, true, false, List, [], Option, None, refl, sym, subst, length-append, arith}
 use Rattle.http_conn.specs.Messages.{Messages, unfinished, in_head}
 use Rattle.pod_base.specs.declared.heard.Heard.{Heard}
 use Rattle.pod_base.specs.declared.request.Request.{Request}
@@ -10,8 +10,9 @@ use Rattle.pod_pipe.specs.Served.{IsServed, IsStopped, WritesSession}
 use Rattle.pod_pipe.specs.Statuses.{IsWritten, Pipes, PipesAndTells}
 use Rattle.pod_pipe.specs.declared.status.PipeEnd.{PipeEnd}
 use Rattle.pod_pipe.specs.declared.status.PipeEnd.TheVariants.{Peer, Cut, Closed, Limit, Upgraded, Bad, ReadFault, WriteFault, NoMemory, ReadLimit}
-use Rattle.pod_pipe.proofs.EndingsLemmas.{Came, served_stops, serves}
-use Rattle.pod_pipe.proofs.ProgressLemmas.{nothing_yet}
+use Rattle.session_laws.proofs.AlikeSessions.{nothing_isolated}
+use Rattle.session_laws.proofs.PodsAtEnd.{same_history}
+use Rattle.pod_pipe.proofs.EndingsLemmas.{AreSessionItems, continues, session_of}
 use Rattle.pod_pipe.proofs.ServingLemmas.{all_first, nothing_read}
 use Rattle.pod_pipe.proofs.LongerSessions.{writes_session}
 use Rattle.line_sink.proofs.Extending.{nothing_added}
@@ -65,26 +66,43 @@ module _ (may_give : ℕ → Type 0) (asking : Request → AskedAgent) (trails :
     session = λ all rest m. stopped all w.written w.trail (w.session all rest m);
   }
 
--- in nothing nothing is heard
+-- an empty text has no events
 nothing_heard : Messages [] [] 0
 nothing_heard = unfinished [] [] [] refl (record { few = omega arith; stays = tt }) (in_head refl)
 
 -- nothing was read, and nothing written
 module _ (may_give : ℕ → Type 0) (asking : Request → AskedAgent) (trails : Bool) (begun : History) (legal : IsHistory begun) (leaves : List Item → Type 0) (left : leaves []) (input output errors : Option (List ℕ)) where
+  no_items : AreSessionItems may_give asking begun []
+  no_items = record {
+    numbers = refl;
+    asked = tt;
+    answers = tt;
+    places = omega (arith, length-append begun.entries []);
+    is_history = subst IsHistory (sym (same_history begun)) legal;
+    isolated = nothing_isolated may_give 1 begun;
+  }
+
+  nothing_stopped : IsStopped may_give asking trails begun leaves [] [] []
+  nothing_stopped = record {
+    session = session_of may_give asking trails begun leaves [] None;
+    continues = continues may_give asking trails begun leaves [] no_items [] None ([], refl) tt tt;
+    left = left;
+    bytes = ([], refl);
+    lines = ([], refl);
+  }
+
   nothing_piped : Pipes may_give asking trails begun leaves NoMemory input input output output errors errors
-  nothing_piped =
-      let came : Came may_give asking trails begun leaves [] [] = record { progress = nothing_yet may_give asking begun legal; last = tt; left = left } in
-      record {
-        read = [];
-        heard = [];
-        written = [];
-        trail = [];
-        reads = nothing_read input;
-        hears = all_first [] [] 0 nothing_heard;
-        serves = served_stops may_give asking trails begun leaves false [] [] [] (serves may_give asking trails begun leaves [] [] false [] [] came refl refl refl refl);
-        writes = nothing_added output;
-        trails_too = nothing_added errors;
-      }
+  nothing_piped = record {
+    read = [];
+    heard = [];
+    written = [];
+    trail = [];
+    reads = nothing_read input;
+    hears = all_first [] [] 0 nothing_heard;
+    serves = nothing_stopped;
+    writes = nothing_added output;
+    trails_too = nothing_added errors;
+  }
 
   pub unserved : (faults : ℕ) → PipesAndTells may_give asking trails begun leaves NoMemory input input output output errors errors faults faults
   unserved faults = record { trailed = errors; pipes = nothing_piped; tells = refl }

@@ -8,9 +8,9 @@ use Rattle.pod_reply.specs.Replies.{Reply}
 use Rattle.pod_reply.specs.Reply.{IsReply}
 use Rattle.reply_laws.specs.Granted.{is_change}
 use Rattle.token_table.specs.Credentials.{AskedAgent}
-use Rattle.pod_pipe.specs.declared.holder.Answer.{Answer}
-use Rattle.pod_pipe.specs.declared.holder.AnswerFault.{AnswerFault}
-use Rattle.pod_pipe.specs.declared.holder.AnswerFault.TheVariants.{NoMemory, DiskFault}
+use Rattle.conn_talk.specs.declared.answers.Answer.{Answer}
+use Rattle.pod_pipe.specs.declared.holder.HolderFault.{HolderFault}
+use Rattle.pod_pipe.specs.declared.holder.HolderFault.TheVariants.{NoMemory, DiskFault}
 
 -- The counts of faults of the two disks of a store. They are 0 where the pod is in memory.
 pub record DiskFaults : Type 0 where
@@ -20,7 +20,7 @@ pub record DiskFaults : Type 0 where
 -- What a holder counts: the faults of its disks, and the requests that ran out of memory.
 pub record Faults : Type 0 where
   pub disks : DiskFaults
-  pub starved : ℕ
+  pub out_of_memory : ℕ
 
 -- At least so many faults were counted, unless a count is at its maximum; and no count decreased.
 pub record CountsDiskFaults (many : ℕ) (old new : DiskFaults) : Type 0 where
@@ -31,14 +31,14 @@ pub record CountsDiskFaults (many : ℕ) (old new : DiskFaults) : Type 0 where
 
 -- At least so many requests that ran out of memory were counted, unless the count is at its
 -- maximum; and it didn't decrease.
-pub record CountsStarved (many old new : ℕ) : Type 0 where
+pub record CountsOutOfMemory (many old new : ℕ) : Type 0 where
   pub no_fewer : old ≤ new
   pub counted : new < 2 ^ 64 - 1 → many + old ≤ new
 
 -- So many requests met a disk fault, and so many ran out of memory: each was counted.
 pub record CountsUnanswered (disk_faults no_memory : ℕ) (old new : Faults) : Type 0 where
   pub disks : CountsDiskFaults disk_faults old.disks new.disks
-  pub starved : CountsStarved no_memory old.starved new.starved
+  pub out_of_memory : CountsOutOfMemory no_memory old.out_of_memory new.out_of_memory
 
 -- The holder after a call represents the later history, and `follows` relates it to the one before.
 abbrev pub Goes : {H : Type 0} → (H → History → Type 0) → (H → History → H → History → Type 0) → H
@@ -46,16 +46,16 @@ abbrev pub Goes : {H : Type 0} → (H → History → Type 0) → (H → History
 Goes stands follows old history new more = stands new more × follows old history new more
 
 -- one where a disk failed, and else none
-abbrev pub faults_in : {T : Type 0} → Result T AnswerFault → ℕ
+abbrev pub faults_in : {T : Type 0} → Result T HolderFault → ℕ
 faults_in (Ok answer) = 0
 faults_in (Err NoMemory) = 0
 faults_in (Err DiskFault) = 1
 
 -- one where memory ran out, and else none
-abbrev pub starved_in : {T : Type 0} → Result T AnswerFault → ℕ
-starved_in (Ok answer) = 0
-starved_in (Err NoMemory) = 1
-starved_in (Err DiskFault) = 0
+abbrev pub out_of_memory_in : {T : Type 0} → Result T HolderFault → ℕ
+out_of_memory_in (Ok answer) = 0
+out_of_memory_in (Err NoMemory) = 1
+out_of_memory_in (Err DiskFault) = 0
 
 -- The moment of a request at the end of a history, at a moment of the clock: that of a change is no
 -- earlier than that of the last entry.
@@ -68,14 +68,21 @@ abbrev pub stamp_of_request : History → Request → Stamp → Stamp
 stamp_of_request history request stamp =
     record stamp { moment = record { 0 = moment_of_request history request stamp.moment.0 } }
 
--- The request was answered at the end of the history by the reply there. The holder has advanced to
--- the history with the reply's entry, where it has one.
+-- The request was answered at the end of the history by this reply. The holder has advanced to the
+-- history with the reply's entry, where it has one.
 pub record IsAnswerAtEnd (goes : History → Type 0) (history : History) (request : Request)
-    (asked : AskedAgent) (stamp : Stamp) (answer : Answer) : Type 0 where
-  pub reply : Reply
+    (asked : AskedAgent) (stamp : Stamp) (answer : Answer) (reply : Reply) : Type 0 where
   pub reply_is : IsReply (pod_at history (end_of history)) request asked (end_of history)
       (stamp_of_request history request stamp) reply
-  pub response : answer.response ≡ reply.response
   pub place : answer.place ≡ end_of history
   pub moment : answer.moment.0 ≡ moment_of_request history request stamp.moment.0
   pub gone : goes (longer history (option_to_list reply.entry))
+
+-- One reply answered the request at the end of each history that the holder represented.
+abbrev pub AnswersAtEnd : {H : Type 0} → (H → History → Type 0)
+    → (H → History → H → History → Type 0) → H → H → Request → AskedAgent → Stamp → Answer
+    → Type 0
+AnswersAtEnd stands follows old new request asked stamp answer =
+    (reply : Reply) × (answer.response ≡ reply.response)
+    × ((history : History) → stands old history
+    → IsAnswerAtEnd (Goes stands follows old history new) history request asked stamp answer reply)

@@ -1,12 +1,9 @@
--- What public clauses cite: what a holder of a pod is, how requests are authenticated, which
--- sessions are served, and how a connection ends.
+-- What public clauses cite: what a holder of a pod is, which sessions are served, and how a
+-- connection ends.
 pub mod Holders
 pub mod Memory
-pub mod Agents
-pub mod Trails
 pub mod Served
 pub mod Streams
 pub mod Statuses
 -- internal: cited by private clauses alone
-pub mod Turns
-pub mod Talks
+pub mod Held

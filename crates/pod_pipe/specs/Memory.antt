@@ -19,7 +19,7 @@ no_faults = record { first = 0; second = 0 }
 
 -- what it counts: the requests that ran out of memory
 abbrev pub memory_faults : MemoryPod → Faults
-memory_faults pod = record { disks = no_faults; starved = pod.starved }
+memory_faults pod = record { disks = no_faults; out_of_memory = pod.out_of_memory }
 
 -- the histories that a pod in memory represents
 abbrev pub memory_stands : MemoryPod → History → Type 0

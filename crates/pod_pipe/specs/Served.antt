@@ -13,7 +13,7 @@ use Rattle.session_laws.specs.Isolated.{IsIsolated, grown}
 use Rattle.token_table.specs.Credentials.{AskedAgent}
 use Rattle.pod_pipe.specs.Holders.{Faults, CountsUnanswered, Goes}
 use Rattle.pod_pipe.specs.Streams.{Reads}
-use Rattle.pod_pipe.specs.Trails.{trail_of}
+use Rattle.conn_talk.specs.Trails.{trail_of}
 
 -- how many items met a disk fault
 abbrev pub fault_on : Outcome → ℕ
@@ -26,14 +26,14 @@ disk_faults [] = 0
 disk_faults (item ∷ items) = fault_on item.outcome + disk_faults items
 
 -- how many items ran out of memory
-abbrev pub starved_on : Outcome → ℕ
-starved_on (answered place reply) = 0
-starved_on no_memory = 1
-starved_on disk_fault = 0
+abbrev pub out_of_memory_on : Outcome → ℕ
+out_of_memory_on (answered place reply) = 0
+out_of_memory_on no_memory = 1
+out_of_memory_on disk_fault = 0
 
-abbrev pub starved_items : List Item → ℕ
-starved_items [] = 0
-starved_items (item ∷ items) = starved_on item.outcome + starved_items items
+abbrev pub out_of_memory_items : List Item → ℕ
+out_of_memory_items [] = 0
+out_of_memory_items (item ∷ items) = out_of_memory_on item.outcome + out_of_memory_items items
 
 -- The session is that of connection 1, from the end of this history on. Its own history is that one
 -- with exactly the items' entries, each of which applies. Where one agent makes all its requests,
@@ -53,7 +53,7 @@ pub record Leaves {H : Type 0} (stands : H → History → Type 0) (faults : H �
     (follows : H → History → H → History → Type 0) (begun : History) (old new : H)
     (items : List Item) : Type 0 where
   pub gone : Goes stands follows old begun new (grown begun items)
-  pub counted : CountsUnanswered (disk_faults items) (starved_items items) (faults old)
+  pub counted : CountsUnanswered (disk_faults items) (out_of_memory_items items) (faults old)
       (faults new)
 
 module _ (may_give : ℕ → Type 0) (asking : Request → AskedAgent) (trails : Bool) (begun : History)

@@ -2,17 +2,17 @@
 ghost use Rattle.std.specs.Prelude.{◌≡◌, ◌≤◌, ◌⊎◌};
 ghost use Rattle.pod_base.specs.Counts.{CountIncreased};
 ghost use Rattle.pod_core.specs.History.{History};
-ghost use Rattle.pod_pipe.specs.Agents.{asking_of};
+ghost use Rattle.conn_talk.specs.Agents.{asking_of};
 ghost use Rattle.pod_pipe.specs.Served.{Leaves, WritesSession};
 ghost use Rattle.pod_pipe.specs.Statuses.{PipesAndTells};
 ghost use Rattle.pod_pipe.specs.Streams.{CountsInput};
 
+use crate::held::Held;
 use crate::holder::PodHolder;
 use crate::options::PipeOptions;
 use crate::report_end::write_end_line;
 use crate::serve::serve;
 use crate::status::PipeEnd;
-use crate::talk::Talk;
 use pod_io::{Clock, Sink, Source};
 use std::alloc::Global;
 
@@ -65,9 +65,9 @@ pub fn pipe<H: PodHolder, S: Source, K: Sink, E: Sink, C: Clock>(
     ensures writes { K.faults output.old ≤ K.faults output.new }
     ensures tells { E.faults errors.old ≤ E.faults errors.new }
 {
-    let mut talk = Talk { holder, number: 0 };
-    let end = serve(alloc, &mut talk, options, input, output, errors, clock);
+    let mut held = Held { holder };
+    let end = serve(alloc, &mut held, options, input, output, errors, clock);
     let end = write_end_line(alloc, end, errors);
-    let Talk { holder, number: _ } = talk;
+    let Held { holder } = held;
     Piped { end, holder }
 }

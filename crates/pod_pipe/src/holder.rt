@@ -4,25 +4,17 @@ ghost use Rattle.pod_core.specs.History.{History, IsHistory};
 ghost use Rattle.reply_laws.specs.Granted.{is_change};
 ghost use Rattle.reply_laws.specs.Sent.{IsSent};
 ghost use Rattle.token_table.specs.Credentials.{asked_view};
-ghost use Rattle.pod_pipe.specs.Holders.{CountsUnanswered, Faults, Goes, IsAnswerAtEnd, faults_in};
-ghost use Rattle.pod_pipe.specs.Holders.{starved_in};
+ghost use Rattle.pod_pipe.specs.Holders.{AnswersAtEnd, CountsUnanswered, Faults, Goes, faults_in};
+ghost use Rattle.pod_pipe.specs.Holders.{out_of_memory_in};
 
-use pod_base::{Moment, Request, Response, Stamp};
+use conn_talk::Answer;
+use pod_base::{Request, Stamp};
 use std::alloc::Global;
 use token_table::Asked;
 
-/// The answer to a request: the response, the place of the history at which it was answered, and
-/// the moment of the request.
-#[derive(Debug, Drop)]
-pub struct Answer {
-    pub response: Response,
-    pub place: u64,
-    pub moment: Moment,
-}
-
-/// Why a request wasn't answered.
+/// Why the holder of a pod didn't answer a request.
 #[derive(Clone, Copy, Debug, PartialEq, Eq)]
-pub enum AnswerFault {
+pub enum HolderFault {
     NoMemory,
     /// A call of a disk failed at a change.
     DiskFault,
@@ -54,22 +46,21 @@ pub trait PodHolder {
         request: &Request,
         asked: &Asked<'_>,
         stamp: Stamp,
-    ) -> Result<Answer, AnswerFault>
+    ) -> Result<Answer, HolderFault>
         requires { (history : History) × stands self.old history }
 
-        // For each history that the holder represented.
-        ensures answered { IfOk result (λ answer. (history : History) → stands self.old history
-            → IsAnswerAtEnd (Goes stands follows self.old history self.new) history request.now
-            (asked_view asked.now) stamp answer) }
+        // One reply, for each history that the holder represented.
+        ensures answered { IfOk result (λ answer. AnswersAtEnd stands follows self.old self.new
+            request.now (asked_view asked.now) stamp answer) }
 
         // The response can be written.
         ensures sent { IfOk result (λ answer. IsSent answer.response) }
         ensures kept { OnErr result ((history : History) → stands self.old history
             → Goes stands follows self.old history self.new history) }
-        ensures change { IsErrOf result AnswerFault.DiskFault
+        ensures change { IsErrOf result HolderFault.DiskFault
             → IsTrue (is_change request.now.method) }
-        ensures faults { CountsUnanswered (faults_in result) (starved_in result) (faults self.old)
-            (faults self.new) };
+        ensures faults { CountsUnanswered (faults_in result) (out_of_memory_in result)
+            (faults self.old) (faults self.new) };
 
     /// Each history is one of a pod: the first pod is well-formed, and each entry applies.
     ghost legal: { (holder : Self) (history : History) → stands holder history

@@ -21,29 +21,23 @@
 //! (`isolated` of `Continues`), and so the bytes are those of each pod that the agent can't tell
 //! apart.
 //!
-//! It depends on `pod_core` for answers, histories, sessions and their output, on `session_laws`
-//! for what follows of sessions, on `pod_pages` for the pod in memory, on `http_conn` for messages,
-//! on `http_out` for bytes and `line_sink` for writing them, on `token_table` for agents, and on
-//! `audit_trail` for lines.
+//! It depends on `conn_talk` for one connection, on `pod_core` for answers, histories, sessions and
+//! their output, on `session_laws` for what follows of sessions, on `pod_pages` for the pod in
+//! memory, on `http_conn` for messages, and on `line_sink` for the last line.
 #![tactic(auto)]
 
-mod agents;
-mod answering;
 mod connection;
+mod held;
 mod holder;
 mod memory;
 mod options;
 mod report_end;
 mod serve;
 mod status;
-mod taken;
-mod talk;
-mod write;
 
-pub use agents::Agents;
+pub use conn_talk::{Agents, Answer, clock_moment};
 pub use connection::{Piped, pipe};
-pub use holder::{Answer, AnswerFault, PodHolder};
+pub use holder::{HolderFault, PodHolder};
 pub use memory::{MemoryPod, moment_after};
 pub use options::PipeOptions;
 pub use status::{PipeEnd, Status};
-pub use taken::clock_moment;

@@ -2,15 +2,16 @@
 ghost use Rattle.std.specs.Prelude.{◌≡◌, ◌+◌, max, if◌then◌else◌, length, IfOk, IfSome, OnOk};
 ghost use Rattle.std.specs.Prelude.{OnErr};
 ghost use Rattle.std.specs.Option.{option_map_or, option_to_list};
-ghost use Rattle.pod_core.specs.History.{History, seconds_of};
+ghost use Rattle.pod_core.specs.History.{seconds_of};
 ghost use Rattle.pod_rows.specs.Apply.{Applies, applied};
 ghost use Rattle.reply_laws.specs.Granted.{is_change};
 ghost use Rattle.reply_laws.specs.Sent.{IsSent};
 ghost use Rattle.token_table.specs.Credentials.{asked_view};
-ghost use Rattle.pod_pipe.specs.Holders.{Goes, IsAnswerAtEnd};
+ghost use Rattle.pod_pipe.specs.Holders.{AnswersAtEnd};
 ghost use Rattle.pod_pipe.specs.Memory.{memory_stands, nothing_follows};
 
-use crate::holder::{Answer, AnswerFault, PodHolder};
+use crate::holder::{HolderFault, PodHolder};
+use conn_talk::Answer;
 use pod_base::{Mem, Moment, Request, Stamp};
 use pod_command::Entry;
 use pod_core::{Replied, answer, is_change};
@@ -26,7 +27,7 @@ pub struct MemoryPod {
     /// The moment of the last entry, 0 where there is none.
     pub last: Moment,
     /// How many requests ran out of memory, at most 2^64 - 1.
-    pub starved: u64,
+    pub out_of_memory: u64,
 }
 
 /// The moment of a request: that of a change is no earlier than that of the last entry.
@@ -50,7 +51,7 @@ impl MemoryPod {
             ≡ self.old.state.next + length (option_to_list entry)) }
         ensures last { OnOk result (self.new.last.0
             ≡ option_map_or seconds_of entry self.old.last.0) }
-        ensures starved { self.new.starved ≡ self.old.starved }
+        ensures out_of_memory { self.new.out_of_memory ≡ self.old.out_of_memory }
         ensures unchanged { OnErr result (self.new ≡ self.old) }
     {
         let Some(entry) = entry else {
@@ -70,12 +71,10 @@ impl MemoryPod {
         asked: &Asked<'_>,
         stamp: Stamp,
     ) -> Mem<Answer>
-        ensures answered { IfOk result (λ answer. (history : History)
-            → memory_stands self.old history
-            → IsAnswerAtEnd (Goes memory_stands nothing_follows self.old history self.new) history
-            request.now (asked_view asked.now) stamp answer) }
+        ensures answered { IfOk result (λ answer. AnswersAtEnd memory_stands nothing_follows
+            self.old self.new request.now (asked_view asked.now) stamp answer) }
         ensures sent { IfOk result (λ answer. IsSent answer.response) }
-        ensures starved { self.new.starved ≡ self.old.starved }
+        ensures out_of_memory { self.new.out_of_memory ≡ self.old.out_of_memory }
         ensures unchanged { OnErr result (self.new ≡ self.old) }
     {
         let place = self.state.next();
@@ -110,12 +109,12 @@ impl PodHolder for MemoryPod {
         request: &Request,
         asked: &Asked<'_>,
         stamp: Stamp,
-    ) -> Result<Answer, AnswerFault> {
+    ) -> Result<Answer, HolderFault> {
         match self.take(alloc, request, asked, stamp) {
             Ok(answer) => Ok(answer),
             Err(_none) => {
-                self.starved = self.starved.saturating_add(1);
-                Err(AnswerFault::NoMemory)
+                self.out_of_memory = self.out_of_memory.saturating_add(1);
+                Err(HolderFault::NoMemory)
             }
         }
     }

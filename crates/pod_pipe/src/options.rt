@@ -1,6 +1,6 @@
 //! [`PipeOptions`]: how a connection is served.
 
-use crate::agents::Agents;
+use conn_talk::Agents;
 
 /// How a connection is served: how requests are authenticated, and whether the error sink gets a
 /// line for each answered request.

@@ -1,18 +1,21 @@
 //! Serves an input as one connection.
-ghost use Rattle.std.specs.Prelude.{◌≡◌, ◌==◌, ◌≤◌, ◌⊎◌, if◌then◌else◌};
+ghost use Rattle.std.specs.Prelude.{◌≡◌, ◌≢◌, ◌==◌, ◌≤◌, ◌⊎◌, if◌then◌else◌};
 ghost use Rattle.pod_base.specs.Counts.{CountIncreased};
 ghost use Rattle.pod_core.specs.History.{History};
-ghost use Rattle.pod_pipe.specs.Agents.{asking_of};
+ghost use Rattle.conn_talk.specs.Agents.{asking_of};
+ghost use Rattle.pod_pipe.specs.Held.{end_of_talk};
 ghost use Rattle.pod_pipe.specs.Served.{Leaves};
 ghost use Rattle.pod_pipe.specs.Statuses.{Pipes};
 ghost use Rattle.pod_pipe.specs.Streams.{CountsInput};
 
+use crate::held::Held;
 use crate::holder::PodHolder;
 use crate::options::PipeOptions;
 use crate::status::PipeEnd;
-use crate::talk::Talk;
+use conn_talk::{Connection, TalkEnd};
 use http_conn::Conn;
 use pod_io::{Clock, Sink, Source};
+use session_laws::sessions_are_isolated;
 use std::alloc::Global;
 
 /// The most bytes that one read requests.
@@ -20,6 +23,25 @@ const PIECE_LIMIT: usize = 65_536;
 
 /// The most reads of one input.
 const READ_LIMIT: u64 = 1 << 40;
+
+/// The number of the one connection.
+const CONNECTION: u64 = 1;
+
+/// The end of a connection whose events ended so: each of its requests had a place.
+fn pipe_end(end: TalkEnd) -> PipeEnd
+    requires { end ≢ TalkEnd.NoPlace }
+    ensures { result ≡ end_of_talk end }
+{
+    match end {
+        TalkEnd::Closed => PipeEnd::Closed,
+        TalkEnd::Limit => PipeEnd::Limit,
+        TalkEnd::Upgraded => PipeEnd::Upgraded,
+        TalkEnd::Bad { status } => PipeEnd::Bad { status },
+        TalkEnd::WriteFault => PipeEnd::WriteFault,
+        TalkEnd::NoMemory => PipeEnd::NoMemory,
+        TalkEnd::NoPlace => unreachable!(),
+    }
+}
 
 /// The end where the input ended after so many bytes of an unfinished message.
 fn at_end(rest: usize) -> PipeEnd
@@ -35,18 +57,17 @@ fn at_end(rest: usize) -> PipeEnd
 /// Serves an input as connection 1. Each piece is answered before the next one is read.
 pub(crate) fn serve<H: PodHolder, S: Source, K: Sink, E: Sink, C: Clock>(
     alloc: Global,
-    talk: &mut Talk<H>,
+    held: &mut Held<H>,
     options: &PipeOptions,
     input: &mut S,
     output: &mut K,
     errors: &mut E,
     clock: &C,
 ) -> PipeEnd
-    requires stands { (history : History) × H.stands talk.old.holder history }
-    requires first { talk.old.number ≡ 0 }
-    ensures pipes { (history : History) → H.stands talk.old.holder history
+    requires { (history : History) × H.stands held.old.holder history }
+    ensures pipes { (history : History) → H.stands held.old.holder history
         → Pipes (C.may_give clock.now) (asking_of options.now.agents) options.now.trail history
-        (Leaves H.stands H.faults H.follows history talk.old.holder talk.new.holder) result
+        (Leaves H.stands H.faults H.follows history held.old.holder held.new.holder) result
         (S.rest input.old) (S.rest input.new) (K.taken output.old) (K.taken output.new)
         (E.taken errors.old) (E.taken errors.new) }
     ensures counts { CountsInput result (S.reads input.old) (S.reads input.new)
@@ -60,6 +81,11 @@ pub(crate) fn serve<H: PodHolder, S: Source, K: Sink, E: Sink, C: Clock>(
         → CountIncreased (K.faults output.old) (K.faults output.new)
         ⊎ CountIncreased (E.faults errors.old) (E.faults errors.new) }
 {
+    sessions_are_isolated(clock);
+    let mut connection = Connection {
+        conn: CONNECTION,
+        number: 0,
+    };
     let mut conn = Conn::new(alloc);
     let mut piece = [0u8; PIECE_LIMIT];
     'reads: for _ in 0..READ_LIMIT {
@@ -72,9 +98,18 @@ pub(crate) fn serve<H: PodHolder, S: Source, K: Sink, E: Sink, C: Clock>(
         let Ok(heard) = conn.feed(alloc, &piece[..count]) else {
             return PipeEnd::NoMemory;
         };
-        match talk.answer_events(alloc, heard.as_slice(), options, output, errors, clock) {
+        match connection.answer_events(
+            alloc,
+            held,
+            heard.as_slice(),
+            &options.agents,
+            options.trail,
+            output,
+            errors,
+            clock,
+        ) {
             Ok(()) => {}
-            Err(end) => return end,
+            Err(end) => return pipe_end(end),
         }
     }
     PipeEnd::ReadLimit

@@ -6,12 +6,12 @@ use Rattle.pod_base.specs.declared.request.Request.{Request}
 use Rattle.pod_core.specs.History.{IsHistory}
 use Rattle.pod_core.specs.Session.{IsClockMoment, Item}
 use Rattle.token_table.specs.Credentials.{AskedAgent}
-use Rattle.pod_pipe.specs.Agents.{asking_of}
+use Rattle.conn_talk.specs.Agents.{asking_of}
 use Rattle.pod_pipe.specs.Memory.{IsMemoryOf, memory_faults, memory_stands, nothing_follows}
 use Rattle.pod_pipe.specs.Served.{Leaves, WritesSession}
 use Rattle.pod_pipe.specs.Statuses.{PipesAndTells, status_of}
 use Rattle.pod_pipe.specs.Streams.{CountsInput}
-use Rattle.pod_pipe.specs.declared.agents.Agents.TheVariants.{Owner}
+use Rattle.conn_talk.specs.declared.agents.Agents.TheVariants.{Owner}
 use Rattle.pod_pipe.specs.declared.memory.MemoryPod.{MemoryPod}
 use Rattle.pod_pipe.specs.declared.options.PipeOptions.{PipeOptions}
 use Rattle.pod_pipe.specs.declared.status.PipeEnd.{PipeEnd}

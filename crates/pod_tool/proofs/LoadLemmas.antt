@@ -5,9 +5,9 @@ use Rattle.load_generator.specs.declared.requests.TheConstants.{LOAD_MOMENT}
 use Rattle.pod_base.specs.declared.request.Request.{Request}
 use Rattle.pod_core.specs.Session.{Item}
 use Rattle.token_table.specs.Credentials.{AskedAgent}
-use Rattle.pod_pipe.specs.Agents.{asking_of}
+use Rattle.conn_talk.specs.Agents.{asking_of}
 use Rattle.pod_pipe.specs.Statuses.{IsTold, PipesAndTells}
-use Rattle.pod_pipe.specs.declared.agents.Agents.TheVariants.{Owner}
+use Rattle.conn_talk.specs.declared.agents.Agents.TheVariants.{Owner}
 use Rattle.pod_pipe.specs.declared.memory.MemoryPod.{MemoryPod}
 use Rattle.pod_pipe.specs.declared.options.PipeOptions.{PipeOptions}
 use Rattle.pod_pipe.specs.declared.status.PipeEnd.{PipeEnd}
@@ -18,15 +18,15 @@ use Rattle.pod_tool.specs.Loads.{AllAnswered, IsLoaded, IsLoadMoment, load_histo
 use Rattle.pod_tool.proofs.FreshLemmas.{LeavesPod}
 
 -- each request was answered, and the pod that is left is the one behind them
-pub all_answered : (old new : MemoryPod) (rows : ℕ) → new.starved ≡ 0 → rows ≡ length new.state.pod.rows → (items : List Item) → LeavesPod load_owner LOAD_MOMENT old new items → AllAnswered rows items
+pub all_answered : (old new : MemoryPod) (rows : ℕ) → new.out_of_memory ≡ 0 → rows ≡ length new.state.pod.rows → (items : List Item) → LeavesPod load_owner LOAD_MOMENT old new items → AllAnswered rows items
 all_answered old new rows none are items left = record {
   no_fault = omega (arith, left.counted.disks.counted (omega arith) (omega arith));
-  no_want = omega (arith, none, left.counted.starved.counted (omega (arith, none)));
+  no_want = omega (arith, none, left.counted.out_of_memory.counted (omega (arith, none)));
   rows_are = are ∙ ap (λ (p : Pod). length p.rows) left.gone.0.pod_is;
 }
 
 module _ (requests : ℕ) (bytes taken told_first written : List ℕ) (options : PipeOptions) (is_stream : bytes ≡ stream requests) (nothing : taken ≡ []) (nothing_told : told_first ≡ []) (agents : options.agents ≡ Owner load_owner) (trail : options.trail ≡ false) where
-  pub loaded : (end : PipeEnd) → IsTold end → (old new : MemoryPod) (rows : ℕ) → new.starved ≡ 0 → rows ≡ length new.state.pod.rows → (left errors : Option (List ℕ)) (before after : ℕ)
+  pub loaded : (end : PipeEnd) → IsTold end → (old new : MemoryPod) (rows : ℕ) → new.out_of_memory ≡ 0 → rows ≡ length new.state.pod.rows → (left errors : Option (List ℕ)) (before after : ℕ)
       → PipesAndTells IsLoadMoment (asking_of options.agents) options.trail load_history (LeavesPod load_owner LOAD_MOMENT old new) end (Some bytes) left (Some taken) (Some written) (Some told_first) errors before after
       → IsLoaded requests written rows
   loaded end told old new rows none are left errors before after pipes =

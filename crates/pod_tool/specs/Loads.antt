@@ -6,7 +6,7 @@ use Rattle.load_generator.specs.Summaries.{summary_line}
 use Rattle.load_generator.specs.declared.requests.TheConstants.{LOAD_MOMENT}
 use Rattle.pod_core.specs.History.{History, end_of, pod_at}
 use Rattle.pod_core.specs.Session.{Item}
-use Rattle.pod_pipe.specs.Served.{disk_faults, starved_items}
+use Rattle.pod_pipe.specs.Served.{disk_faults, out_of_memory_items}
 use Rattle.session_laws.specs.Isolated.{grown}
 use Rattle.pod_pipe.specs.Statuses.{IsTold, Pipes}
 use Rattle.pod_pipe.specs.declared.status.PipeEnd.{PipeEnd}
@@ -24,7 +24,7 @@ load_history = fresh_history load_owner LOAD_MOMENT
 -- Each request was answered, and the pod after them has so many rows.
 pub record AllAnswered (rows : ℕ) (items : List Item) : Type 0 where
   pub no_fault : disk_faults items ≡ 0
-  pub no_want : starved_items items ≡ 0
+  pub no_want : out_of_memory_items items ≡ 0
   pub rows_are : rows ≡ length
       (pod_at (grown load_history items) (end_of (grown load_history items))).rows
 

@@ -53,7 +53,7 @@ fn fresh_pod(alloc: Global, owner: &Iri, moment: Moment) -> Mem<MemoryPod>
     Ok(MemoryPod {
         state,
         last: Moment(0),
-        starved: 0,
+        out_of_memory: 0,
     })
 }
 

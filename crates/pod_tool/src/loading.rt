@@ -61,7 +61,7 @@ fn serve(alloc: Global, bytes: Vec<u8>, requests: u16) -> Mem<Loaded>
         &mut errors,
         &clock,
     );
-    if piped.holder.starved != 0 || !is_served(piped.end) {
+    if piped.holder.out_of_memory != 0 || !is_served(piped.end) {
         return Err(NoMemory);
     }
     let rows = piped.holder.state.count();

@@ -5,11 +5,11 @@ use Rattle.journal_log.specs.declared.fault.OpenFault.TheVariants as faulty
 use Rattle.pod_base.specs.Counts.{CountIncreased}
 use Rattle.pod_core.specs.History.{History}
 use Rattle.pod_core.specs.Session.{Item}
-use Rattle.pod_pipe.specs.Agents.{asking_of}
+use Rattle.conn_talk.specs.Agents.{asking_of}
 use Rattle.pod_pipe.specs.Served.{Leaves, WritesSession}
 use Rattle.pod_pipe.specs.Statuses.{PipesAndTells, status_of}
 use Rattle.pod_pipe.specs.Streams.{AddsReads, CountsInput}
-use Rattle.pod_pipe.specs.declared.agents.Agents.{Agents}
+use Rattle.conn_talk.specs.declared.agents.Agents.{Agents}
 use Rattle.pod_pipe.specs.declared.status.PipeEnd.{PipeEnd}
 use Rattle.pod_pipe.specs.declared.status.PipeEnd.TheVariants.{Peer, Cut, Closed, Limit, Upgraded, Bad, ReadFault, WriteFault, NoMemory, ReadLimit}
 use Rattle.pod_pipe.proofs.Weaker.{pipes_weaker, session_weaker}
@@ -23,7 +23,7 @@ use Rattle.store_pipe.specs.declared.stored.StoredPod.{StoredPod}
 module _ {D : Type 0} (image : D → List ℕ → Type 0) (moment : D → ℕ) (left_since : D → ℕ → List ℕ → Type 0) (faults : D → ℕ) (old new : StoredPod D) (history : History) where
   -- what is left of the holder of a connection
   abbrev pub LeavesHolder : List Item → Type 0
-  LeavesHolder = Leaves (λ (pod : StoredPod D) (h : History). StandsFor image pod.keeper h) (λ (pod : StoredPod D). stored_faults faults pod.keeper pod.starved)
+  LeavesHolder = Leaves (λ (pod : StoredPod D) (h : History). StandsFor image pod.keeper h) (λ (pod : StoredPod D). stored_faults faults pod.keeper pod.out_of_memory)
       (λ (a : StoredPod D) (h : History) (b : StoredPod D) (i : History). Passes image moment left_since a.keeper h b.keeper i) history old new
 
   -- is what is left of its keeper

@@ -10,20 +10,21 @@ use Rattle.pod_command.specs.declared.entry.Entry.{Entry}
 use Rattle.pod_core.specs.History.{History, end_of, longer, moment_before, pod_at}
 use Rattle.pod_core.specs.Answers.{IsComplete}
 use Rattle.pod_keeper.proofs.Stamps.{later_at_end}
-use Rattle.pod_core.specs.KeeperSteps.{stamp_at_end}
+use Rattle.pod_core.specs.KeeperSteps.{IsReplyAtEnd, stamp_at_end}
 use Rattle.pod_keeper.specs.Commits.{FollowsReply, IsCommitted, IsCommitFaulted, LeavesPods, later}
 use Rattle.pod_keeper.specs.Kept.{Doubt, certain, IsKept}
 use Rattle.pod_keeper.specs.KeeperState.{KeeperState, IsCheckpointDue}
 use Rattle.pod_reply.specs.Reply.{IsReply}
 use Rattle.pod_records.specs.Records.{last_after}
-use Rattle.pod_reply.specs.Replies.{reply_of}
+use Rattle.pod_reply.specs.Replies.{Reply, reply_of}
+use Rattle.pod_reply.proofs.OneReply.{one_reply}
 use Rattle.pod_reply.specs.declared.replied.Replied.{Replied}
 use Rattle.pod_rows.specs.Pod.{Pod}
 use Rattle.reply_laws.specs.Granted.{is_change}
 use Rattle.token_table.specs.Credentials.{AskedAgent}
 use Rattle.pod_pipe.specs.Holders.{CountsDiskFaults, Goes, IsAnswerAtEnd, moment_of_request, stamp_of_request}
 use Rattle.session_laws.proofs.PodsAtEnd.{same_history}
-use Rattle.pod_pipe.specs.declared.holder.Answer.{Answer}
+use Rattle.conn_talk.specs.declared.answers.Answer.{Answer}
 use Rattle.store_pipe.specs.StoredPods.{Passes, StandsFor}
 use Rattle.store_pipe.specs.StoredLaws.{no_commits}
 
@@ -71,11 +72,9 @@ module _ {D : Type 0} (image : D → List ℕ → Type 0) (moment : D → ℕ) (
 
     -- a commit that succeeded
     pub committed : (change : IsTrue (is_change request.method)) (stands : StandsFor image old history) (answer : Answer) (seconds : ℕ) → answer.moment.0 ≡ seconds → seconds ≡ max stamp.moment.0 (moment_before history (end_of history))
-        → IsCommitted image old new history stands.place request asked stamp answer.response answer.place → IsAnswerAtEnd (Goes (StandsFor image) (Passes image moment left_since) old history new) history request asked stamp answer
+        → (done : IsCommitted image old new history stands.place request asked stamp answer.response answer.place) → IsAnswerAtEnd (Goes (StandsFor image) (Passes image moment left_since) old history new) history request asked stamp answer done.reply
     committed change stands answer seconds same later done = record {
-      reply = done.reply;
       reply_is = subst (λ (s : Stamp). IsReply (pod_at history (end_of history)) request asked (end_of history) s done.reply) (change_stamp_is history request stamp change) done.is;
-      response = done.response_is;
       place = done.told_is;
       moment = same ∙ later ∙ sym (change_moment_is history request stamp.moment.0 change);
       gone = (follows_reply done.reply.entry stands.place stands done.follows, one_commit (option_to_list done.reply.entry));
@@ -88,6 +87,18 @@ module _ {D : Type 0} (image : D → List ℕ → Type 0) (moment : D → ℕ) (
       subst (Passes image moment left_since old history new) (same_history history) (one_commit []),
     )
 
+-- The replies at the end of two histories that a keeper represents are one.
+module _ {D : Type 0} (image : D → List ℕ → Type 0) (keeper : KeeperState D) (request : Request) (asked : AskedAgent) (stamp : Stamp) where
+  reply_now : (history : History) → StandsFor image keeper history → (reply : Reply) → IsReplyAtEnd history request asked stamp reply → IsReply keeper.pod request asked keeper.next (later stamp keeper.last) reply
+  reply_now history stands reply r =
+      subst (λ (s : Stamp). IsReply keeper.pod request asked keeper.next s reply) (sym (later_at_end history keeper.last stamp stands.kept.last))
+      (subst (λ (n : ℕ). IsReply keeper.pod request asked n (stamp_at_end history stamp) reply) (sym stands.kept.next)
+      (subst (λ (p : Pod). IsReply p request asked (end_of history) (stamp_at_end history stamp) reply) (sym stands.kept.pod) r))
+
+  pub same_reply : (history other : History) → StandsFor image keeper history → StandsFor image keeper other → (a b : Reply) → IsReplyAtEnd history request asked stamp a → IsReplyAtEnd other request asked stamp b → a ≡ b
+  same_reply history other stands stands_too a b h k =
+      one_reply keeper.pod request asked keeper.next (later stamp keeper.last) a b (reply_now history stands a h) (reply_now other stands_too b k)
+
 -- what isn't a change has no entry
 no_entry : (entry : Option Entry) (change success : Bool) → change ≡ false → is_some entry ≡ (change && success) → entry ≡ None
 no_entry None change success reads is = refl
@@ -97,14 +108,12 @@ no_entry (Some entry) change success reads is = let never : true ≡ false = is 
 module _ {D : Type 0} (image : D → List ℕ → Type 0) (moment : D → ℕ) (left_since : D → ℕ → List ℕ → Type 0) (keeper : KeeperState D) (history : History) (stands : StandsFor image keeper history) where
   pub read_there : (request : Request) (asked : AskedAgent) (stamp : Stamp) (pod : Pod) (place : ℕ) (replied : Replied) → is_change request.method ≡ false → pod ≡ keeper.pod → place ≡ keeper.next
       → IsReply pod request asked place stamp (reply_of replied) → IsComplete request.method (reply_of replied)
-      → IsAnswerAtEnd (Goes (StandsFor image) (Passes image moment left_since) keeper history keeper) history request asked stamp (record { response = replied.response; place = place; moment = stamp.moment })
+      → IsAnswerAtEnd (Goes (StandsFor image) (Passes image moment left_since) keeper history keeper) history request asked stamp (record { response = replied.response; place = place; moment = stamp.moment }) (reply_of replied)
   read_there request asked stamp pod place replied reads is here given complete =
       let none : (reply_of replied).entry ≡ None = no_entry (reply_of replied).entry (is_change request.method) _ reads complete in record {
-        reply = reply_of replied;
         reply_is = subst (λ (s : Stamp). IsReply (pod_at history (end_of history)) request asked (end_of history) s (reply_of replied)) (read_stamp_is history request stamp reads)
             (subst (λ (n : ℕ). IsReply (pod_at history (end_of history)) request asked n stamp (reply_of replied)) (here ∙ stands.kept.next)
             (subst (λ (p : Pod). IsReply p request asked place stamp (reply_of replied)) (is ∙ stands.kept.pod) given));
-        response = refl;
         place = here ∙ stands.kept.next;
         moment = ap (λ (s : Stamp). s.moment.0) (read_stamp_is history request stamp reads);
         gone = subst (λ (o : Option Entry). Goes (StandsFor image) (Passes image moment left_since) keeper history keeper (longer history (option_to_list o))) (sym none)

@@ -1,7 +1,7 @@
 -- The reading of a token table.
 use Rattle.std.proofs.Common.{◌≡◌, inr, Bool, true, false, List, ℕ, [], Option, Some, None, refl, sym, subst}
 use Rattle.pod_pipe.specs.Streams.{Reads}
-use Rattle.pod_pipe.specs.declared.agents.Agents.TheVariants.{Owner, Table}
+use Rattle.conn_talk.specs.declared.agents.Agents.TheVariants.{Owner, Table}
 use Rattle.token_table.specs.TableLines.{lines_of}
 use Rattle.token_table.specs.declared.table_line.TokenEntry.{TokenEntry}
 use Rattle.store_pipe.specs.Tables.{HasAgentsCause, HasTableCause, IsAsked, IsFaultOf, IsReadToEnd, IsTable, IsUnread, TokenSource}

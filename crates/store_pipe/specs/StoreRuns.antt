@@ -5,12 +5,12 @@ use Rattle.pair_writes.specs.Doubts.{IsSure}
 use Rattle.pod_core.specs.History.{History}
 use Rattle.pod_keeper.specs.KeeperState.{KeeperState}
 use Rattle.pod_keeper.specs.OpenedPods.{IsOpened, OpensDisks}
-use Rattle.pod_pipe.specs.Agents.{asking_of}
+use Rattle.conn_talk.specs.Agents.{asking_of}
 use Rattle.pod_pipe.specs.Served.{WritesSession}
 use Rattle.line_sink.specs.Writing.{AddsOrPart}
 use Rattle.pod_pipe.specs.Statuses.{PipesAndTells, status_of}
 use Rattle.pod_pipe.specs.Streams.{AddsReads, CountsInput}
-use Rattle.pod_pipe.specs.declared.agents.Agents.{Agents}
+use Rattle.conn_talk.specs.declared.agents.Agents.{Agents}
 use Rattle.pod_pipe.specs.declared.status.PipeEnd.{PipeEnd}
 use Rattle.pod_records.specs.OpenedStores.{HasPodCause}
 use Rattle.store_lines.specs.Refusals.{TellsRefusal, open_status}

@@ -26,8 +26,8 @@ disk_faults faults keeper = record { first = faults keeper.first; second = fault
 
 -- what is counted over a keeper: the faults of its disks, and the requests that ran out of memory
 abbrev pub stored_faults : {D : Type 0} → (D → ℕ) → KeeperState D → ℕ → Faults
-stored_faults faults keeper starved =
-    record { disks = disk_faults faults keeper; starved = starved }
+stored_faults faults keeper out_of_memory =
+    record { disks = disk_faults faults keeper; out_of_memory = out_of_memory }
 
 module _ {D : Type 0} (image : D → List ℕ → Type 0) (moment : D → ℕ)
     (left_since : D → ℕ → List ℕ → Type 0) where

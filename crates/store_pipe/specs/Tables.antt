@@ -4,8 +4,8 @@ use Rattle.pod_base.specs.Counts.{CountIncreased}
 use Rattle.line_sink.specs.Writing.{number_line}
 use Rattle.pod_io.specs.Counts.{next_count}
 use Rattle.pod_pipe.specs.Streams.{AddsAllReads, AtEnd, Reads}
-use Rattle.pod_pipe.specs.declared.agents.Agents.{Agents}
-use Rattle.pod_pipe.specs.declared.agents.Agents.TheVariants.{Owner, Table}
+use Rattle.conn_talk.specs.declared.agents.Agents.{Agents}
+use Rattle.conn_talk.specs.declared.agents.Agents.TheVariants.{Owner, Table}
 use Rattle.token_table.specs.TableLines.{AreSound, IsFirstFault, entries, lines_of}
 use Rattle.token_table.specs.declared.table_line.TokenEntry.{TokenEntry}
 use Rattle.store_pipe.specs.declared.tokens.TableFault.{TableFault}

@@ -98,7 +98,10 @@ fn pipe_keeper<D: Disk, T: Source, S: Source, K: Sink, E: Sink, C: Clock>(
     match agents_of(alloc, by_tokens, &keeper, tokens) {
         Ok(agents) => {
             let options = PipeOptions { agents, trail };
-            let pod = StoredPod { keeper, starved: 0 };
+            let pod = StoredPod {
+                keeper,
+                out_of_memory: 0,
+            };
             let piped = pipe(alloc, pod, &options, input, output, errors, clock);
             let Piped { end, holder } = piped;
             (end.status(), holder.keeper)

@@ -4,14 +4,14 @@ ghost use Rattle.pod_core.specs.History.{History, end_of, moment_before};
 ghost use Rattle.reply_laws.specs.Granted.{is_change};
 ghost use Rattle.reply_laws.specs.Sent.{IsSent};
 ghost use Rattle.token_table.specs.Credentials.{asked_view};
-ghost use Rattle.pod_pipe.specs.Holders.{CountsDiskFaults, Goes, IsAnswerAtEnd, faults_in};
+ghost use Rattle.pod_pipe.specs.Holders.{AnswersAtEnd, CountsDiskFaults, Goes, faults_in};
 ghost use Rattle.store_pipe.specs.StoredPods.{Passes, StandsFor, disk_faults};
 
 use pod_base::{Mem, Moment, Request, Stamp};
 use pod_core::{Replied, answer, is_change};
 use pod_disk::Disk;
 use pod_keeper::{CommitFault, Done, Keeper};
-use pod_pipe::{Answer, AnswerFault, PodHolder, moment_after};
+use pod_pipe::{Answer, HolderFault, PodHolder, moment_after};
 use std::alloc::Global;
 use token_table::Asked;
 
@@ -20,7 +20,7 @@ use token_table::Asked;
 pub(crate) struct StoredPod<D: Disk> {
     pub keeper: Keeper<D>,
     /// How many requests ran out of memory, at most 2^64 - 1.
-    pub starved: u64,
+    pub out_of_memory: u64,
 }
 
 impl<D: Disk> StoredPod<D> {
@@ -38,11 +38,9 @@ impl<D: Disk> StoredPod<D> {
     /// Answers a request that is no change, at the present version.
     fn read(&self, alloc: Global, request: &Request, asked: &Asked<'_>, stamp: Stamp) -> Mem<Answer>
         requires { is_change request.now.method ≡ false }
-        ensures answered { IfOk result (λ answer. (history : History)
-            → StandsFor D.image self.now.keeper history
-            → IsAnswerAtEnd (Goes (StandsFor D.image) (Passes D.image D.moment D.left_since)
-            self.now.keeper history self.now.keeper) history request.now (asked_view asked.now)
-            stamp answer) }
+        ensures answered { IfOk result (λ answer. AnswersAtEnd (StandsFor D.image)
+            (Passes D.image D.moment D.left_since) self.now.keeper self.now.keeper request.now
+            (asked_view asked.now) stamp answer) }
         ensures sent { IfOk result (λ answer. IsSent answer.response) }
     {
         let place = self.keeper.seq();
@@ -63,14 +61,12 @@ impl<D: Disk> StoredPod<D> {
         request: &Request,
         asked: &Asked<'_>,
         stamp: Stamp,
-    ) -> Result<Answer, AnswerFault>
+    ) -> Result<Answer, HolderFault>
         requires change { IsTrue (is_change request.now.method) }
         requires stands { (history : History) × StandsFor D.image self.old.keeper history }
-        ensures answered { IfOk result (λ answer. (history : History)
-            → StandsFor D.image self.old.keeper history
-            → IsAnswerAtEnd (Goes (StandsFor D.image) (Passes D.image D.moment D.left_since)
-            self.old.keeper history self.new.keeper) history request.now (asked_view asked.now)
-            stamp answer) }
+        ensures answered { IfOk result (λ answer. AnswersAtEnd (StandsFor D.image)
+            (Passes D.image D.moment D.left_since) self.old.keeper self.new.keeper request.now
+            (asked_view asked.now) stamp answer) }
         ensures sent { IfOk result (λ answer. IsSent answer.response) }
         ensures kept { OnErr result ((history : History)
             → StandsFor D.image self.old.keeper history
@@ -78,7 +74,7 @@ impl<D: Disk> StoredPod<D> {
             history self.new.keeper history) }
         ensures faults { CountsDiskFaults (faults_in result) (disk_faults D.faults self.old.keeper)
             (disk_faults D.faults self.new.keeper) }
-        ensures starved { self.new.starved ≡ self.old.starved }
+        ensures out_of_memory { self.new.out_of_memory ≡ self.old.out_of_memory }
     {
         let moment = self.change_moment(stamp.moment);
         match self.keeper.commit(alloc, request, asked, stamp) {
@@ -90,8 +86,8 @@ impl<D: Disk> StoredPod<D> {
                     moment,
                 })
             }
-            Err(CommitFault::NoMemory) => Err(AnswerFault::NoMemory),
-            Err(CommitFault::DiskFault) => Err(AnswerFault::DiskFault),
+            Err(CommitFault::NoMemory) => Err(HolderFault::NoMemory),
+            Err(CommitFault::DiskFault) => Err(HolderFault::DiskFault),
         }
     }
 
@@ -102,30 +98,28 @@ impl<D: Disk> StoredPod<D> {
         request: &Request,
         asked: &Asked<'_>,
         stamp: Stamp,
-    ) -> Result<Answer, AnswerFault>
+    ) -> Result<Answer, HolderFault>
         requires { (history : History) × StandsFor D.image self.old.keeper history }
-        ensures answered { IfOk result (λ answer. (history : History)
-            → StandsFor D.image self.old.keeper history
-            → IsAnswerAtEnd (Goes (StandsFor D.image) (Passes D.image D.moment D.left_since)
-            self.old.keeper history self.new.keeper) history request.now (asked_view asked.now)
-            stamp answer) }
+        ensures answered { IfOk result (λ answer. AnswersAtEnd (StandsFor D.image)
+            (Passes D.image D.moment D.left_since) self.old.keeper self.new.keeper request.now
+            (asked_view asked.now) stamp answer) }
         ensures sent { IfOk result (λ answer. IsSent answer.response) }
         ensures kept { OnErr result ((history : History)
             → StandsFor D.image self.old.keeper history
             → Goes (StandsFor D.image) (Passes D.image D.moment D.left_since) self.old.keeper
             history self.new.keeper history) }
-        ensures change { IsErrOf result AnswerFault.DiskFault
+        ensures change { IsErrOf result HolderFault.DiskFault
             → IsTrue (is_change request.now.method) }
         ensures faults { CountsDiskFaults (faults_in result) (disk_faults D.faults self.old.keeper)
             (disk_faults D.faults self.new.keeper) }
-        ensures starved { self.new.starved ≡ self.old.starved }
+        ensures out_of_memory { self.new.out_of_memory ≡ self.old.out_of_memory }
     {
         if is_change(request.method) {
             self.change(alloc, request, asked, stamp)
         } else {
             match self.read(alloc, request, asked, stamp) {
                 Ok(answer) => Ok(answer),
-                Err(_none) => Err(AnswerFault::NoMemory),
+                Err(_none) => Err(HolderFault::NoMemory),
             }
         }
     }
@@ -140,7 +134,7 @@ impl<D: Disk> PodHolder for StoredPod<D> {
     ghost follows = { λ old history new more.
         Passes D.image D.moment D.left_since old.keeper history new.keeper more };
 
-    ghost faults = { λ pod. stored_faults D.faults pod.keeper pod.starved };
+    ghost faults = { λ pod. stored_faults D.faults pod.keeper pod.out_of_memory };
 
     fn answer(
         &mut self,
@@ -148,14 +142,14 @@ impl<D: Disk> PodHolder for StoredPod<D> {
         request: &Request,
         asked: &Asked<'_>,
         stamp: Stamp,
-    ) -> Result<Answer, AnswerFault> {
+    ) -> Result<Answer, HolderFault> {
         match self.serve(alloc, request, asked, stamp) {
             Ok(answer) => Ok(answer),
-            Err(AnswerFault::NoMemory) => {
-                self.starved = self.starved.saturating_add(1);
-                Err(AnswerFault::NoMemory)
+            Err(HolderFault::NoMemory) => {
+                self.out_of_memory = self.out_of_memory.saturating_add(1);
+                Err(HolderFault::NoMemory)
             }
-            Err(AnswerFault::DiskFault) => Err(AnswerFault::DiskFault),
+            Err(HolderFault::DiskFault) => Err(HolderFault::DiskFault),
         }
     }
 

@@ -1,7 +1,9 @@
-use Rattle.std.proofs.Common.{◌≡◌, ◌≤◌}
+use Rattle.std.proofs.Common.{◌≡◌, ◌≤◌, ◌<◌}
+use Rattle.conn_talk.specs.Agents.{asking_of}
+use Rattle.http_conn.specs.declared.events.TheConstants.{REQUEST_LIMIT}
 use Rattle.pod_core.specs.History.{History}
-use Rattle.pod_pipe.specs.Agents.{asking_of}
-use Rattle.pod_pipe.specs.Talks.{IsSound}
+use Rattle.pod_pipe.specs.Held.{holder_rules}
+use Rattle.pod_pipe.specs.declared.held.Held.{Held}
 use Rattle.pod_pipe.proofs.ReadsLemmas.{AreCounted}
 use Rattle.pod_pipe.proofs.ServingLemmas.{Serving}
 use Rattle.pod_pipe.proofs.serve.serve.Given as goal
@@ -9,14 +11,15 @@ use Rattle.pod_pipe.proofs.serve.serve.Given as goal
 -- what was read was answered, each read gave a byte, and no fault was forgotten
 abbrev pub invariant-reads : goal.invariant-reads
 invariant-reads g l =
-    ((history : History) → g.H.PodHolder.stands l.fn.talk.holder history
-    → Serving g.H.PodHolder.stands g.H.PodHolder.faults g.H.PodHolder.follows (g.C.Clock.may_give l.clock) (asking_of l.options.agents) l.options.trail history l.fn.talk.holder l.conn l.talk.holder l.talk.number
-    (g.S.Source.rest l.fn.input) (g.S.Source.rest l.input) (g.K.Sink.taken l.fn.output) (g.K.Sink.taken l.output) (g.E.Sink.taken l.fn.errors) (g.E.Sink.taken l.errors) l.counter)
+    Serving (holder_rules g.H.PodHolder.stands g.H.PodHolder.faults g.H.PodHolder.follows (λ (h : Held g.row.H.Denot). h.holder) (g.C.Clock.may_give l.clock) (asking_of l.options.agents) l.options.trail)
+    l.fn.held l.conn l.held l.connection.number
+    (g.S.Source.rest l.fn.input) (g.S.Source.rest l.input) (g.K.Sink.taken l.fn.output) (g.K.Sink.taken l.output) (g.E.Sink.taken l.fn.errors) (g.E.Sink.taken l.errors) l.counter
     × (g.S.Source.faults l.fn.input ≤ g.S.Source.faults l.input)
     × (g.K.Sink.faults l.fn.output ≤ g.K.Sink.faults l.output)
     × (g.S.Source.reads l.fn.input ≤ g.S.Source.reads l.input)
     × AreCounted (g.S.Source.reads l.fn.input) l.counter (g.S.Source.reads l.input)
     × (g.S.Source.ends l.input ≡ g.S.Source.ends l.fn.input)
     × (g.E.Sink.faults l.fn.errors ≤ g.E.Sink.faults l.errors)
-    × IsSound l.talk.number
-    × ((history : History) × g.H.PodHolder.stands l.talk.holder history)
+    × (l.connection.number < REQUEST_LIMIT)
+    × ((history : History) × g.H.PodHolder.stands l.held.holder history)
+    × (l.connection.conn ≡ 1)

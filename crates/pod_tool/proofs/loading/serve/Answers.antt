@@ -1,7 +1,7 @@
 use Rattle.std.proofs.Common.{Some, ap, subst, ◌∙◌, arith}
 use Rattle.load_generator.specs.declared.requests.TheConstants.{LOAD_MOMENT}
 use Rattle.pod_pipe.specs.Memory.{memory_stands}
-use Rattle.pod_pipe.specs.declared.agents.Agents.TheVariants.{Owner}
+use Rattle.conn_talk.specs.declared.agents.Agents.TheVariants.{Owner}
 use Rattle.pod_tool.specs.Fresh.{fresh_history}
 use Rattle.pod_tool.specs.Loads.{load_history}
 use Rattle.pod_tool.proofs.LoadLemmas.{loaded}

@@ -1,9 +1,6 @@
 -- An entry and the same without the spare room of its lists.
-use Rattle.std.proofs.Common.{◌≡◌, ℕ, List, length, Option, Some, None, IfSome, refl, ◌∙◌}
+use Rattle.std.proofs.Common.{◌≡◌, ℕ, List, length, Option, Some, None, IfSome, refl}
 use Rattle.std.specs.Option.{option_map, option_map_or, option_to_list}
-use Rattle.http_out.specs.Dates.{IsDateOf}
-use Rattle.moment_date.specs.Dates.{date_text}
-use Rattle.moment_date.proofs.Calendar.{date_is}
 use Rattle.pod_command.specs.Bare.{bare_entry}
 use Rattle.pod_command.specs.declared.entry.Entry.{Entry}
 use Rattle.pod_core.specs.History.{seconds_of}
@@ -25,7 +22,3 @@ bare_count (Some entry) = refl
 pub bare_seconds : (o : Option Entry) (last : ℕ) → option_map_or seconds_of o last ≡ option_map_or seconds_of (option_map bare_entry o) last
 bare_seconds None last = refl
 bare_seconds (Some entry) last = refl
-
--- the date of a moment is its text
-pub dated : (moment : ℕ) (date : List ℕ) → IsDateOf moment date → date ≡ date_text moment
-dated moment date d = d.2 ∙ date_is d.0 moment d.1
