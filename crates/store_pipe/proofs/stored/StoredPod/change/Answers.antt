@@ -1,4 +1,4 @@
-use Rattle.std.proofs.Common.{Err, ap, refl, ◌∙◌}
+use Rattle.std.proofs.Common.{Err, ap, refl, subst, ◌∙◌}
 use Rattle.token_table.specs.Credentials.{asked_view}
 use Rattle.pod_pipe.specs.Holders.{Goes, IsAnswerAtEnd}
 use Rattle.pod_reply.specs.Replies.{Reply}
