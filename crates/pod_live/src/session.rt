@@ -170,8 +170,9 @@ fn look_until<N: ViewName<CommittedEntry> + StoreName, R: Wait>(
 {
     for _ in rt.forever() {
         match looker.look() {
+            Ok(_version) => return,
+            Err(ViewFault::NoMemory) => return,
             Err(ViewFault::NoPlace) => {}
-            _ => return,
         }
     }
     unreachable!()

@@ -39,3 +39,15 @@ invariant_of-self-2 g c =
     let Booked = λ (list : List Entry) (changes : ℕ). IsBooked g.D.Disk.image g.D.Disk.faults N.kept N.safe N.opened g.N.ViewName.opening N.counted (record { keeper = c.carry.new.self; list = list; changes = changes; faults = c.self.inside.faults.total }) in
     let listed = subst (λ (list : List Entry). Booked list (c.self.inside.changes.total + 1)) (sym in_list) grown in
     (subst (λ (changes : ℕ). Booked c.publish.new.self.list changes) (sym c.add-2.ensures.total) listed, c.self.invariant.1, c.self.invariant.2, c.self.invariant.3, c.self.invariant.4)
+
+pub invariant_of-self : goal.invariant_of-self
+invariant_of-self g c =
+    let N = g.N.StoreName in
+    let before = c.self.inside.publisher.list in
+    let failed = booked_faulted g.D.Disk.image g.D.Disk.faults N.kept N.safe N.opened g.N.ViewName.opening N.counted c.self.inside.keeper c.carry.new.self before c.self.inside.changes.total c.self.inside.faults.total c.self.invariant.0
+    c.carry.ensures.stands c.carry.ensures.sure c.carry.ensures.long c.carry.ensures.no_fewer_first c.carry.ensures.no_fewer_second (bare_entry c.args.planned.entry) c.in_default-carry.ensures.fault c.in_default-carry.ensures.same
+    c.in_default-carry.ensures.counted in
+    let list : c.prepare.new.self.list ≡ before = search rules in
+    let Booked = λ (list : List Entry) (faults : ℕ). IsBooked g.D.Disk.image g.D.Disk.faults N.kept N.safe N.opened g.N.ViewName.opening N.counted (record { keeper = c.carry.new.self; list = list; changes = c.self.inside.changes.total; faults = faults }) in
+    let listed = subst (λ (list : List Entry). Booked list (c.self.inside.faults.total + 1)) (sym list) failed in
+    (subst (λ (faults : ℕ). Booked c.prepare.new.self.list faults) (sym c.add.ensures.total) listed, c.self.invariant.1, c.self.invariant.2, c.self.invariant.3, c.self.invariant.4)
