@@ -1,5 +1,5 @@
 -- A link between two reads, and how its connection ends.
-use Rattle.std.proofs.Common.{◌≡◌, ◌⊎◌, inl, inr, ℕ, Bool, ◌+◌, ◌-◌, ◌^◌, ◌<◌, ◌≤◌, ◌==◌, true, false, if◌then◌else◌, min, List, [], ◌∷◌, ◌++◌, length, take, drop, Option, Some, None, Result, Ok, Err, refl, sym, ap, subst, append_assoc, ◌∙◌, arith}
+use Rattle.std.proofs.Common.{◌≡◌, ◌⊎◌, inl, inr, IfSome, ℕ, Bool, ◌+◌, ◌-◌, ◌^◌, ◌<◌, ◌≤◌, ◌==◌, true, false, if◌then◌else◌, min, List, [], ◌∷◌, ◌++◌, length, take, drop, Option, Some, None, Result, Ok, Err, refl, sym, ap, subst, append_assoc, ◌∙◌, arith}
 use Rattle.std.specs.Option.{option_map}
 use Rattle.std.proofs.lemmas.Bool.Decides.{nat_tests}
 use Rattle.std.proofs.lemmas.List.{append-nil}
@@ -36,7 +36,7 @@ use Rattle.pod_serve.proofs.PieceLemmas.{all_requests, has_items, is_whole}
 
 -- ---- texts that were sent
 
-tail_of : List ℕ → List ℕ
+abbrev tail_of : List ℕ → List ℕ
 tail_of [] = []
 tail_of (x ∷ xs) = xs
 
@@ -44,7 +44,7 @@ left_cancel : (a x y : List ℕ) → a ++ x ≡ a ++ y → x ≡ y
 left_cancel [] x y e = e
 left_cancel (z ∷ a) x y e = left_cancel a x y (ap tail_of e)
 
-or_none : Option (List ℕ) → List ℕ
+abbrev or_none : Option (List ℕ) → List ℕ
 or_none None = []
 or_none (Some bytes) = bytes
 
@@ -84,10 +84,10 @@ module _ {A : Type 0} (rules : Rules A) (first : A) (start : LinkView) (stage : 
     messages : Messages text s.events (rest_of stage)
     messages = represents_messages stage text s.events s.represents
 
-    whole : EndsWhole rules false first now s.events written s.trail
+    abbrev whole : EndsWhole rules false first now s.events written s.trail
     whole = talks_whole rules first now number s.events written s.trail s.talks
 
-    all_items : Items
+    abbrev all_items : Items
     all_items = record { list = whole.items; refusal = whole.refusal }
 
     all_written : IsAllWritten false s.events all_items written
@@ -98,7 +98,7 @@ module _ {A : Type 0} (rules : Rules A) (first : A) (start : LinkView) (stage : 
     }
 
   module _ (quiet : ℕ) (waiting : List ℕ) (view : LinkView) (s : IsOpenLink rules first start stage now number quiet waiting view) where
-    t : IsAnswered rules first stage now number s.text s.written
+    abbrev t : IsAnswered rules first stage now number s.text s.written
     t = s.answered
 
     -- something was sent, or nothing
@@ -137,8 +137,8 @@ module _ {A : Type 0} (rules : Rules A) (first : A) (start : LinkView) (stage : 
           requests = all_requests end.items t.events end.requests;
           last = end.last;
           refused = end.refused;
-          serves = λ no. inl (rose, subst (IsPrefix part.0) end.output part.2);
-          cause = λ no before after. inr rose;
+          serves = λ other. inl (rose, subst (IsPrefix part.0) end.output part.2);
+          cause = λ other before after. inr rose;
           ended = s.ended;
         }
 
@@ -165,8 +165,8 @@ module _ {A : Type 0} (rules : Rules A) (first : A) (start : LinkView) (stage : 
             requests = all_requests end.items t.events end.requests;
             last = end.last;
             refused = end.refused;
-            serves = λ no. inr (rose_all, (rest_of stage, messages s.text s.written t), all_written s.text s.written t);
-            cause = λ no before after. inl rose_all;
+            serves = λ other. inr (rose_all, (rest_of stage, messages s.text s.written t), all_written s.text s.written t);
+            cause = λ other before after. inl rose_all;
             ended = same_ends ∙ s.ended;
           }
 
@@ -211,8 +211,8 @@ module _ {A : Type 0} (rules : Rules A) (first : A) (start : LinkView) (stage : 
               requests = all_requests end.items t.events end.requests;
               last = end.last;
               refused = end.refused;
-              serves = λ no. all_written s.text s.written t;
-              cause = λ no before after. record { row = omega (arith, row_now, all); counted = λ below. omega (arith, counted_now below, all) };
+              serves = λ other. all_written s.text s.written t;
+              cause = λ other before after. record { row = omega (arith, row_now, all); counted = λ below. omega (arith, counted_now below, all) };
               ended = same_ends ∙ s.ended;
             }
 
@@ -240,8 +240,8 @@ module _ {A : Type 0} (rules : Rules A) (first : A) (start : LinkView) (stage : 
                   requests = all_requests all.items t.events all.requests;
                   last = all.last;
                   refused = all.refused;
-                  serves = λ no. all_written s.text s.written t;
-                  cause = λ no before after. tt;
+                  serves = λ other. all_written s.text s.written t;
+                  cause = λ other before after. tt;
                   ended = met_all;
                 }
             | false ↦ λ e.
@@ -259,8 +259,8 @@ module _ {A : Type 0} (rules : Rules A) (first : A) (start : LinkView) (stage : 
                   requests = all_requests all.items t.events all.requests;
                   last = all.last;
                   refused = all.refused;
-                  serves = λ no. all_written s.text s.written t;
-                  cause = λ no before after. tt;
+                  serves = λ other. all_written s.text s.written t;
+                  cause = λ other before after. tt;
                   ended = met_all;
                 }
           ] refl)
@@ -309,3 +309,144 @@ module _ {A : Type 0} (rules : Rules A) (first : A) (start : LinkView) (stage : 
       read_faults = omega (arith, s.read_faults, w.read_faults);
       write_faults = omega (arith, s.write_faults, w.write_faults);
     }
+
+    -- The connection ended in it, and not all that was taken was sent.
+    fault_end : (end : ConnEnd) (e : IsEnded rules end first after (s.text ++ piece) (s.written ++ out)) → Hears (s.text ++ piece) e.events → (after ≡ e.mid) ⊎ ((request : Request) × rules.passes request e.mid after)
+        → IsPrefix (s.written ++ out) (output_of e.events e.items.list e.items.refusal) → CountIncreased start.counts.write_faults next.counts.write_faults → IsLinkServed rules ends.LinkFault first after start next
+    fault_end end e hears left part rose =
+        let p = sent_prefix sent_since.0 (s.written ++ out) later start.sent next.sent sent_since.1 taken_since in record {
+          read = s.text ++ piece;
+          written = p.0;
+          reads = reads_too;
+          writes = p.1;
+          events = e.events;
+          items = e.items;
+          hears = hears;
+          mid = e.mid;
+          are_items = e.are_items;
+          left = left;
+          requests = e.requests;
+          last = e.last;
+          refused = e.refused;
+          serves = λ other. inl (rose, prefix_trans p.0 (s.written ++ out) (output_of e.events e.items.list e.items.refusal) p.2 part);
+          cause = λ other before now_seen. inr rose;
+          ended = w.ended ∙ s.ended;
+        }
+
+    all_of : (xs ys : List ℕ) → xs ≡ ys → IsPrefix xs ys
+    all_of xs ys e = ([], append-nil xs ∙ e)
+
+    all_heard : (events : List Heard) (rest : ℕ) → Messages (s.text ++ piece) events rest → Hears (s.text ++ piece) events
+    all_heard events rest m = (events, rest, m, ([], sym (append-nil events)))
+
+    unsent_so : (end : TalkEnd) → IsEnded rules (conn_end_of end) first after (s.text ++ piece) (s.written ++ out) → CountIncreased start.counts.write_faults next.counts.write_faults → IsLinkServed rules (unsent_end end) first after start next
+    unsent_so talk.Closed e rose = let h = e.hears None in fault_end ends.Closed e (all_heard e.events 0 h.0) (inl e.left) (all_of (s.written ++ out) (output_of e.events e.items.list e.items.refusal) e.output.bytes) rose
+    unsent_so talk.Limit e rose = let h = e.hears None in fault_end ends.LimitReached e (all_heard e.events 0 h.0) (inl e.left) (all_of (s.written ++ out) (output_of e.events e.items.list e.items.refusal) e.output.bytes) rose
+    unsent_so talk.Upgraded e rose = let h = e.hears None in fault_end ends.Noticed e (all_heard e.events h.0 h.1) (inl e.left) (all_of (s.written ++ out) (output_of e.events e.items.list e.items.refusal) e.output.bytes) rose
+    unsent_so (talk.Bad status) e rose = let h = e.hears None in fault_end (ends.BadMessage status) e (all_heard e.events 0 h.0) (inl e.left) (all_of (s.written ++ out) (output_of e.events e.items.list e.items.refusal) e.output.bytes) rose
+    unsent_so talk.WriteFault e rose = fault_end ends.LinkFault e (e.hears None) e.left e.output rose
+    unsent_so talk.NoPlace e rose = let h = e.hears None in fault_end ends.NoPlace e (all_heard e.events h.0 h.1) (inr (e.left.0, e.left.1)) (all_of (s.written ++ out) (output_of e.events e.items.list e.items.refusal) e.output) rose
+    unsent_so talk.NoMemory e rose =
+        let p = sent_prefix sent_since.0 (s.written ++ out) later start.sent next.sent sent_since.1 taken_since in record {
+          read = s.text ++ piece;
+          written = p.0;
+          reads = reads_too;
+          writes = p.1;
+          events = e.events;
+          items = e.items;
+          hears = e.hears next.rest;
+          mid = e.mid;
+          are_items = e.are_items;
+          left = e.left;
+          requests = e.requests;
+          last = e.last;
+          refused = e.refused;
+          serves = λ other. prefix_trans p.0 (s.written ++ out) (output_of e.events e.items.list e.items.refusal) p.2 e.output;
+          cause = λ other before now_seen. tt;
+          ended = w.ended ∙ s.ended;
+        }
+
+    -- all that was taken was sent
+    module _ (none : later ≡ []) where
+      sent_now : ExtendsBy (s.written ++ out) start.sent next.sent
+      sent_now = sym (none_waits later next.sent none) ∙ taken_since
+
+      sent_end : (end : ConnEnd) (e : IsEnded rules end first after (s.text ++ piece) (s.written ++ out))
+          → ((end ≡ ends.NoPlace → ⊥) → IsWritten end start.counts next.counts (s.text ++ piece) e.events e.items (s.written ++ out))
+          → ((end ≡ ends.NoPlace → ⊥) → (before now_seen : Visit) → HasCause end start.counts next.counts before now_seen) → MeetsEnd end start.counts.ends next.counts.ends → IsLinkServed rules end first after start next
+      sent_end end e serves cause met = record {
+        read = s.text ++ piece;
+        written = s.written ++ out;
+        reads = reads_too;
+        writes = sent_now;
+        events = e.events;
+        items = e.items;
+        hears = e.hears next.rest;
+        mid = e.mid;
+        are_items = e.are_items;
+        left = e.left;
+        requests = e.requests;
+        last = e.last;
+        refused = e.refused;
+        serves = serves;
+        cause = cause;
+        ended = met;
+      }
+
+      same_ends : next.counts.ends ≡ start.counts.ends
+      same_ends = w.ended ∙ s.ended
+
+      sent_so : (end : TalkEnd) → (end ≡ talk.WriteFault → ⊥) → IsEnded rules (conn_end_of end) first after (s.text ++ piece) (s.written ++ out) → IsLinkServed rules (conn_end_of end) first after start next
+      sent_so talk.Closed ok e = sent_end ends.Closed e (λ other. e.output) (λ other before now_seen. tt) same_ends
+      sent_so talk.Limit ok e = sent_end ends.LimitReached e (λ other. e.output) (λ other before now_seen. tt) same_ends
+      sent_so talk.Upgraded ok e = sent_end ends.Noticed e (λ other. e.output) (λ other before now_seen. tt) same_ends
+      sent_so (talk.Bad status) ok e = sent_end (ends.BadMessage status) e (λ other. e.output) (λ other before now_seen. tt) same_ends
+      sent_so talk.WriteFault ok e = absurd (ok refl)
+      sent_so talk.NoMemory ok e = sent_end ends.NoMemory e (λ other. e.output) (λ other before now_seen. tt) same_ends
+      sent_so talk.NoPlace ok e = sent_end ends.NoPlace e (λ other. absurd (other refl)) (λ other before now_seen. absurd (other refl)) same_ends
+
+    pub finished : (end : TalkEnd) (result : ConnEnd) (middle : ℕ) → start.counts.write_faults ≤ middle → IsEnded rules (conn_end_of end) first after (s.text ++ piece) (s.written ++ out)
+        → FinishesAs end result later middle next.counts.write_faults → (end ≡ talk.WriteFault → CountIncreased start.counts.write_faults next.counts.write_faults) → IsLinkServed rules result first after start next
+    finished end result middle le e (inl so) rose = subst (λ r. IsLinkServed rules r first after start next) (sym so.0) (sent_so so.1 end so.2 e)
+    finished end result middle le e (inr (is, inl fault)) rose = subst (λ r. IsLinkServed rules r first after start next) (sym is) (unsent_so end e (rose fault))
+    finished end result middle le e (inr (is, inr failed)) rose = subst (λ r. IsLinkServed rules r first after start next) (sym is) (unsent_so end e (rose_since start.counts.write_faults middle next.counts.write_faults le failed))
+
+-- before the first read
+pub opens : {A : Type 0} (rules : Rules A) (first : A) (start : LinkView) (stage : ParserState) (waiting : List ℕ) → Represents stage [] [] → waiting ≡ [] → IsOpenLink rules first start stage first 0 0 waiting start
+opens rules first start stage waiting represents none = record {
+  text = [];
+  written = [];
+  reads = nothing_read start.rest;
+  answered = record { events = []; trail = []; represents = represents; talks = talks_none rules first };
+  writes = none_waits waiting start.sent none ∙ nothing_added start.sent;
+  more = [];
+  sends = nothing_added start.sent;
+  ended = refl;
+  row = omega arith;
+  counted = λ below. omega arith;
+  read_faults = omega arith;
+  write_faults = omega arith;
+}
+  where
+    nothing_read : (rest : Option (List ℕ)) → Reads [] rest rest
+    nothing_read None = refl
+    nothing_read (Some bytes) = refl
+
+-- a quiet time, counted
+pub quiet_turn : {A : Type 0} (rules : Rules A) (first : A) (start : LinkView) (stage : ParserState) (now : A) (number quiet quiet_now : ℕ) (waiting later : List ℕ) (view next : LinkView) (result : Option ConnEnd) → IsOpenLink rules first start stage now number quiet waiting view → waiting ≡ []
+    → next.rest ≡ view.rest → next.sent ≡ view.sent → next.counts.quiet ≡ next_count view.counts.quiet → next.counts.quiet_row ≡ next_count view.counts.quiet_row → next.counts.ends ≡ view.counts.ends → view.counts.read_faults ≤ next.counts.read_faults → next.counts.write_faults ≡ view.counts.write_faults
+    → quiet < QUIET_LIMIT → quiet_now ≡ quiet + 1 → later ≡ waiting → IfSome result (λ end. (end ≡ ends.Quiet) × (quiet_now ≡ QUIET_LIMIT)) → AfterTurn rules result first start stage now number quiet_now later next
+quiet_turn rules first start stage now number quiet quiet_now waiting later view next None s none same_rest same_sent quiet_is row_is same_ends reads writes few is same end =
+    subst (λ n. IsOpenLink rules first start stage now number n later next) (sym is)
+    (stays_quiet rules first start stage now number quiet waiting view s none next same_rest same_sent quiet_is row_is same_ends few (omega (arith, s.read_faults, reads)) (omega (arith, s.write_faults, writes)) later same)
+quiet_turn rules first start stage now number quiet quiet_now waiting later view next (Some told) s none same_rest same_sent quiet_is row_is same_ends reads writes few is same end =
+    subst (λ e. IsLinkServed rules e first now start next) (sym end.0)
+    (ends_quiet rules first start stage now number quiet waiting view s none next same_rest same_sent quiet_is row_is same_ends few (sym is ∙ end.1))
+
+pub quiet_read : {A : Type 0} (rules : Rules A) (first : A) (start : LinkView) (stage stage_now : ParserState) (now : A) (number number_now quiet quiet_now : ℕ) (waiting later : List ℕ) (view next : LinkView) (result : Option ConnEnd) → IsOpenLink rules first start stage now number quiet waiting view → waiting ≡ []
+    → next.rest ≡ view.rest → next.sent ≡ view.sent → next.counts.quiet ≡ next_count view.counts.quiet → next.counts.quiet_row ≡ next_count view.counts.quiet_row → next.counts.ends ≡ view.counts.ends → view.counts.read_faults ≤ next.counts.read_faults → next.counts.write_faults ≡ view.counts.write_faults
+    → quiet < QUIET_LIMIT → quiet_now ≡ quiet + 1 → later ≡ waiting → IfSome result (λ end. (end ≡ ends.Quiet) × (quiet_now ≡ QUIET_LIMIT)) → stage_now ≡ stage → number_now ≡ number → AfterTurn rules result first start stage_now now number_now quiet_now later next
+quiet_read rules first start stage stage_now now number number_now quiet quiet_now waiting later view next result s none same_rest same_sent quiet_is row_is same_ends reads writes few is same end same_stage same_number =
+    subst (λ p. AfterTurn rules result first start p now number_now quiet_now later next) (sym same_stage)
+    (subst (λ n. AfterTurn rules result first start stage now n quiet_now later next) (sym same_number)
+    (quiet_turn rules first start stage now number quiet quiet_now waiting later view next result s none same_rest same_sent quiet_is row_is same_ends reads writes few is same end))

@@ -41,16 +41,16 @@ first_heard text more events rest m =
     }
 
 -- each request has an item, and a malformed message was refused
-is_whole : (events : List Heard) (items : Items) → length items.list ≡ length (requests_of events) → is_some items.refusal ≡ has_bad events → (history : History) (conn : ℕ) → IsWhole events (record { conn = conn; items = items.list; refusal = items.refusal; history = history })
+pub is_whole : (events : List Heard) (items : Items) → length items.list ≡ length (requests_of events) → is_some items.refusal ≡ has_bad events → (history : History) (conn : ℕ) → IsWhole events (record { conn = conn; items = items.list; refusal = items.refusal; history = history })
 is_whole events items count refuses history conn = inr (count, refuses)
 
-has_items : (items : List Item) (events : List Heard) → map (λ (item : Item). item.request) items ≡ requests_of events → length items ≡ length (requests_of events)
+pub has_items : (items : List Item) (events : List Heard) → map (λ (item : Item). item.request) items ≡ requests_of events → length items ≡ length (requests_of events)
 has_items items events e = sym (length-map items (λ (item : Item). item.request)) ∙ ap length e
 
 front_requests : (items : List Item) (front more : List Heard) → map (λ (item : Item). item.request) items ≡ requests_of front → IsPrefix (map (λ (item : Item). item.request) items) (requests_of (front ++ more))
 front_requests items front more e = (requests_of more, ap (λ rs. rs ++ requests_of more) e ∙ sym (requests_append front more))
 
-all_requests : (items : List Item) (events : List Heard) → map (λ (item : Item). item.request) items ≡ requests_of events → IsPrefix (map (λ (item : Item). item.request) items) (requests_of events)
+pub all_requests : (items : List Item) (events : List Heard) → map (λ (item : Item). item.request) items ≡ requests_of events → IsPrefix (map (λ (item : Item). item.request) items) (requests_of events)
 all_requests items events e = ([], append-nil (map (λ (item : Item). item.request) items) ∙ e)
 
 -- the first events of a text, where the others of it are known
@@ -65,8 +65,8 @@ hears_front text all front behind rest is m =
     }
 
 no_both : (b : Bool) → b ≡ true → b ≡ false → ⊥
-no_both true yes no = cc
-no_both false yes no = cc
+no_both true e f = cc
+no_both false e f = cc
 
 -- a refusal comes of items none of which switched protocols
 never_refused : (may_give : ℕ → Type 0) (refusal : Option ℕ) (front all : List Heard) (items : List Item) → ends_upgraded items ≡ true → IfSome refusal (IsRefused may_give front items) → IfSome refusal (IsRefused may_give all items)
@@ -207,7 +207,7 @@ module _ {A : Type 0} (rules : Rules A) (first : A) (stage : ParserState) (old :
         hears = λ left. (s.events ++ those, rest, m, (behind, events_all));
         mid = new;
         are_items = e.are_items;
-        left = refl;
+        left = inl refl;
         requests = e.requests;
         last = e.last;
         refused = e.refused;
@@ -235,7 +235,8 @@ module _ {A : Type 0} (rules : Rules A) (first : A) (stage : ParserState) (old :
           let t = e.talks in
           let more = heard.Request e.request ∷ behind in
           let whole : e.front ++ more ≡ s.events ++ those = sym (append_assoc e.front (heard.Request e.request ∷ []) behind) ∙ (ap (λ h. h ++ behind) e.events_are ∙ sym events_all) in
-          let count = has_items t.items e.front t.requests in record {
+          let count = has_items t.items e.front t.requests in
+          let bytes : written ++ out ≡ output_of (s.events ++ those) t.items None = t.output ∙ (sym (append-nil (output_of e.front t.items None)) ∙ (sym (output_grows 0 e.front more t.items [] None t.stays t.plain count) ∙ (ap (λ xs. output_of (e.front ++ more) xs None) (append-nil t.items) ∙ ap (λ h. output_of h t.items None) whole))) in record {
             events = s.events ++ those;
             items = record { list = t.items; refusal = None };
             hears = λ left. (rest, m);
@@ -252,13 +253,13 @@ module _ {A : Type 0} (rules : Rules A) (first : A) (stage : ParserState) (old :
                 count = count;
                 no_change = no_change;
                 refusal = refl;
-                bytes = t.output ∙ (sym (append-nil (output_of e.front t.items None)) ∙ (sym (output_grows 0 e.front more t.items [] None t.stays t.plain count) ∙ (ap (λ xs. output_of (e.front ++ more) xs None) (append-nil t.items) ∙ ap (λ h. output_of h t.items None) whole)));
+                bytes = bytes;
               },
             );
             requests = subst (λ h. IsPrefix (map (λ (item : Item). item.request) t.items) (requests_of h)) whole (front_requests t.items e.front more t.requests);
             last = plain_all t.items t.plain;
             refused = tt;
-            output = tt;
+            output = bytes;
           }
 
     pub ended : (new : A) (number_now : ℕ) (end : TalkEnd) (out lines : List ℕ) → TurnsIn rules old number new number_now those out lines (Err end) → IsEnded rules (conn_end_of end) first new (text ++ piece) (written ++ out)

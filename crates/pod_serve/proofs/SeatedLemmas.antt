@@ -17,6 +17,9 @@ use Rattle.pod_base.specs.declared.response.Response.{Response}
 use Rattle.pod_command.specs.declared.entry.Entry.{Entry}
 use Rattle.pod_core.specs.History.{History, end_of, longer, moment_before, pod_at}
 use Rattle.pod_core.specs.Session.{Item, answered, disk_fault, no_memory}
+use Rattle.published_view.specs.LookerState.{NotNoPlace}
+use Rattle.published_view.specs.declared.fault.ViewFault.{ViewFault}
+use Rattle.published_view.specs.declared.fault.ViewFault.TheVariants as views
 use Rattle.pod_live.specs.Visits.{Changed, IsFaulted, IsTurnedAway, Looked, ReadAt, Visit}
 use Rattle.pod_reply.specs.Reply.{IsReply}
 use Rattle.reply_laws.specs.Granted.{is_change}
@@ -37,7 +40,7 @@ module _ (kept : History → Type 0) (first : ℕ) (request : Request) (asked : 
   -- a read was answered
   pub read_answered : (response : Response) (place : ℕ) (moment : Moment) → is_change request.method ≡ false → ReadAt kept new.seen request asked stamp response → place ≡ first + length new.seen → moment ≡ stamp.moment → Looked old new
       → Came (Ok (record { response = response; place = place; moment = moment }))
-  read_answered response place moment no read at is looked = (
+  read_answered response place moment steady read at is looked = (
     record { request = request; number = stamp.number; asked = asked; moment = stamp.moment.0; outcome = answered place read.reply },
     record { request_is = refl; number_is = refl; asked_is = refl },
     record { reply = read.reply; outcome_is = refl; response_is = read.response_is; moment_is = ap (λ (m : Moment). m.0) is },
@@ -47,7 +50,7 @@ module _ (kept : History → Type 0) (first : ℕ) (request : Request) (asked : 
         seen_before = looked.later;
         replies = λ h k. record {
           reply_is = read.replies h k;
-          moment = sym (ap (λ b. if b then max stamp.moment.0 (moment_before (longer h new.seen) (end_of (longer h new.seen))) else stamp.moment.0) no);
+          moment = sym (ap (λ b. if b then max stamp.moment.0 (moment_before (longer h new.seen) (end_of (longer h new.seen))) else stamp.moment.0) steady);
         };
         place_is = at;
         seen_after = none_more new.seen read.reply.entry read.no_entry;
@@ -55,31 +58,33 @@ module _ (kept : History → Type 0) (first : ℕ) (request : Request) (asked : 
       looks = looked.looks;
       changes = omega (arith, looked.changes, none_added read.reply.entry read.no_entry);
       faults = omega (arith, looked.faults);
+      refused = omega (arith, looked.refused);
     },
   )
 
   -- a read found no memory, after its look
   pub read_starved : is_change request.method ≡ false → Looked old new → Came (Err NoMemory)
-  read_starved no looked = (
+  read_starved steady looked = (
     record { request = request; number = stamp.number; asked = asked; moment = stamp.moment.0; outcome = no_memory },
     record { request_is = refl; number_is = refl; asked_is = refl },
     refl,
     record {
       turn = looked.later;
-      looks = looked.looks ∙ ap (λ b. old.looks + (if b then 0 else 1)) (sym no);
+      looks = looked.looks ∙ ap (λ b. old.looks + (if b then 0 else 1)) (sym steady);
       changes = omega (arith, looked.changes);
       faults = omega (arith, looked.faults);
+      refused = omega (arith, looked.refused);
     },
   )
 
   -- a read found no place
   pub read_passed : is_change request.method ≡ false → IsTurnedAway old new → Came (Err NoPlace)
-  read_passed no away = record { no_change = no; away = away }
+  read_passed steady away = record { no_change = steady; away = away }
 
   -- a change was answered
   pub change_answered : (response : Response) (place : ℕ) (moment : Moment) → is_change request.method ≡ true → Changed kept first old request asked stamp response place moment.0 new
       → Came (Ok (record { response = response; place = place; moment = moment }))
-  change_answered response place moment yes change = (
+  change_answered response place moment changing change = (
     record { request = request; number = stamp.number; asked = asked; moment = moment.0; outcome = answered place change.reply },
     record { request_is = refl; number_is = refl; asked_is = refl },
     record { reply = change.reply; outcome_is = refl; response_is = change.response_is; moment_is = refl },
@@ -89,7 +94,7 @@ module _ (kept : History → Type 0) (first : ℕ) (request : Request) (asked : 
         seen_before = change.after_seen;
         replies = λ h k. record {
           reply_is = subst (λ (m : ℕ). IsReply (pod_at (longer h change.entries) (end_of (longer h change.entries))) request asked (end_of (longer h change.entries)) (record stamp { moment = record { 0 = m } }) change.reply) (sym (change.moment_is h k)) (change.replies h k);
-          moment = change.moment_is h k ∙ sym (ap (λ b. if b then max stamp.moment.0 (moment_before (longer h change.entries) (end_of (longer h change.entries))) else stamp.moment.0) yes);
+          moment = change.moment_is h k ∙ sym (ap (λ b. if b then max stamp.moment.0 (moment_before (longer h change.entries) (end_of (longer h change.entries))) else stamp.moment.0) changing);
         };
         place_is = change.place_is;
         seen_after = change.then_seen;
@@ -97,36 +102,44 @@ module _ (kept : History → Type 0) (first : ℕ) (request : Request) (asked : 
       looks = change.looks;
       changes = change.growth;
       faults = omega (arith, change.faults);
+      refused = change.refused;
     },
   )
 
   -- a change found no memory, and nothing changed
   pub change_starved : is_change request.method ≡ true → new ≡ old → Came (Err NoMemory)
-  change_starved yes same = (
+  change_starved changing same = (
     record { request = request; number = stamp.number; asked = asked; moment = stamp.moment.0; outcome = no_memory },
     record { request_is = refl; number_is = refl; asked_is = refl },
     refl,
     record {
       turn = subst (λ (xs : List Entry). IsPrefix old.seen xs) (sym (ap (λ (v : Visit). v.seen) same)) (prefix_self old.seen);
-      looks = ap (λ (v : Visit). v.looks) same ∙ (omega arith ∙ ap (λ b. old.looks + (if b then 0 else 1)) (sym yes));
+      looks = ap (λ (v : Visit). v.looks) same ∙ (omega arith ∙ ap (λ b. old.looks + (if b then 0 else 1)) (sym changing));
       changes = omega (arith, ap (λ (v : Visit). v.changes) same);
       faults = omega (arith, ap (λ (v : Visit). v.faults) same);
+      refused = omega (arith, ap (λ (v : Visit). v.refused) same);
     },
   )
 
   -- a change met a disk fault, which was counted on the session
   pub change_faulted : is_change request.method ≡ true → IsFaulted old new → Came (Err DiskFault)
-  change_faulted yes fault = (
+  change_faulted changing fault = (
     record { request = request; number = stamp.number; asked = asked; moment = stamp.moment.0; outcome = disk_fault },
     record { request_is = refl; number_is = refl; asked_is = refl },
     refl,
     record {
-      turn = (subst (λ (xs : List Entry). IsPrefix old.seen xs) (sym (ap (λ (v : Visit). v.seen) fault)) (prefix_self old.seen), yes);
-      looks = ap (λ (v : Visit). v.looks) fault ∙ (omega arith ∙ ap (λ b. old.looks + (if b then 0 else 1)) (sym yes));
+      turn = (subst (λ (xs : List Entry). IsPrefix old.seen xs) (sym (ap (λ (v : Visit). v.seen) fault)) (prefix_self old.seen), changing);
+      looks = ap (λ (v : Visit). v.looks) fault ∙ (omega arith ∙ ap (λ b. old.looks + (if b then 0 else 1)) (sym changing));
       changes = omega (arith, ap (λ (v : Visit). v.changes) fault);
       faults = ap (λ (v : Visit). v.faults) fault;
+      refused = omega (arith, ap (λ (v : Visit). v.refused) fault);
     },
   )
+
+-- a look that found no memory was made
+pub look_made : (X : Type 0) (fault : ViewFault) (old new : Visit) → fault ≡ views.NoMemory → NotNoPlace {X = X} (Err fault) (Looked old new) → Looked old new
+look_made X views.NoMemory old new is looked = looked
+look_made X views.NoPlace old new is looked = absurd cc
 
 -- what came of a request, of more that is known of it
 pub came_with : (P Q : Item → Type 0) (R S : Type 0) (request : Request) (asked : AskedAgent) (stamp : Stamp) (result : Result Answer AnswerFault) → ((item : Item) → P item → Q item) → (R → S)
@@ -150,6 +163,7 @@ module _ {A X : Type 0} (name : A → X) (visit : A → Visit) (kept : History �
       looks = ap (λ (a : A). (visit a).looks) is ∙ omega arith;
       changes = ap (λ (a : A). (visit a).changes) is ∙ omega arith;
       faults = ap (λ (a : A). (visit a).faults) is ∙ omega arith;
+      refused = omega (arith, ap (λ (a : A). (visit a).refused) is);
     },
   )
   chain_walks (item ∷ items) old new c =
@@ -162,5 +176,6 @@ module _ {A X : Type 0} (name : A → X) (visit : A → Visit) (kept : History �
           looks = omega (arith, turn.looks, rest.1.looks);
           changes = omega (arith, turn.changes, rest.1.changes);
           faults = omega (arith, turn.faults, rest.1.faults);
+          refused = omega (arith, turn.refused, rest.1.refused);
         },
       )

@@ -1,6 +1,7 @@
 -- The connections of a desk, one after the other.
-use Rattle.std.specs.Prelude.{◌≡◌, ◌≢◌, ◌⊎◌, ℕ, ◌+◌, ◌^◌, ◌≤◌, ◌<◌, List, [], ◌∷◌, ◌++◌, length, map}
-use Rattle.std.specs.Prelude.{All, Option, Some, None}
+use Rattle.std.specs.Prelude.{◌≡◌, ◌≢◌, ◌⊎◌, ℕ, ◌+◌, List, [], ◌∷◌, ◌++◌, length, map}
+use Rattle.std.specs.Prelude.{Option, Some}
+use Rattle.std.specs.List.{AllByRecursion}
 use Rattle.std.specs.Option.{option_map}
 use Rattle.pod_base.specs.Counts.{CountIncreased}
 use Rattle.pod_base.specs.declared.request.Request.{Request}
@@ -21,8 +22,9 @@ pub record ServedLink (C : Type 0) : Type 0 where
   pub back : C
   pub end : ConnEnd
 
--- What a gate shows: the connections that it is yet to give and those that were given back, where it
--- shows them, how many calls failed, how many connections it gave, and how many calls found none.
+-- What a gate shows: the connections that it is yet to give and those that were given back, where
+-- it shows them, how many calls failed, how many connections it gave, and how many calls found
+-- none.
 pub record GateView (C : Type 0) : Type 0 where
   pub rest : Option (List C)
   pub back : Option (List C)
@@ -42,7 +44,7 @@ gate_view_of rest back faults given ends gate = record {
 
 -- no connection of a desk was out of memory
 abbrev pub NoneOutOfMemory : {C : Type 0} → List (ServedLink C) → Type 0
-NoneOutOfMemory links = All (λ one. one.end ≢ ends.NoMemory) links
+NoneOutOfMemory {C} links = AllByRecursion (λ (one : ServedLink C). one.end ≢ ends.NoMemory) links
 
 -- How a desk ended: its gate found no more connections, or gave as many as a desk may have; or a
 -- call of the gate failed; or a connection was out of memory.
@@ -74,3 +76,8 @@ module _ (kept : History → Type 0) (first : ℕ) (may_give : ℕ → Type 0)
     pub given : old.rest ≡ option_map (λ rest. map (λ one. one.given) links ++ rest) new.rest
     pub back : new.back ≡ option_map (λ back. back ++ map (λ one. one.back) links) old.back
     pub ended : IsDeskEnd end links old new
+
+  -- A desk that was served knows how it ended.
+  abbrev pub IsDeskServed : ℕ → Visit → Visit → Option DeskEnd → GateView C → GateView C → Type 0
+  IsDeskServed number before after told old new = (end : DeskEnd) × (told ≡ Some end)
+      × DeskServed number end before after old new

@@ -1,8 +1,7 @@
--- what public clauses cite: one connection of many, the connections of a desk, and all desks of a
--- run of `podd`
+-- what public clauses cite: one connection of many, and the connections of many gates
 pub mod Served
 pub mod Desks
-pub mod PoddRuns
 -- internal: cited by private clauses alone
 pub mod Serving
+pub mod Turns
 pub mod ServingLaws

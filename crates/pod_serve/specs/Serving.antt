@@ -1,6 +1,7 @@
 -- The steps of serving a connection: its session answers, its link holds bytes back, and its pieces
 -- are answered one after the other.
-use Rattle.std.specs.Prelude.{◌≡◌, ◌⊎◌, ℕ, ◌+◌, ◌-◌, ◌^◌, ◌≤◌, ◌<◌, Bool, false, true, List, [], ◌++◌, length, map}
+use Rattle.std.specs.Prelude.{◌≡◌, ◌⊎◌, ℕ, ◌+◌, ◌-◌, ◌^◌, ◌≤◌, ◌<◌, Bool, false, true, List, []}
+use Rattle.std.specs.Prelude.{◌++◌, length, map}
 use Rattle.std.specs.Prelude.{IfSome, Option, Some, None, Result, Ok, Err}
 use Rattle.std.specs.Option.{option_map}
 use mathlib.Core.List.{IsPrefix}
@@ -10,7 +11,7 @@ use Rattle.conn_talk.specs.Walks.{Turn, Walk}
 use Rattle.conn_talk.specs.declared.talk_end.TalkEnd.{TalkEnd}
 use Rattle.conn_talk.specs.declared.talk_end.TalkEnd.TheVariants as talk
 use Rattle.http_conn.specs.ParserStates.{Represents}
-use Rattle.http_conn.specs.declared.conn.ParserState.{ParserState}
+use Rattle.http_conn.specs.declared.parser_state.ParserState.{ParserState}
 use Rattle.line_sink.specs.Writing.{ExtendsBy}
 use Rattle.pod_base.specs.Counts.{CountIncreased}
 use Rattle.pod_base.specs.declared.heard.Heard.{Heard}
@@ -39,6 +40,7 @@ pub record SessionTurn (kept : History → Type 0) (first conn clock : ℕ) (old
   pub looks : new.looks ≡ old.looks + looks_on item.request item.outcome
   pub changes : new.changes ≡ old.changes + length (entries_of item)
   pub faults : new.faults ≡ old.faults + faults_on item.outcome
+  pub refused : old.refused ≤ new.refused
 
 -- A request that is no change found no place.
 pub record IsPassed (request : Request) (old new : Visit) : Type 0 where
@@ -52,15 +54,17 @@ pub record SessionWalk (kept : History → Type 0) (first conn : ℕ) (may_give 
   pub looks : new.looks ≡ old.looks + looks_in items
   pub changes : new.changes ≡ old.changes + changes_in items
   pub faults : new.faults ≡ old.faults + faults_in items
+  pub refused : old.refused ≤ new.refused
 
 -- What holds a session by reference: its name, and what contracts see of it.
-module _ {A X : Type 0} (name : A → X) (visit : A → Visit) (kept : History → Type 0) (first : ℕ) where
-  abbrev pub SeatTurns : ℕ → ℕ → A → Item → A → Type 0
-  SeatTurns conn clock old item new = (name old ≡ name new)
-      × SessionTurn kept first conn clock (visit old) item (visit new)
+module _ {A X : Type 0} (name : A → X) (visit : A → Visit) (kept : History → Type 0) (first : ℕ)
+  where
+    abbrev pub SeatTurns : ℕ → ℕ → A → Item → A → Type 0
+    SeatTurns conn clock old item new = (name old ≡ name new)
+        × SessionTurn kept first conn clock (visit old) item (visit new)
 
-  abbrev pub SeatPasses : Request → A → A → Type 0
-  SeatPasses request old new = (name old ≡ name new) × IsPassed request (visit old) (visit new)
+    abbrev pub SeatPasses : Request → A → A → Type 0
+    SeatPasses request old new = (name old ≡ name new) × IsPassed request (visit old) (visit new)
 
 -- ---- a link that holds bytes back
 
@@ -68,8 +72,8 @@ module _ {A X : Type 0} (name : A → X) (visit : A → Visit) (kept : History �
 abbrev pub taken_with : List ℕ → Option (List ℕ) → Option (List ℕ)
 taken_with waiting sent = option_map (λ bytes. bytes ++ waiting) sent
 
--- A link that was written to: what it sent before is a prefix of what it has sent, nothing was read,
--- and the count of write faults didn't fall.
+-- A link that was written to: what it sent before is a prefix of what it has sent, nothing was
+-- read, and the count of write faults didn't fall.
 pub record IsWrittenTo (rest rest_now sent sent_now : Option (List ℕ)) (old new : LinkCounts)
     : Type 0 where
   pub rest_is : rest_now ≡ rest
@@ -96,6 +100,18 @@ module _ {L : Type 0} (rest sent : L → Option (List ℕ)) (counts : L → Link
 
 -- ---- pieces
 
+-- the rules of a connection of that number, which writes no trail
+abbrev pub link_rules : {A : Type 0} → ℕ → (ℕ → Type 0) → (Request → AskedAgent)
+    → (ℕ → ℕ → A → Item → A → Type 0) → (Request → A → A → Type 0) → Rules A
+link_rules conn may_give asking turns passes = record {
+  conn = conn;
+  may_give = may_give;
+  asking = asking;
+  trails = false;
+  turns = turns;
+  passes = passes;
+}
+
 -- the end of a connection whose events ended so
 abbrev pub conn_end_of : TalkEnd → ConnEnd
 conn_end_of talk.Closed = ends.Closed
@@ -106,14 +122,14 @@ conn_end_of talk.WriteFault = ends.LinkFault
 conn_end_of talk.NoMemory = ends.NoMemory
 conn_end_of talk.NoPlace = ends.NoPlace
 
--- What was written of the output of the items by an end that comes of an event. Of a request
--- without a place `IsLeft` says it.
+-- what was written of the output of the items by an end that comes of an event
 abbrev pub IsOutput : ConnEnd → List Heard → Items → List ℕ → Type 0
 IsOutput ends.LinkFault events items written =
     IsPrefix written (output_of events items.list items.refusal)
 IsOutput ends.NoMemory events items written =
     IsPrefix written (output_of events items.list items.refusal)
-IsOutput ends.NoPlace events items written = Unit {0}
+IsOutput ends.NoPlace events items written =
+    written ≡ output_of events items.list items.refusal
 IsOutput ends.Noticed events items written = IsAllWritten true events items written
 IsOutput _ events items written = IsAllWritten false events items written
 

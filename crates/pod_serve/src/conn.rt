@@ -1,10 +1,12 @@
 //! [`serve_conn`]: one connection of many.
-ghost use Rattle.std.specs.Prelude.{◌≡◌, ◌==◌, ◌+◌, ◌<◌, [], drop, false, if◌then◌else◌, length, IfNone, IfSome};
+ghost use Rattle.std.specs.Prelude.{◌≡◌, ◌==◌, ◌+◌, ◌<◌, [], drop, false, if◌then◌else◌, length};
+ghost use Rattle.std.specs.Prelude.{IfNone, IfSome};
 ghost use Rattle.conn_talk.specs.Agents.{asking_of};
 ghost use Rattle.http_conn.specs.declared.events.TheConstants.{REQUEST_LIMIT};
 ghost use Rattle.pod_serve.specs.Served.{ConnServed, LinkView, link_view_of};
 ghost use Rattle.pod_serve.specs.Serving.{AfterTurn, FinishesAs, IsLinkServed, IsOpenLink};
-ghost use Rattle.pod_serve.specs.Serving.{IsWrittenTo, conn_end_of, taken_with, unsent_end};
+ghost use Rattle.pod_serve.specs.Serving.{IsReadLink};
+ghost use Rattle.pod_serve.specs.Serving.{IsWrittenTo, conn_end_of, link_rules, taken_with, unsent_end};
 
 use crate::conn_end::{ConnEnd, QUIET_LIMIT};
 use crate::link_output::LinkOutput;
@@ -60,13 +62,13 @@ fn unsent(end: TalkEnd) -> ConnEnd
 /// Sends what waits after the last event, unless a write failed.
 fn finish<'a, L: Link>(output: &mut LinkOutput<'a, L>, end: TalkEnd) -> ConnEnd
     ensures same { output.old.link.ghost_name ≡ output.new.link.ghost_name }
-    ensures taken { taken_with (drop output.new.from output.new.held.items)
-        (L.sent output.new.link.now)
-        ≡ taken_with (drop output.old.from output.old.held.items) (L.sent output.old.link.now) }
-    ensures written { IsWrittenTo (L.rest output.old.link.now) (L.rest output.new.link.now)
-        (L.sent output.old.link.now) (L.sent output.new.link.now) (L.counts output.old.link.now)
-        (L.counts output.new.link.now) }
-    ensures finishes { FinishesAs end result (drop output.new.from output.new.held.items)
+    ensures taken { taken_with (drop output.new.from output.new.held.now.items) (L.sent
+        output.new.link.now) ≡ taken_with (drop output.old.from output.old.held.now.items) (L.sent
+        output.old.link.now) }
+    ensures written { IsWrittenTo (L.rest output.old.link.now) (L.rest output.new.link.now) (L.sent
+        output.old.link.now) (L.sent output.new.link.now) (L.counts output.old.link.now) (L.counts
+        output.new.link.now) }
+    ensures finishes { FinishesAs end result (drop output.new.from output.new.held.now.items)
         (L.counts output.old.link.now).write_faults (L.counts output.new.link.now).write_faults }
 {
     if end == TalkEnd::WriteFault {
@@ -80,6 +82,7 @@ fn finish<'a, L: Link>(output: &mut LinkOutput<'a, L>, end: TalkEnd) -> ConnEnd
 
 /// A connection between two reads: the parser of its bytes, how many of its requests were answered,
 /// and how many quiet times in a row were counted.
+#[derive(Drop)]
 struct Reading {
     parser: Conn,
     connection: Connection,
@@ -98,42 +101,24 @@ fn take_piece<'a, A: Answers, L: Link, C: Clock>(
 ) -> Option<ConnEnd>
     requires ready { A.ready answers.old }
     requires few { reading.old.connection.number < REQUEST_LIMIT }
-    requires empty { (drop output.old.from output.old.held.items) ≡ [] }
-    requires read { (first : A) × (start : LinkView) × IsReadLink (record {
-          conn = reading.old.connection.conn;
-          may_give = C.may_give clock.now;
-          asking = asking_of agents.now;
-          trails = false;
-          turns = A.turns;
-          passes = A.passes;
-        }) first start
-        reading.old.parser answers.old reading.old.connection.number piece.now
+    requires empty { (drop output.old.from output.old.held.now.items) ≡ [] }
+    requires read { (first : A) × (start : LinkView) × IsReadLink (link_rules
+        reading.old.connection.conn (C.may_give clock.now) (asking_of agents.now) A.turns A.passes)
+        first start reading.old.parser answers.old reading.old.connection.number piece.now
         (link_view_of L.rest L.sent L.counts output.old.link.now) }
     ensures same { output.old.link.ghost_name ≡ output.new.link.ghost_name }
     ensures ready { A.ready answers.new }
     ensures few { IfNone result (reading.new.connection.number < REQUEST_LIMIT) }
     ensures conn { reading.new.connection.conn ≡ reading.old.connection.conn }
     ensures quiet { reading.new.quiet ≡ 0 }
-    ensures turn { (first : A) (start : LinkView) → IsReadLink (record {
-          conn = reading.old.connection.conn;
-          may_give = C.may_give clock.now;
-          asking = asking_of agents.now;
-          trails = false;
-          turns = A.turns;
-          passes = A.passes;
-        }) first start
-        reading.old.parser answers.old reading.old.connection.number piece.now
-        (link_view_of L.rest L.sent L.counts output.old.link.now)
-        → AfterTurn (record {
-          conn = reading.old.connection.conn;
-          may_give = C.may_give clock.now;
-          asking = asking_of agents.now;
-          trails = false;
-          turns = A.turns;
-          passes = A.passes;
-        })
+    ensures turn { (first : A) (start : LinkView) → IsReadLink (link_rules
+        reading.old.connection.conn (C.may_give clock.now) (asking_of agents.now) A.turns A.passes)
+        first start reading.old.parser answers.old reading.old.connection.number piece.now
+        (link_view_of L.rest L.sent L.counts output.old.link.now) → AfterTurn (link_rules
+        reading.old.connection.conn (C.may_give clock.now) (asking_of agents.now) A.turns A.passes)
         result first start reading.new.parser answers.new reading.new.connection.number
-        reading.new.quiet (drop output.new.from output.new.held.items) (link_view_of L.rest L.sent L.counts output.new.link.now) }
+        reading.new.quiet (drop output.new.from output.new.held.now.items) (link_view_of L.rest
+        L.sent L.counts output.new.link.now) }
 {
     let Reading {
         parser,
@@ -141,7 +126,9 @@ fn take_piece<'a, A: Answers, L: Link, C: Clock>(
         quiet,
     } = reading;
     *quiet = 0;
-    match answer_piece(alloc, parser, connection, answers, piece, agents, output, clock) {
+    match answer_piece(
+        alloc, parser, connection, answers, piece, agents, output, clock,
+    ) {
         Ok(()) => None,
         Err(end) => Some(finish(output, end)),
     }
@@ -154,8 +141,7 @@ fn count_quiet(reading: &mut Reading) -> Option<ConnEnd>
     ensures connection { reading.new.connection ≡ reading.old.connection }
     ensures quiet { reading.new.quiet ≡ reading.old.quiet + 1 }
     ensures more { IfNone result (reading.new.quiet < QUIET_LIMIT) }
-    ensures end { IfSome result
-        (λ end. (end ≡ ConnEnd.Quiet) × (reading.new.quiet ≡ QUIET_LIMIT)) }
+    ensures end { IfSome result (λ end. (end ≡ ConnEnd.Quiet) × (reading.new.quiet ≡ QUIET_LIMIT)) }
 {
     reading.quiet += 1;
     if reading.quiet == QUIET_LIMIT {
@@ -179,49 +165,39 @@ fn read_turn<'a, A: Answers, L: Link, C: Clock>(
     requires few { reading.old.connection.number < REQUEST_LIMIT }
     requires some { 0 < length into.old }
     requires quiet { reading.old.quiet < QUIET_LIMIT }
-    requires empty { (drop output.old.from output.old.held.items) ≡ [] }
-    requires is_open { (first : A) × (start : LinkView) × IsOpenLink (record {
-          conn = reading.old.connection.conn;
-          may_give = C.may_give clock.now;
-          asking = asking_of agents.now;
-          trails = false;
-          turns = A.turns;
-          passes = A.passes;
-        }) first start
-        reading.old.parser answers.old reading.old.connection.number reading.old.quiet
+    requires empty { (drop output.old.from output.old.held.now.items) ≡ [] }
+    requires is_open { (first : A) × (start : LinkView) × IsOpenLink (link_rules
+        reading.old.connection.conn (C.may_give clock.now) (asking_of agents.now) A.turns A.passes)
+        first start reading.old.parser answers.old reading.old.connection.number reading.old.quiet
         [] (link_view_of L.rest L.sent L.counts output.old.link.now) }
     ensures same { output.old.link.ghost_name ≡ output.new.link.ghost_name }
     ensures ready { A.ready answers.new }
     ensures few { IfNone result (reading.new.connection.number < REQUEST_LIMIT) }
     ensures conn { reading.new.connection.conn ≡ reading.old.connection.conn }
     ensures quiet { IfNone result (reading.new.quiet < QUIET_LIMIT) }
-    ensures turn { (first : A) (start : LinkView) → IsOpenLink (record {
-          conn = reading.old.connection.conn;
-          may_give = C.may_give clock.now;
-          asking = asking_of agents.now;
-          trails = false;
-          turns = A.turns;
-          passes = A.passes;
-        }) first start
-        reading.old.parser answers.old reading.old.connection.number reading.old.quiet
-        [] (link_view_of L.rest L.sent L.counts output.old.link.now)
-        → AfterTurn (record {
-          conn = reading.old.connection.conn;
-          may_give = C.may_give clock.now;
-          asking = asking_of agents.now;
-          trails = false;
-          turns = A.turns;
-          passes = A.passes;
-        })
+    ensures turn { (first : A) (start : LinkView) → IsOpenLink (link_rules
+        reading.old.connection.conn (C.may_give clock.now) (asking_of agents.now) A.turns A.passes)
+        first start reading.old.parser answers.old reading.old.connection.number reading.old.quiet
+        [] (link_view_of L.rest L.sent L.counts output.old.link.now) → AfterTurn (link_rules
+        reading.old.connection.conn (C.may_give clock.now) (asking_of agents.now) A.turns A.passes)
         result first start reading.new.parser answers.new reading.new.connection.number
-        reading.new.quiet (drop output.new.from output.new.held.items) (link_view_of L.rest L.sent L.counts output.new.link.now) }
+        reading.new.quiet (drop output.new.from output.new.held.now.items) (link_view_of L.rest
+        L.sent L.counts output.new.link.now) }
 {
     match output.receive(into) {
         Ok(count) => {
             if count == 0 {
                 Some(at_end(reading.parser.rest()))
             } else {
-                take_piece(alloc, reading, answers, &into[..count], agents, output, clock)
+                take_piece(
+                    alloc,
+                    reading,
+                    answers,
+                    &into[..count],
+                    agents,
+                    output,
+                    clock,
+                )
             }
         }
         Err(LinkFailed::Quiet) => count_quiet(reading),
@@ -243,41 +219,24 @@ fn turn<'a, A: Answers, L: Link, C: Clock>(
     requires few { reading.old.connection.number < REQUEST_LIMIT }
     requires some { 0 < length into.old }
     requires quiet { reading.old.quiet < QUIET_LIMIT }
-    requires is_open { (first : A) × (start : LinkView) × IsOpenLink (record {
-          conn = reading.old.connection.conn;
-          may_give = C.may_give clock.now;
-          asking = asking_of agents.now;
-          trails = false;
-          turns = A.turns;
-          passes = A.passes;
-        }) first start
-        reading.old.parser answers.old reading.old.connection.number reading.old.quiet
-        (drop output.old.from output.old.held.items) (link_view_of L.rest L.sent L.counts output.old.link.now) }
+    requires is_open { (first : A) × (start : LinkView) × IsOpenLink (link_rules
+        reading.old.connection.conn (C.may_give clock.now) (asking_of agents.now) A.turns A.passes)
+        first start reading.old.parser answers.old reading.old.connection.number reading.old.quiet
+        (drop output.old.from output.old.held.now.items) (link_view_of L.rest L.sent L.counts
+        output.old.link.now) }
     ensures same { output.old.link.ghost_name ≡ output.new.link.ghost_name }
     ensures ready { A.ready answers.new }
     ensures few { IfNone result (reading.new.connection.number < REQUEST_LIMIT) }
     ensures conn { reading.new.connection.conn ≡ reading.old.connection.conn }
     ensures quiet { IfNone result (reading.new.quiet < QUIET_LIMIT) }
-    ensures turn { (first : A) (start : LinkView) → IsOpenLink (record {
-          conn = reading.old.connection.conn;
-          may_give = C.may_give clock.now;
-          asking = asking_of agents.now;
-          trails = false;
-          turns = A.turns;
-          passes = A.passes;
-        }) first start
-        reading.old.parser answers.old reading.old.connection.number reading.old.quiet
-        (drop output.old.from output.old.held.items) (link_view_of L.rest L.sent L.counts output.old.link.now)
-        → AfterTurn (record {
-          conn = reading.old.connection.conn;
-          may_give = C.may_give clock.now;
-          asking = asking_of agents.now;
-          trails = false;
-          turns = A.turns;
-          passes = A.passes;
-        })
-        result first start reading.new.parser answers.new reading.new.connection.number
-        reading.new.quiet (drop output.new.from output.new.held.items) (link_view_of L.rest L.sent L.counts output.new.link.now) }
+    ensures turn { (first : A) (start : LinkView) → IsOpenLink (link_rules
+        reading.old.connection.conn (C.may_give clock.now) (asking_of agents.now) A.turns A.passes)
+        first start reading.old.parser answers.old reading.old.connection.number reading.old.quiet
+        (drop output.old.from output.old.held.now.items) (link_view_of L.rest L.sent L.counts
+        output.old.link.now) → AfterTurn (link_rules reading.old.connection.conn (C.may_give
+        clock.now) (asking_of agents.now) A.turns A.passes) result first start reading.new.parser
+        answers.new reading.new.connection.number reading.new.quiet (drop output.new.from
+        output.new.held.now.items) (link_view_of L.rest L.sent L.counts output.new.link.now) }
 {
     match output.flush() {
         Ok(()) => read_turn(alloc, reading, answers, into, agents, output, clock),
@@ -296,18 +255,11 @@ fn serve_link<'a, A: Answers, L: Link, C: Clock, R: Wait>(
     clock: &C,
 ) -> ConnEnd
     requires ready { A.ready answers.old }
-    requires empty { (drop output.old.from output.old.held.items) ≡ [] }
+    requires empty { (drop output.old.from output.old.held.now.items) ≡ [] }
     ensures same { output.old.link.ghost_name ≡ output.new.link.ghost_name }
-    ensures served { IsLinkServed (record {
-          conn = conn;
-          may_give = C.may_give clock.now;
-          asking = asking_of agents.now;
-          trails = false;
-          turns = A.turns;
-          passes = A.passes;
-        }) result answers.old answers.new
-        (link_view_of L.rest L.sent L.counts output.old.link.now)
-        (link_view_of L.rest L.sent L.counts output.new.link.now) }
+    ensures served { IsLinkServed (link_rules conn (C.may_give clock.now) (asking_of agents.now)
+        A.turns A.passes) result answers.old answers.new (link_view_of L.rest L.sent L.counts
+        output.old.link.now) (link_view_of L.rest L.sent L.counts output.new.link.now) }
 {
     let mut reading = Reading {
         parser: Conn::new(alloc),
@@ -316,7 +268,15 @@ fn serve_link<'a, A: Answers, L: Link, C: Clock, R: Wait>(
     };
     let mut into = [0u8; PIECE_LIMIT];
     for _ in rt.forever() {
-        if let Some(end) = turn(alloc, &mut reading, answers, &mut into, agents, output, clock) {
+        if let Some(end) = turn(
+            alloc,
+            &mut reading,
+            answers,
+            &mut into,
+            agents,
+            output,
+            clock,
+        ) {
             return end;
         }
     }
@@ -346,10 +306,11 @@ pub fn serve_conn<
     clock: &C,
 ) -> ConnEnd
     ensures { ConnServed N.kept N.opened.next (C.may_give clock.now) (asking_of agents.now) conn
-        result session.old session.new (link_view_of K.rest K.sent K.counts link.old)
-        (link_view_of K.rest K.sent K.counts link.new) }
+        result session.old session.new (link_view_of K.rest K.sent K.counts link.old) (link_view_of
+        K.rest K.sent K.counts link.new) }
 {
     let mut seated = Seated::new(rt, live, session);
-    let mut output = LinkOutput::new(alloc, link);
+    let mut held = Vec::new(alloc);
+    let mut output = LinkOutput::new(link, &mut held);
     serve_link(rt, alloc, conn, &mut seated, agents, &mut output, clock)
 }

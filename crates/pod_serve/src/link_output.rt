@@ -8,7 +8,6 @@ ghost use Rattle.pod_serve.specs.Serving.{CountsSent, FollowsLink, IsWrittenTo, 
 
 use conn_talk::Output;
 use pod_io::{Failed, Link, LinkFailed};
-use std::alloc::Global;
 
 /// How many bytes may wait to be sent.
 const BUFFER: usize = 16_384;
@@ -21,9 +20,7 @@ struct Sent {
 
 /// Sends a text from a position on.
 fn send_from<L: Link>(link: &mut L, text: &[u8], from: usize) -> Sent
-    requires { from ≤ length text.now }
-    ensures within { result.at ≤ length text.now }
-    ensures whole { result.whole ≡ true → result.at ≡ length text.now }
+    ensures whole { result.whole ≡ true → drop result.at text.now ≡ [] }
     ensures taken { taken_with (drop result.at text.now) (L.sent link.new)
         ≡ taken_with (drop from text.now) (L.sent link.old) }
     ensures written { IsWrittenTo (L.rest link.old) (L.rest link.new) (L.sent link.old)
@@ -41,12 +38,14 @@ fn send_from<L: Link>(link: &mut L, text: &[u8], from: usize) -> Sent
     Sent { at, whole: true }
 }
 
-/// Appends a text to those that wait, where there is room for it. It takes no memory.
-fn hold(held: &mut Vec<u8>, text: &[u8]) -> bool
+/// Appends a text to those that wait, where none of them was sent and there is room for it. It
+/// takes no memory.
+fn hold(held: &mut Vec<u8>, from: usize, text: &[u8]) -> bool
+    ensures whole { result ≡ true → from ≡ 0 }
     ensures held { result ≡ true → held.new.items ≡ held.old.items ++ text.now }
     ensures same { result ≡ false → held.new.items ≡ held.old.items }
 {
-    if text.len() > held.capacity() - held.len() {
+    if from > 0 || text.len() > held.capacity() - held.len() {
         return false;
     }
     held.extend_from_slice(text).is_ok()
@@ -58,19 +57,18 @@ fn hold(held: &mut Vec<u8>, text: &[u8]) -> bool
 #[derive(Drop)]
 pub(crate) struct LinkOutput<'a, L> {
     pub link: &'a mut L,
-    held: Vec<u8>,
+    held: &'a mut Vec<u8>,
     from: usize,
-    ghost within: { from ≤ length held.items },
 }
 
 impl<'a, L: Link> LinkOutput<'a, L> {
-    /// That link. Nothing waits.
-    pub(crate) fn new(alloc: Global, link: &'a mut L) -> LinkOutput<'a, L>
+    /// That link, with that buffer, which it empties. Nothing waits.
+    pub(crate) fn new(link: &'a mut L, held: &'a mut Vec<u8>) -> LinkOutput<'a, L>
         ensures same { result.link.ghost_name ≡ link.entry.ghost_name }
         ensures link { result.link.now ≡ link.entry.now }
-        ensures empty { drop result.from result.held.items ≡ [] }
+        ensures empty { drop result.from result.held.now.items ≡ [] }
     {
-        let mut held = Vec::new(alloc);
+        held.clear();
         let _reserved = held.reserve(BUFFER);
         LinkOutput {
             link,
@@ -84,7 +82,7 @@ impl<'a, L: Link> LinkOutput<'a, L> {
         requires { 0 < length into.old }
         ensures same { self.old.link.ghost_name ≡ self.new.link.ghost_name }
         ensures from { self.new.from ≡ self.old.from }
-        ensures held { self.new.held ≡ self.old.held }
+        ensures held { self.new.held.now ≡ self.old.held.now }
         ensures len { IfOk result (λ count. count ≤ length into.old) }
         ensures bytes { IfOk result (λ count. IfVisible (L.rest self.old.link.now)
             (λ rest. IsRead rest count into.old into.new)) }
@@ -102,18 +100,18 @@ impl<'a, L: Link> Output for LinkOutput<'a, L> {
     ghost use Rattle.pod_serve.specs.Serving.{FollowsLink, taken_with};
     ghost use Rattle.pod_serve.specs.ServingLaws.{follows_still, follows_joins};
 
-    ghost taken = { λ o. taken_with (drop o.from o.held.items) (L.sent o.link.now) };
+    ghost taken = { λ o. taken_with (drop o.from o.held.now.items) (L.sent o.link.now) };
 
     ghost faults = { λ o. (L.counts o.link.now).write_faults };
 
     ghost follows = { λ a b. FollowsLink L.rest L.sent L.counts a b };
 
     fn write(&mut self, piece: &[u8]) -> Result<usize, Failed> {
-        if hold(&mut self.held, piece) {
+        if hold(self.held, self.from, piece) {
             return Ok(piece.len());
         }
         self.flush()?;
-        if hold(&mut self.held, piece) {
+        if hold(self.held, self.from, piece) {
             return Ok(piece.len());
         }
         match self.link.write(piece) {
@@ -123,13 +121,13 @@ impl<'a, L: Link> Output for LinkOutput<'a, L> {
     }
 
     fn flush(&mut self) -> Result<(), Failed>
-        ensures taken { taken_with (drop self.new.from self.new.held.items)
+        ensures taken { taken_with (drop self.new.from self.new.held.now.items)
             (L.sent self.new.link.now)
-            ≡ taken_with (drop self.old.from self.old.held.items) (L.sent self.old.link.now) }
+            ≡ taken_with (drop self.old.from self.old.held.now.items) (L.sent self.old.link.now) }
         ensures faults { CountsFaults result (L.counts self.old.link.now).write_faults
             (L.counts self.new.link.now).write_faults }
         ensures follows { FollowsLink L.rest L.sent L.counts self.old self.new }
-        ensures empty { OnOk result (drop self.new.from self.new.held.items ≡ []) }
+        ensures empty { OnOk result (drop self.new.from self.new.held.now.items ≡ []) }
     {
         let Sent { at, whole } = send_from(self.link, self.held.as_slice(), self.from);
         self.from = at;

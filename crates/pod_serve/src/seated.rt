@@ -142,6 +142,14 @@ impl<'a, N: ViewName<CommittedEntry> + StoreName, L: Rounds<N>, R: Wait> Answers
         asked: &Asked<'_>,
         stamp: Stamp,
     ) -> Result<Answer, AnswerFault> {
-        answer_request(self.rt, alloc, self.live, self.session, request, asked, stamp)
+        answer_request(
+            self.rt,
+            alloc,
+            self.live,
+            self.session,
+            request,
+            asked,
+            stamp,
+        )
     }
 }
