@@ -1,7 +1,5 @@
 -- A link that a session served is a connection that was served.
-use Rattle.std.proofs.Common.{◌≡◌, ◌⊎◌, inl, inr, ℕ, ◌+◌, ◌≤◌, false, List, refl, sym, ap, subst, ◌∙◌, arith}
-use mathlib.Core.List.{IsPrefix}
-use Rattle.conn_talk.specs.Talks.{Chain}
+use Rattle.std.proofs.Common.{◌≡◌, inl, inr, ℕ, ◌≤◌, false, List, sym, ap, subst, ◌∙◌, arith}
 use Rattle.conn_talk.specs.Turns.{Rules}
 use Rattle.conn_talk.specs.Walks.{Walk}
 use Rattle.conn_talk.proofs.WalkLemmas.{walk_is_session}
@@ -9,7 +7,7 @@ use Rattle.pod_base.specs.Counts.{CountIncreased}
 use Rattle.pod_base.specs.declared.heard.Heard.{Heard}
 use Rattle.pod_base.specs.declared.request.Request.{Request}
 use Rattle.pod_command.specs.declared.entry.Entry.{Entry}
-use Rattle.pod_core.specs.History.{History, IsHistory, end_of, longer}
+use Rattle.pod_core.specs.History.{History, IsHistory, end_of}
 use Rattle.pod_io.specs.declared.link.LinkCounts.{LinkCounts}
 use Rattle.pod_keeper.specs.Kept.{version_of}
 use Rattle.pod_keeper.proofs.HistoryLaws.{version_next}
@@ -18,7 +16,7 @@ use Rattle.pod_pages.specs.State.{VersionState}
 use Rattle.published_view.specs.LookerState.{CountIncreasedByOne}
 use Rattle.token_table.specs.Credentials.{AskedAgent}
 use Rattle.pod_serve.specs.Served.{ConnServed, HasCause, IsWritten, Items, LinkView}
-use Rattle.pod_serve.specs.Serving.{IsLeft, IsLinkServed, IsPassed, SeatPasses, SeatTurns, SessionWalk}
+use Rattle.pod_serve.specs.Serving.{IsLeft, IsLinkServed, SeatPasses, SeatTurns}
 use Rattle.pod_serve.specs.declared.conn_end.ConnEnd.{ConnEnd}
 use Rattle.pod_serve.specs.declared.conn_end.ConnEnd.TheVariants as ends
 use Rattle.pod_serve.proofs.SeatedLemmas.{chain_walks}

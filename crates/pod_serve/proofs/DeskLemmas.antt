@@ -1,9 +1,8 @@
 -- The connections of a desk, one more.
-use Rattle.std.proofs.Common.{◌≡◌, ◌≢◌, ◌⊎◌, inl, inr, ℕ, Bool, true, false, ◌+◌, ◌≤◌, ◌<◌, if◌then◌else◌, List, [], ◌∷◌, ◌++◌, length, length-append, map, Option, Some, None, refl, sym, ap, subst, append_assoc, ◌∙◌, arith}
+use Rattle.std.proofs.Common.{◌≡◌, ◌≢◌, inl, inr, ℕ, Bool, true, false, ◌+◌, ◌≤◌, if◌then◌else◌, List, [], ◌∷◌, ◌++◌, length, length-append, map, Option, Some, None, refl, sym, ap, subst, append_assoc, ◌∙◌, arith}
 use Rattle.std.specs.List.{AllByRecursion}
 use Rattle.std.specs.Option.{option_map}
 use Rattle.std.proofs.lemmas.List.{append-nil}
-use Rattle.pod_base.specs.Counts.{CountIncreased}
 use Rattle.pod_base.specs.declared.request.Request.{Request}
 use Rattle.pod_core.specs.History.{History}
 use Rattle.pod_io.specs.Counts.{next_count}
@@ -11,7 +10,7 @@ use Rattle.pod_live.specs.Visits.{Visit}
 use Rattle.token_table.specs.Credentials.{AskedAgent}
 use Rattle.pod_serve.specs.Desks.{Conns, DeskServed, GateView, IsDeskEnd, NoneOutOfMemory, ServedLink}
 use Rattle.pod_serve.specs.Served.{ConnServed, LinkView}
-use Rattle.pod_serve.specs.Turns.{IsNoneGiven, IsOneServed, NextServed}
+use Rattle.pod_serve.specs.Turns.{IsOneServed, NextServed}
 use Rattle.pod_serve.specs.declared.conn_end.ConnEnd.{ConnEnd}
 use Rattle.pod_serve.specs.declared.conn_end.ConnEnd.TheVariants as ends
 use Rattle.pod_serve.specs.declared.desk.DeskEnd.{DeskEnd}

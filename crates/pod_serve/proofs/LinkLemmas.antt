@@ -1,10 +1,10 @@
 -- A link between two reads, and how its connection ends.
-use Rattle.std.proofs.Common.{◌≡◌, ◌⊎◌, inl, inr, IfSome, ℕ, Bool, ◌+◌, ◌-◌, ◌^◌, ◌<◌, ◌≤◌, ◌==◌, true, false, if◌then◌else◌, min, List, [], ◌∷◌, ◌++◌, length, take, drop, Option, Some, None, Result, Ok, Err, refl, sym, ap, subst, append_assoc, ◌∙◌, arith}
+use Rattle.std.proofs.Common.{◌≡◌, ◌⊎◌, inl, inr, IfSome, ℕ, ◌+◌, ◌-◌, ◌^◌, ◌<◌, ◌≤◌, ◌==◌, true, false, if◌then◌else◌, List, [], ◌∷◌, ◌++◌, take, drop, Option, Some, None, refl, sym, ap, subst, append_assoc, ◌∙◌, arith}
 use Rattle.std.specs.Option.{option_map}
 use Rattle.std.proofs.lemmas.Bool.Decides.{nat_tests}
 use Rattle.std.proofs.lemmas.List.{append-nil}
 use mathlib.Core.List.{IsPrefix}
-use Rattle.conn_talk.specs.Talks.{AreItems, EndsPart, EndsWhole, Talks}
+use Rattle.conn_talk.specs.Talks.{EndsWhole}
 use Rattle.conn_talk.specs.Turns.{Rules}
 use Rattle.conn_talk.specs.declared.talk_end.TalkEnd.{TalkEnd}
 use Rattle.conn_talk.specs.declared.talk_end.TalkEnd.TheVariants as talk
@@ -21,14 +21,11 @@ use Rattle.pod_base.specs.declared.request.Request.{Request}
 use Rattle.pod_base.proofs.Prefixes.{prefix_trans}
 use Rattle.pod_core.specs.Output.{output_of}
 use Rattle.pod_io.specs.Counts.{next_count}
-use Rattle.pod_io.specs.Visible.{IfVisible, IsRead}
-use Rattle.pod_io.specs.declared.link.LinkCounts.{LinkCounts}
 use Rattle.pod_live.specs.Visits.{Visit}
 use Rattle.pod_pipe.specs.Statuses.{Hears}
 use Rattle.pod_pipe.specs.Streams.{AtEnd, Reads}
-use Rattle.pod_pipe.proofs.ReadsLemmas.{ended_at, met_end, met_no_end, reads_more, reads_none}
-use Rattle.pod_serve.specs.Served.{AreQuiet, HasCause, IsAllWritten, IsHeard, IsWritten, IsWrittenUpTo, Items, LinkView, MeetsEnd}
-use Rattle.pod_serve.specs.Serving.{AfterPiece, AfterTurn, AnswersPiece, FinishesAs, IsAnswered, IsEnded, IsLeft, IsLinkServed, IsOpenLink, IsOutput, IsReadLink, IsWrittenTo, conn_end_of, taken_with, unsent_end}
+use Rattle.pod_serve.specs.Served.{HasCause, IsAllWritten, IsWritten, Items, LinkView, MeetsEnd}
+use Rattle.pod_serve.specs.Serving.{AfterTurn, FinishesAs, IsAnswered, IsEnded, IsLinkServed, IsOpenLink, IsReadLink, IsWrittenTo, conn_end_of, taken_with, unsent_end}
 use Rattle.pod_serve.specs.declared.conn_end.ConnEnd.{ConnEnd}
 use Rattle.pod_serve.specs.declared.conn_end.ConnEnd.TheVariants as ends
 use Rattle.pod_serve.specs.declared.conn_end.TheConstants.{QUIET_LIMIT}

@@ -1,16 +1,16 @@
 -- The pieces of a connection's bytes, one after the other.
-use Rattle.std.proofs.Common.{◌≡◌, ℕ, Bool, ◌+◌, ◌<◌, ◌≤◌, true, false, List, [], ◌∷◌, ◌++◌, length, map, ◌⊎◌, inl, inr, Option, Some, None, is_some, IfSome, Result, Ok, Err, refl, sym, ap, subst, append_assoc, ◌∙◌, arith}
+use Rattle.std.proofs.Common.{◌≡◌, ℕ, Bool, true, false, List, [], ◌∷◌, ◌++◌, length, map, inl, inr, Option, Some, None, is_some, IfSome, Ok, Err, refl, sym, ap, subst, append_assoc, ◌∙◌, arith}
 use Rattle.std.specs.List.{AllByRecursion}
 use Rattle.std.proofs.lemmas.List.{append-nil, length-map}
 use mathlib.Core.List.{IsPrefix}
-use Rattle.conn_talk.specs.Talks.{AreItems, Ends, EndsPart, EndsUnplaced, EndsWhole, IsAll, MayBeSent, Talks, TurnsIn}
+use Rattle.conn_talk.specs.Talks.{Ends, EndsPart, EndsUnplaced, EndsWhole, MayBeSent, Talks, TurnsIn}
 use Rattle.conn_talk.specs.Turns.{Rules}
 use Rattle.conn_talk.specs.declared.talk_end.TalkEnd.{TalkEnd}
 use Rattle.conn_talk.specs.declared.talk_end.TalkEnd.TheVariants.{Closed, Limit, Upgraded, Bad, WriteFault, NoMemory, NoPlace}
 use Rattle.conn_talk.proofs.HeardLemmas.{ends_behind, not_bad, output_grows, output_stops, refused_behind, requests_append}
-use Rattle.conn_talk.proofs.ItemLemmas.{plain_all, plain_end}
+use Rattle.conn_talk.proofs.ItemLemmas.{plain_all}
 use Rattle.conn_talk.proofs.RefusedLemmas.{are_refused}
-use Rattle.conn_talk.proofs.TalksLemmas.{count_is, items_count, talks_part, talks_whole}
+use Rattle.conn_talk.proofs.TalksLemmas.{count_is, talks_part}
 use Rattle.http_conn.specs.Messages.{AreFirstEvents, Messages, NothingAfterEnd, StaysOpen}
 use Rattle.http_conn.specs.ParserStates.{Represents, rest_of}
 use Rattle.http_conn.specs.declared.parser_state.ParserState.{ParserState}
@@ -19,14 +19,12 @@ use Rattle.http_conn.proofs.LongerTexts.{events_stay_first}
 use Rattle.http_conn.proofs.StepLemmas.{represents_messages}
 use Rattle.pod_base.specs.declared.heard.Heard.{Heard}
 use Rattle.pod_base.specs.declared.heard.Heard.TheVariants as heard
-use Rattle.pod_base.specs.declared.request.Request.{Request}
 use Rattle.pod_core.specs.History.{History}
 use Rattle.pod_core.specs.Output.{output_of}
-use Rattle.pod_core.specs.Session.{IsRefused, IsWhole, Item, UpgradesLast, bad_status, ends_upgraded, has_bad, requests_of}
-use Rattle.pod_pipe.specs.Statuses.{Hears, HearsFirst}
-use Rattle.pod_serve.specs.Served.{IsAllWritten, IsHeard, IsWrittenUpTo, Items}
-use Rattle.pod_serve.specs.Serving.{AfterPiece, AnswersPiece, IsAnswered, IsEnded, IsLeft, IsOutput, conn_end_of}
-use Rattle.pod_serve.specs.declared.conn_end.ConnEnd.{ConnEnd}
+use Rattle.pod_core.specs.Session.{IsRefused, IsWhole, Item, ends_upgraded, has_bad, requests_of}
+use Rattle.pod_pipe.specs.Statuses.{HearsFirst}
+use Rattle.pod_serve.specs.Served.{IsAllWritten, Items}
+use Rattle.pod_serve.specs.Serving.{IsAnswered, IsEnded, conn_end_of}
 use Rattle.pod_serve.specs.declared.conn_end.ConnEnd.TheVariants as ends
 
 -- the events of a prefix of a text come first in the whole

@@ -1,12 +1,11 @@
 -- What one request does to a session, and what all items of a connection do.
-use Rattle.std.proofs.Common.{◌≡◌, ℕ, ◌+◌, Bool, true, false, if◌then◌else◌, max, List, [], ◌∷◌, ◌++◌, length, Option, Some, None, Result, Ok, Err, refl, sym, ap, subst, ◌∙◌, arith}
+use Rattle.std.proofs.Common.{◌≡◌, ℕ, ◌+◌, true, false, if◌then◌else◌, max, List, [], ◌∷◌, ◌++◌, length, Option, None, Result, Ok, Err, refl, sym, ap, subst, ◌∙◌, arith}
 use Rattle.std.specs.Option.{option_to_list}
 use Rattle.std.proofs.lemmas.List.{append-nil}
 use mathlib.Core.List.{IsPrefix}
-use Rattle.pod_base.proofs.Prefixes.{prefix_self, prefix_trans}
+use Rattle.pod_base.proofs.Prefixes.{prefix_self}
 use Rattle.conn_talk.specs.Talks.{Chain, Ticks}
 use Rattle.conn_talk.specs.Turns.{CameTo, Rules}
-use Rattle.conn_talk.specs.Walks.{Turn, Walk}
 use Rattle.conn_talk.specs.declared.answers.Answer.{Answer}
 use Rattle.conn_talk.specs.declared.answers.AnswerFault.{AnswerFault}
 use Rattle.conn_talk.specs.declared.answers.AnswerFault.TheVariants.{NoMemory, DiskFault, NoPlace}
@@ -24,7 +23,6 @@ use Rattle.pod_live.specs.Visits.{Changed, IsFaulted, IsTurnedAway, Looked, Read
 use Rattle.pod_reply.specs.Reply.{IsReply}
 use Rattle.reply_laws.specs.Granted.{is_change}
 use Rattle.token_table.specs.Credentials.{AskedAgent}
-use Rattle.pod_serve.specs.Served.{changes_in, faults_in, looks_in}
 use Rattle.pod_serve.specs.Serving.{IsPassed, SeatPasses, SeatTurns, SessionTurn, SessionWalk}
 
 none_more : (xs : List Entry) (o : Option Entry) → o ≡ None → IsPrefix (xs ++ option_to_list o) xs

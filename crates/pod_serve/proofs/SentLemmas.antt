@@ -1,11 +1,10 @@
 -- Texts that a link sends.
-use Rattle.std.proofs.Common.{◌≡◌, ℕ, zero, suc, ◌+◌, ◌-◌, ◌≤◌, ◌<◌, false, List, [], ◌∷◌, ◌++◌, length, take, drop, Option, Some, None, Result, Ok, Err, refl, sym, ap, subst, append_assoc, ◌∙◌, arith}
+use Rattle.std.proofs.Common.{◌≡◌, ℕ, zero, suc, ◌+◌, ◌-◌, ◌≤◌, List, [], ◌∷◌, ◌++◌, length, take, drop, Option, Some, None, Ok, Err, refl, sym, ap, subst, append_assoc, ◌∙◌, arith}
 use Rattle.std.specs.Option.{option_map}
 use Rattle.std.proofs.lemmas.List.{drop-drop, take_rest, take-append-drop}
 use Rattle.std.proofs.Math.Seq.{take-length}
 use Rattle.line_sink.specs.Writing.{ExtendsBy}
 use Rattle.line_sink.proofs.Extending.{nothing_added}
-use Rattle.pod_base.specs.Counts.{CountIncreased}
 use Rattle.pod_io.specs.Links.{CountsLinkWrite}
 use Rattle.pod_io.specs.Visible.{Appends}
 use Rattle.pod_io.specs.declared.link.LinkCounts.{LinkCounts}

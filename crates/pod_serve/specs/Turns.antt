@@ -1,5 +1,5 @@
 -- One turn of a desk.
-use Rattle.std.specs.Prelude.{◌≡◌, ℕ, ◌≤◌, List, [], ◌∷◌, ◌++◌, Option}
+use Rattle.std.specs.Prelude.{◌≡◌, ℕ, ◌≤◌, [], ◌∷◌, ◌++◌}
 use Rattle.std.specs.Option.{option_map}
 use Rattle.pod_base.specs.Counts.{CountIncreased}
 use Rattle.pod_base.specs.declared.request.Request.{Request}
@@ -10,7 +10,6 @@ use Rattle.token_table.specs.Credentials.{AskedAgent}
 use Rattle.pod_serve.specs.Desks.{GateView, ServedLink}
 use Rattle.pod_serve.specs.Served.{ConnServed, LinkView}
 use Rattle.pod_serve.specs.declared.conn_end.ConnEnd.{ConnEnd}
-use Rattle.pod_serve.specs.declared.desk.DeskEnd.{DeskEnd}
 use Rattle.pod_serve.specs.declared.desk.DeskEnd.TheVariants.{GateEnded, GateFailed, NoMemory}
 use Rattle.pod_serve.specs.declared.desk.Next.{Next}
 use Rattle.pod_serve.specs.declared.desk.Next.TheVariants.{Served, Over}

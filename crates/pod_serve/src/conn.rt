@@ -1,12 +1,12 @@
 //! [`serve_conn`]: one connection of many.
-ghost use Rattle.std.specs.Prelude.{◌≡◌, ◌==◌, ◌+◌, ◌<◌, [], drop, false, if◌then◌else◌, length};
+ghost use Rattle.std.specs.Prelude.{◌≡◌, ◌==◌, ◌+◌, ◌<◌, [], drop, if◌then◌else◌, length};
 ghost use Rattle.std.specs.Prelude.{IfNone, IfSome};
 ghost use Rattle.conn_talk.specs.Agents.{asking_of};
 ghost use Rattle.http_conn.specs.declared.events.TheConstants.{REQUEST_LIMIT};
 ghost use Rattle.pod_serve.specs.Served.{ConnServed, LinkView, link_view_of};
 ghost use Rattle.pod_serve.specs.Serving.{AfterTurn, FinishesAs, IsLinkServed, IsOpenLink};
-ghost use Rattle.pod_serve.specs.Serving.{IsReadLink};
-ghost use Rattle.pod_serve.specs.Serving.{IsWrittenTo, conn_end_of, link_rules, taken_with, unsent_end};
+ghost use Rattle.pod_serve.specs.Serving.{IsReadLink, IsWrittenTo, conn_end_of, link_rules};
+ghost use Rattle.pod_serve.specs.Serving.{taken_with, unsent_end};
 
 use crate::conn_end::{ConnEnd, QUIET_LIMIT};
 use crate::link_output::LinkOutput;

@@ -1,6 +1,5 @@
 //! [`LinkOutput`]: a link with a buffer for what is sent.
 ghost use Rattle.std.specs.Prelude.{◌≡◌, ◌≤◌, ◌<◌, ◌++◌, [], drop, length, true, false, IfOk, OnOk};
-ghost use Rattle.std.specs.Option.{option_map};
 ghost use Rattle.pod_io.specs.Counts.{CountsFaults};
 ghost use Rattle.pod_io.specs.Links.{CountsLinkRead};
 ghost use Rattle.pod_io.specs.Visible.{Consumes, IfVisible, IsRead};

@@ -1,5 +1,5 @@
 //! Answers the events of one piece of a connection's bytes.
-ghost use Rattle.std.specs.Prelude.{◌≡◌, ◌≤◌, ◌<◌, ℕ, List, false, Err, IfErr, OnOk};
+ghost use Rattle.std.specs.Prelude.{◌≡◌, ◌≤◌, ◌<◌, ℕ, List, false, Err, OnOk};
 ghost use Rattle.conn_talk.specs.Agents.{asking_of};
 ghost use Rattle.http_conn.specs.declared.events.TheConstants.{REQUEST_LIMIT};
 ghost use Rattle.line_sink.specs.Writing.{ExtendsBy};

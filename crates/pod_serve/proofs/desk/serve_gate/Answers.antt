@@ -1,9 +1,8 @@
-use Rattle.std.proofs.Common.{◌≡◌, ◌≢◌, ◌⊎◌, true, false, refl, arith}
+use Rattle.std.proofs.Common.{arith}
 use Rattle.conn_talk.specs.Agents.{asking_of}
 use Rattle.pod_serve.specs.Desks.{gate_view_of}
 use Rattle.pod_serve.specs.Served.{link_view_of}
-use Rattle.pod_serve.specs.declared.conn_end.ConnEnd.TheVariants as ends
-use Rattle.pod_serve.proofs.DeskLemmas.{begins, one_more, over, all_given}
+use Rattle.pod_serve.proofs.DeskLemmas.{begins, one_more}
 use Rattle.pod_serve.proofs.desk.serve_gate.Goals as goal
 
 pub loop-init : goal.loop-init

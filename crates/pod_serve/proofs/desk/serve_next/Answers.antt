@@ -1,4 +1,4 @@
-use Rattle.std.proofs.Common.{◌≡◌, [], ◌∷◌, ◌++◌, refl, sym, ap, subst, ◌∙◌, Ok, arith}
+use Rattle.std.proofs.Common.{[], ◌∷◌, ◌++◌, refl, sym, ap, subst, ◌∙◌, Ok, arith}
 use Rattle.std.specs.Option.{option_map}
 use Rattle.pod_io.specs.Gates.{CountsLast, GivesFirst}
 use Rattle.pod_io.specs.declared.source.Failed.{Failed}
