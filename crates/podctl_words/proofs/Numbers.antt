@@ -7,7 +7,7 @@ use Rattle.std.specs.List.{list_all}
 use Rattle.std.specs.Result.{OkIff}
 use Rattle.std.specs.Str.Parse.{ParsesUnsigned}
 use Rattle.podctl_words.specs.Readings.{is_number, number_after}
-use Rattle.podctl_words.specs.declared.number.TheConstants.{LOAD_LIMIT, DIGITS_LIMIT}
+use Rattle.podctl_words.specs.declared.number.TheConstants.{DIGITS_LIMIT}
 
 pub own : IsNumeralModel (λ ds. list_all is_ascii_digit ds ≡ true) (number_after 0)
 own = numerals_by_fold _ (search rules) number_after (search rules)
@@ -29,19 +29,19 @@ some_digit word number =
     let t : nat_lt 0 (length word) ≡ true = and_left _ _ number in grind (arith, nat_tests, t)
 
 -- at most the limit, over it, or over 16 bits
-pub kept : (v n : ℕ) → n ≡ v → n ≤ LOAD_LIMIT → Some n ≡ (if nat_le v LOAD_LIMIT then Some v else None)
-kept v n is few =
-    let t : nat_le v LOAD_LIMIT ≡ true = grind (arith, nat_tests, is, few) in
+pub kept : (most v n : ℕ) → n ≡ v → n ≤ most → Some n ≡ (if nat_le v most then Some v else None)
+kept most v n is few =
+    let t : nat_le v most ≡ true = grind (arith, nat_tests, is, few) in
     ap (λ m. Some m) is ∙ sym (ap (λ t. if t then Some v else None) t)
 
-pub past : (v n : ℕ) → n ≡ v → LOAD_LIMIT < n → None ≡ (if nat_le v LOAD_LIMIT then Some v else None)
-past v n is many =
-    let t : nat_le v LOAD_LIMIT ≡ false = grind (arith, nat_tests, is, many) in
+pub past : (most v n : ℕ) → n ≡ v → most < n → None ≡ (if nat_le v most then Some v else None)
+past most v n is many =
+    let t : nat_le v most ≡ false = grind (arith, nat_tests, is, many) in
     sym (ap (λ t. if t then Some v else None) t)
 
-pub long : (v l : ℕ) → ((0 < l) × (v < 2 ^ 16) → ⊥) → 0 < l → None ≡ (if nat_le v LOAD_LIMIT then Some v else None)
-long v l over some =
-    elim (nat_le v LOAD_LIMIT) as (λ t. nat_le v LOAD_LIMIT ≡ t → None ≡ (if t then Some v else None)) [
-      | true ↦ λ e. absurd (over (some, grind (arith, nat_tests, e)))
+pub long : (most v l : ℕ) → most < 2 ^ 16 → ((0 < l) × (v < 2 ^ 16) → ⊥) → 0 < l → None ≡ (if nat_le v most then Some v else None)
+long most v l fits over some =
+    elim (nat_le v most) as (λ t. nat_le v most ≡ t → None ≡ (if t then Some v else None)) [
+      | true ↦ λ e. absurd (over (some, grind (arith, nat_tests, e, fits)))
       | false ↦ λ e. refl
     ] refl

@@ -30,11 +30,15 @@ abbrev pub is_number : List ℕ → Bool
 is_number word = nat_lt 0 (length word)
     && (nat_le (length word) DIGITS_LIMIT && list_all is_ascii_digit word)
 
+-- the number that a word is, up to a limit
+abbrev pub number_up_to : ℕ → List ℕ → Option ℕ
+number_up_to most word =
+    if is_number word && nat_le (number_after 0 word) most then Some (number_after 0 word)
+    else None
+
 -- the number of requests in a word: at most 10,000
 abbrev pub requests_of : List ℕ → Option ℕ
-requests_of word =
-    if is_number word && nat_le (number_after 0 word) LOAD_LIMIT then Some (number_after 0 word)
-    else None
+requests_of word = number_up_to LOAD_LIMIT word
 
 -- the agent that a word is: an absolute IRI
 abbrev pub agent_of : List ℕ → Option (List ℕ)

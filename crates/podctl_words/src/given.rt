@@ -31,7 +31,7 @@ pub(crate) struct Given<'a> {
 }
 
 /// Whether a word begins with `-`, as no value does.
-fn is_dashed(word: &str) -> bool
+pub fn is_dashed(word: &str) -> bool
     ensures { result ≡ spec.is_dashed word.now }
 {
     word.as_bytes().starts_with(b"-")

@@ -27,7 +27,7 @@ mod reader;
 mod subcommand;
 
 pub use command::{Asking, Command};
-pub use given::Mode;
-pub use number::{DIGITS_LIMIT, LOAD_LIMIT};
+pub use given::{Mode, is_dashed};
+pub use number::{DIGITS_LIMIT, LOAD_LIMIT, number_up_to};
 pub use reader::read;
-pub use subcommand::{Flag, Parameter, Subcommand};
+pub use subcommand::{Flag, Parameter, Subcommand, split_value};

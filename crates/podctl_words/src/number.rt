@@ -24,15 +24,15 @@ fn is_number(word: &str) -> bool
     !word.is_empty() && word.len() <= DIGITS_LIMIT && are_digits(word.as_bytes())
 }
 
-/// The number that digits are, up to the limit.
-fn limited(word: &str) -> Option<u16>
+/// The number that digits are, up to a limit.
+fn limited(word: &str, most: u16) -> Option<u16>
     requires { spec.is_number word.now ≡ true }
-    ensures { result ≡ (if nat_le (spec.number_after 0 word.now) LOAD_LIMIT
+    ensures { result ≡ (if nat_le (spec.number_after 0 word.now) most
         then Some (spec.number_after 0 word.now) else None) }
 {
     match word.parse::<u16>() {
         Ok(number) => {
-            if number <= LOAD_LIMIT {
+            if number <= most {
                 Some(number)
             } else {
                 None
@@ -42,9 +42,10 @@ fn limited(word: &str) -> Option<u16>
     }
 }
 
-/// The number of requests in a word.
-pub(crate) fn requests_of(word: &str) -> Option<u16>
-    ensures { result ≡ spec.requests_of word.now }
+/// The number that a word is, up to a limit: one to [`DIGITS_LIMIT`] digits, the first of which may
+/// be 0.
+pub fn number_up_to(word: &str, most: u16) -> Option<u16>
+    ensures { result ≡ spec.number_up_to most word.now }
 {
-    if is_number(word) { limited(word) } else { None }
+    if is_number(word) { limited(word, most) } else { None }
 }

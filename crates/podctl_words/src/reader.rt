@@ -8,7 +8,7 @@ ghost use Rattle.podctl_words.specs.Readings as spec;
 
 use crate::command::{Asking, Command};
 use crate::given::{Given, Mode, given_by};
-use crate::number::requests_of;
+use crate::number::{LOAD_LIMIT, number_up_to};
 use crate::subcommand::Subcommand;
 use iri_ref::{Iri, IriFault};
 use pod_base::{Mem, NoMemory};
@@ -129,7 +129,7 @@ fn pipe_of(alloc: Global, as_owner: bool, fresh: Option<&str>, trail: bool) -> M
 fn load_from(operand: Option<&str>) -> Option<Command>
     ensures { result ≡ spec.load_from (option_copied operand.entry) }
 {
-    let requests = requests_of(operand?)?;
+    let requests = number_up_to(operand?, LOAD_LIMIT)?;
     Some(Command::Load(requests))
 }
 

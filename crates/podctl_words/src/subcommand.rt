@@ -35,7 +35,7 @@ pub enum Flag {
 }
 
 /// What precedes the first `=` of a word, and what follows it.
-fn split_value(word: &str) -> Option<(&str, &str)>
+pub fn split_value(word: &str) -> Option<(&str, &str)>
     ensures { option_map (λ p. (p.0.now, p.1.now)) result ≡ spec.split_value word.now }
 {
     word.split_once('=')

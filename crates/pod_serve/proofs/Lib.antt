@@ -1,0 +1,6 @@
+mod ConnLemmas
+mod DeskLemmas
+mod LinkLemmas
+mod PieceLemmas
+mod SeatedLemmas
+mod SentLemmas

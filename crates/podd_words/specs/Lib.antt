@@ -1,0 +1,2 @@
+-- the settings of words
+pub mod Readings
