@@ -1,5 +1,6 @@
 use Rattle.std.proofs.Common.{Err, ap, refl, subst, ◌∙◌}
 use Rattle.token_table.specs.Credentials.{asked_view}
+use Rattle.conn_talk.specs.declared.answers.Answer.{Answer}
 use Rattle.pod_pipe.specs.Holders.{Goes, IsAnswerAtEnd}
 use Rattle.pod_reply.specs.Replies.{Reply}
 use Rattle.store_pipe.specs.StoredPods.{Passes, StandsFor}
@@ -17,16 +18,17 @@ returns-in-Ok-clause-answered g c =
     let some = c.requires.stands in
     let request = c.args.request.now in
     let asked = asked_view c.args.asked.now in
+    let answer : Answer = record { response = c.in-Ok.done.response; place = c.in-Ok.done.place; moment = c.change_moment-moment.result } in
     let first = c.in-Ok.ensures.done some.0 some.1.place some.1.doubt some.1.kept in (
       first.reply,
       first.response_is,
       λ history stands.
           let moments = c.change_moment-moment.ensures history stands in
           let done = c.in-Ok.ensures.done history stands.place stands.doubt stands.kept in
-          subst (λ (r : Reply). IsAnswerAtEnd (Goes (StandsFor g.D.Disk.image) (Passes g.D.Disk.image g.D.Disk.moment g.D.Disk.left_since) c.args.self.now.keeper history c.commit.new.self) history request asked c.args.stamp _ r)
+          subst (λ (r : Reply). IsAnswerAtEnd (Goes (StandsFor g.D.Disk.image) (Passes g.D.Disk.image g.D.Disk.moment g.D.Disk.left_since) c.args.self.now.keeper history c.commit.new.self) history request asked c.args.stamp answer r)
           (same_reply g.D.Disk.image c.args.self.now.keeper request asked c.args.stamp history some.0 stands some.1 done.reply first.reply done.is first.is)
           (committed g.D.Disk.image g.D.Disk.moment g.D.Disk.left_since c.args.self.now.keeper c.commit.new.self history request asked c.args.stamp
-          (λ place doubt kept. c.commit.ensures.pairs history place doubt kept) c.commit.ensures.sure c.commit.ensures.long c.requires.change stands _ c.change_moment-moment.result.0 refl moments done),
+          (λ place doubt kept. c.commit.ensures.pairs history place doubt kept) c.commit.ensures.sure c.commit.ensures.long c.requires.change stands answer c.change_moment-moment.result.0 refl moments done),
     )
 
 pub returns-in-Err-NoMemory-clause-kept : goal.returns-in-Err-NoMemory-clause-kept
