@@ -1,6 +1,6 @@
 use Rattle.std.proofs.Common.{◌≡◌, ◌+◌, All, length}
 use Rattle.published_view.specs.LookerState.{IsNewLooker}
-use Rattle.pod_live.specs.Visits.{Visit, IsNewVisit}
+use Rattle.pod_live.specs.Visits.{IsNewVisit}
 use Rattle.pod_live.proofs.live.sessions_of.Given as goal
 
 abbrev pub invariant-loop-looker : goal.invariant-loop-looker

@@ -1,4 +1,4 @@
-use Rattle.std.proofs.Common.{◌≡◌, ◌+◌, ◌++◌, [], ◌∷◌, ◌∙◌, ap, sym, subst, List, ℕ, rules, Some}
+use Rattle.std.proofs.Common.{◌≡◌, ◌+◌, ◌++◌, [], ◌∷◌, ◌∙◌, ap, sym, subst, List, ℕ, rules}
 use Rattle.std.specs.Arc.{arc_value}
 use Rattle.pod_command.specs.Bare.{bare_entry}
 use Rattle.pod_command.specs.declared.entry.Entry.{Entry}
