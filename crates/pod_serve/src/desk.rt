@@ -144,9 +144,10 @@ fn serve_desk<N: ViewName<CommittedEntry> + StoreName, L: Rounds<N>, G: Gate, C:
 )
     requires { (first < 65) × (step < 65) }
     ensures { IsDeskServed N.kept N.opened.next (C.may_give clock.now) (asking_of agents.now)
-        (link_view_of G.Conn.rest G.Conn.sent G.Conn.counts) step first desk.old.session
-        desk.new.session desk.new.rest.end (gate_view_of G.rest G.back G.faults G.given G.ends
-        desk.old.rest.gate) (gate_view_of G.rest G.back G.faults G.given G.ends desk.new.rest.gate) }
+        (link_view_of G.Conn.rest G.Conn.sent G.Conn.counts) step first
+        desk.old.session desk.new.session desk.new.rest.end
+        (gate_view_of G.rest G.back G.faults G.given G.ends desk.old.rest.gate)
+        (gate_view_of G.rest G.back G.faults G.given G.ends desk.new.rest.gate) }
 {
     let Seat { session, rest } = desk;
     let Post { gate, end } = rest;
@@ -163,22 +164,26 @@ fn serve_beside<
     R: Threads + Wait + Sync,
 >(rt: &R, alloc: &Global, live: &L, agents: &Agents, desks: &mut [Seat<Post<G>, N>], clock: &C)
     requires { (0 < length desks.old) × (length desks.old < 65) }
-    ensures { (i : ℕ) (d : _) → i < length desks.old → IsDeskServed N.kept N.opened.next (C.may_give
-        clock.now) (asking_of agents.now) (link_view_of G.Conn.rest G.Conn.sent G.Conn.counts)
-        (length desks.old) (i + 1) (slice_index_or desks.old i d).session (slice_index_or desks.new
-        i d).session (slice_index_or desks.new i d).rest.end (gate_view_of G.rest G.back G.faults
-        G.given G.ends (slice_index_or desks.old i d).rest.gate) (gate_view_of G.rest G.back
-        G.faults G.given G.ends (slice_index_or desks.new i d).rest.gate) }
+    ensures { (i : ℕ) (d : _) → i < length desks.old
+        → IsDeskServed N.kept N.opened.next (C.may_give clock.now) (asking_of agents.now)
+        (link_view_of G.Conn.rest G.Conn.sent G.Conn.counts) (length desks.old) (i + 1)
+        (slice_index_or desks.old i d).session (slice_index_or desks.new i d).session
+        (slice_index_or desks.new i d).rest.end
+        (gate_view_of G.rest G.back G.faults G.given G.ends
+        (slice_index_or desks.old i d).rest.gate)
+        (gate_view_of G.rest G.back G.faults G.given G.ends
+        (slice_index_or desks.new i d).rest.gate) }
 {
     let many = desks.len();
     let step = many as u64;
     let one = |at: usize, desk: &mut Seat<Post<G>, N>|
         requires { (at < 64) × (step < 65) }
-        ensures { IsDeskServed N.kept N.opened.next (C.may_give clock.entry.now) (asking_of
-            agents.entry.now) (link_view_of G.Conn.rest G.Conn.sent G.Conn.counts) step (at + 1)
-            desk.old.session desk.new.session desk.new.rest.end (gate_view_of G.rest G.back G.faults
-            G.given G.ends desk.old.rest.gate) (gate_view_of G.rest G.back G.faults G.given G.ends
-            desk.new.rest.gate) }
+        ensures { IsDeskServed N.kept N.opened.next (C.may_give clock.entry.now)
+            (asking_of agents.entry.now)
+            (link_view_of G.Conn.rest G.Conn.sent G.Conn.counts) step (at + 1)
+            desk.old.session desk.new.session desk.new.rest.end
+            (gate_view_of G.rest G.back G.faults G.given G.ends desk.old.rest.gate)
+            (gate_view_of G.rest G.back G.faults G.given G.ends desk.new.rest.gate) }
     { serve_desk(rt, alloc, live, agents, at as u64 + 1, step, desk, clock) };
     thread::for_each_mut(rt, desks, many, &one);
 }
@@ -198,15 +203,18 @@ pub fn serve<
 >(rt: &R, alloc: Global, live: &L, agents: &Agents, desks: &mut [Seat<Post<G>, N>], clock: &C)
     requires all { length desks.old ≡ N.parts }
     requires few { (0 < length desks.old) × (length desks.old < 65) }
-    ensures { (list : ListOf Entry) × (mid : ListOf _) × IsPrefix N.opening list × (length list ≡
-        length N.opening + sum_by (λ s. s.session.changes) mid) × ((i : ℕ) (d : _) → i < length
-        desks.old → IsDeskServed N.kept N.opened.next (C.may_give clock.now) (asking_of agents.now)
+    ensures { (list : ListOf Entry) × (mid : ListOf _) × IsPrefix N.opening list
+        × (length list ≡ length N.opening + sum_by (λ s. s.session.changes) mid)
+        × ((i : ℕ) (d : _) → i < length desks.old
+        → IsDeskServed N.kept N.opened.next (C.may_give clock.now) (asking_of agents.now)
         (link_view_of G.Conn.rest G.Conn.sent G.Conn.counts) (length desks.old) (i + 1)
-        (slice_index_or desks.old i d).session (slice_index_or mid i d).session (slice_index_or mid
-        i d).rest.end (gate_view_of G.rest G.back G.faults G.given G.ends (slice_index_or desks.old
-        i d).rest.gate) (gate_view_of G.rest G.back G.faults G.given G.ends (slice_index_or mid i
-        d).rest.gate)) × EachTo (λ old new. Meets list old.session new.session × (new.rest ≡
-        old.rest)) mid desks.new }
+        (slice_index_or desks.old i d).session (slice_index_or mid i d).session
+        (slice_index_or mid i d).rest.end
+        (gate_view_of G.rest G.back G.faults G.given G.ends
+        (slice_index_or desks.old i d).rest.gate)
+        (gate_view_of G.rest G.back G.faults G.given G.ends (slice_index_or mid i d).rest.gate))
+        × EachTo (λ old new. Meets list old.session new.session × (new.rest ≡ old.rest))
+        mid desks.new }
 {
     serve_beside(rt, &alloc, live, agents, desks, clock);
     live.gather(rt, desks);

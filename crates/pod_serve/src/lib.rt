@@ -1,8 +1,8 @@
 //! Serves many connections of one store beside each other.
 //!
-//! [`serve_conn`] serves one connection: what its link gives is parsed, its requests are answered in
-//! order by a session of the store, and the responses are sent. Reads of the pod are answered from
-//! the version that is published then, changes under the store's lock.
+//! [`serve_conn`] serves one connection: what its link gives is parsed, its requests are answered
+//! in order by a session of the store, and the responses are sent. Reads of the pod are answered
+//! from the version that is published then, changes under the store's lock.
 //!
 //! [`serve`] serves the connections of many gates. Each [`Desk`] has one gate and one session, and
 //! serves the gate's connections one after the other in a thread of its own.

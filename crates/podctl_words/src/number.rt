@@ -31,13 +31,7 @@ fn limited(word: &str, most: u16) -> Option<u16>
         then Some (spec.number_after 0 word.now) else None) }
 {
     match word.parse::<u16>() {
-        Ok(number) => {
-            if number <= most {
-                Some(number)
-            } else {
-                None
-            }
-        }
+        Ok(number) => { if number <= most { Some(number) } else { None } }
         Err(_) => None,
     }
 }
@@ -47,5 +41,9 @@ fn limited(word: &str, most: u16) -> Option<u16>
 pub fn number_up_to(word: &str, most: u16) -> Option<u16>
     ensures { result ≡ spec.number_up_to most word.now }
 {
-    if is_number(word) { limited(word, most) } else { None }
+    if is_number(word) {
+        limited(word, most)
+    } else {
+        None
+    }
 }
