@@ -27,8 +27,6 @@ mod names;
 mod read;
 mod session;
 mod shown;
-#[cfg(test)]
-mod tests;
 
 pub use live::{Live, NotLive, Rounds};
 pub use names::{Changes, Faults, Names, StoreName};
