@@ -2,5 +2,6 @@ mod ConnLemmas
 mod DeskLemmas
 mod LinkLemmas
 mod PieceLemmas
+mod PoddLemmas
 mod SeatedLemmas
 mod SentLemmas

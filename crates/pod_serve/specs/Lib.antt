@@ -1,7 +1,10 @@
--- what public clauses cite: one connection of many, and the connections of many gates
+-- what public clauses cite: one connection of many, the connections of many gates, and a run of
+-- `podd`
 pub mod Served
 pub mod Desks
+pub mod PoddRuns
 -- internal: cited by private clauses alone
 pub mod Serving
 pub mod Turns
 pub mod ServingLaws
+pub mod PoddSteps

@@ -6,6 +6,9 @@
 //!
 //! [`serve`] serves the connections of many gates. Each [`Desk`] has one gate and one session, and
 //! serves the gate's connections one after the other in a thread of its own.
+//!
+//! [`run_podd`] is the call that the program `podd` makes: it opens a store, reads the token table, opens
+//! a listener's gates, serves them, and gives the gates and the disks back.
 #![tactic(auto)]
 
 mod conn;
@@ -13,8 +16,11 @@ mod conn_end;
 mod desk;
 mod link_output;
 mod piece;
+mod podd;
 mod seated;
 
 pub use conn::serve_conn;
 pub use conn_end::{ConnEnd, QUIET_LIMIT};
 pub use desk::{CONNECTION_LIMIT, Desk, DeskEnd, Post, serve};
+pub use pod_pipe::Status;
+pub use podd::run_podd;

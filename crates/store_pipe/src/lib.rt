@@ -24,5 +24,6 @@ mod serving;
 mod stored;
 mod tokens;
 
+pub use lines::{refuse, tell_table};
 pub use serving::pipe_store;
-pub use tokens::TableFault;
+pub use tokens::{TableFault, read_table};

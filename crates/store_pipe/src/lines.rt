@@ -13,7 +13,7 @@ use pod_pipe::Status;
 use store_lines::{open_status, tell_refusal};
 
 /// Reports why a store isn't opened, and returns the status.
-pub(crate) fn refuse<E: Sink>(fault: OpenFault, errors: &mut E) -> Status
+pub fn refuse<E: Sink>(fault: OpenFault, errors: &mut E) -> Status
     ensures status { result.0 ≡ open_status fault }
     ensures told { TellsRefusal fault (E.taken errors.old) (E.taken errors.new)
         (E.faults errors.old) (E.faults errors.new) }
@@ -36,7 +36,7 @@ fn tell<E: Sink>(word: &[u8], number: u64, status: u8, errors: &mut E) -> Status
 }
 
 /// Reports why there is no token table.
-pub(crate) fn tell_table<E: Sink>(fault: TableFault, errors: &mut E) -> Status
+pub fn tell_table<E: Sink>(fault: TableFault, errors: &mut E) -> Status
     ensures told { TellsLine (fault_line fault) (table_status fault) result.0 (E.taken errors.old)
         (E.taken errors.new) (E.faults errors.old) (E.faults errors.new) }
     ensures no_fewer { E.faults errors.old ≤ E.faults errors.new }

@@ -66,7 +66,7 @@ fn table_of(alloc: Global, text: &[u8]) -> Result<Tokens, TableFault>
 }
 
 /// The token table of a source, which is read to its end.
-pub(crate) fn read_table<T: Source>(alloc: Global, source: &mut T) -> Result<Tokens, TableFault>
+pub fn read_table<T: Source>(alloc: Global, source: &mut T) -> Result<Tokens, TableFault>
     ensures table { IfOk result (λ tokens. IsTable tokens
         (tokens_of T.rest T.faults T.reads T.ends source.old source.new)) }
     ensures fault { IfErr result (λ fault. HasTableCause fault

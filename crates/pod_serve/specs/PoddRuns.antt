@@ -1,0 +1,234 @@
+-- How `podd` runs: the store is opened, the token table is read, the listener opens its gates, the
+-- versions of the pod are published, and then the connections of all gates are served.
+use Rattle.std.specs.Prelude.{◌≡◌, ◌⊎◌, ℕ, ◌+◌, max, List, [], ◌∷◌, ◌++◌, length, map, sum_by, reverse}
+use Rattle.std.specs.Prelude.{Contains, Option}
+use Rattle.std.specs.Option.{option_map}
+use mathlib.Core.List.{IsPrefix}
+use Rattle.conn_talk.specs.Agents.{asking_of}
+use Rattle.conn_talk.specs.declared.agents.Agents.TheVariants.{Table}
+use Rattle.journal_log.specs.declared.fault.OpenFault.{OpenFault}
+use Rattle.pair_writes.specs.Doubts.{IsSure}
+use Rattle.pod_base.specs.Counts.{CountIncreased}
+use Rattle.pod_base.specs.declared.request.Request.{Request}
+use Rattle.pod_command.specs.declared.entry.Entry.{Entry}
+use Rattle.pod_core.specs.History.{History, longer}
+use Rattle.pod_io.specs.declared.listen.ListenFault.{ListenFault}
+use Rattle.pod_io.specs.declared.listen.ListenFault.TheVariants as listens
+use Rattle.pod_keeper.specs.KeeperState.{KeeperState}
+use Rattle.pod_keeper.specs.OpenedPods.{IsOpened, OpensDisks}
+use Rattle.pod_live.specs.Stores.{Covers, IsSafe, KeptSome}
+use Rattle.pod_live.specs.Visits.{IsNewVisit, Visit}
+use Rattle.pod_records.specs.OpenedStores.{HasPodCause}
+use Rattle.published_view.specs.LookerState.{CountIncreasedByOne}
+use Rattle.published_view.specs.declared.fault.ViewFault.{ViewFault}
+use Rattle.published_view.specs.declared.fault.ViewFault.TheVariants as views
+use Rattle.store_lines.specs.Refusals.{TellsRefusal, open_status}
+use Rattle.store_pipe.specs.StoreRuns.{TellsLine, fault_line}
+use Rattle.store_pipe.specs.Tables.{HasTableCause, IsTable, IsUnread, TokenSource, table_status}
+use Rattle.store_pipe.specs.declared.tokens.TableFault.{TableFault}
+use Rattle.token_table.specs.Credentials.{AskedAgent}
+use Rattle.token_table.specs.declared.table_line.TokenEntry.{TokenEntry}
+use Rattle.pod_serve.specs.Desks.{DeskServed, GateView}
+use Rattle.pod_serve.specs.Served.{LinkView}
+use Rattle.pod_serve.specs.declared.desk.DeskEnd.{DeskEnd}
+use Rattle.pod_serve.specs.declared.desk.DeskEnd.TheVariants.{GateEnded, GateFailed, NoMemory}
+
+-- ---- statuses
+
+-- the status of a desk's end
+abbrev pub desk_status : DeskEnd → ℕ
+desk_status GateEnded = 0
+desk_status NoMemory = 7
+desk_status GateFailed = 11
+
+-- the status of a run whose desks ended so: 11 where a gate failed, and else 7 where one was out of
+-- memory
+abbrev pub served_status : List DeskEnd → ℕ
+served_status [] = 0
+served_status (end ∷ others) = max (desk_status end) (served_status others)
+
+abbrev pub listen_status : ListenFault → ℕ
+listen_status listens.Failed = 11
+listen_status listens.NoMemory = 7
+
+abbrev pub view_status : ViewFault → ℕ
+view_status views.NoPlace = 8
+view_status views.NoMemory = 7
+
+-- ---- what a run is given, and what it leaves
+
+-- What the listener shows: the gates that were given back, where it shows them, and how many calls
+-- failed.
+pub record ListenView (G : Type 0) : Type 0 where
+  pub back : Option (List G)
+  pub faults : ℕ
+
+abbrev pub listen_view_of : {L G : Type 0} → (L → Option (List G)) → (L → ℕ) → L → ListenView G
+listen_view_of back faults listen = record { back = back listen; faults = faults listen }
+
+-- the error sink before a run and after it, and its counts of faults
+pub record ErrorSink : Type 0 where
+  pub old : Option (List ℕ)
+  pub new : Option (List ℕ)
+  pub old_faults : ℕ
+  pub new_faults : ℕ
+
+abbrev pub errors_of : {E : Type 0} → (E → Option (List ℕ)) → (E → ℕ) → E → E → ErrorSink
+errors_of taken faults errors errors_new = record {
+  old = taken errors;
+  new = taken errors_new;
+  old_faults = faults errors;
+  new_faults = faults errors_new;
+}
+
+-- nothing was written to it
+pub record IsUntold (errors : ErrorSink) : Type 0 where
+  pub same : errors.new ≡ errors.old
+  pub faults : errors.new_faults ≡ errors.old_faults
+
+-- A desk of a run: its gate as it was opened and as it was given back, how it ended, and its session
+-- before and after its connections.
+pub record DeskRun (G : Type 0) : Type 0 where
+  pub opened : G
+  pub back : G
+  pub end : DeskEnd
+  pub before : Visit
+  pub after : Visit
+
+-- One of the gates that the listener opened counted a fault before it was given back.
+pub record IsGateFault {G : Type 0} (may_open : List G → Type 0) (faults : G → ℕ) : Type 0 where
+  pub gates : List G
+  pub opened : may_open gates
+  pub gate : G
+  pub back : G
+  pub among : Contains gates gate
+  pub counted : CountIncreased (faults gate) (faults back)
+
+-- These gates were given back, from the last to the first.
+abbrev pub GivesBack : {G : Type 0} → List G → ListenView G → ListenView G → Type 0
+GivesBack gates old new = new.back ≡ option_map (λ back. back ++ reverse gates) old.back
+
+module _ {D G C : Type 0} (image : D → List ℕ → Type 0) (faults : D → ℕ) (may_give : ℕ → Type 0)
+    (link_view : C → LinkView) (gate_view : G → GateView C) where
+  module _ (kept : History → Type 0) (first : ℕ) (asking : Request → AskedAgent)
+      (list : List Entry) (step : ℕ) where
+    -- The desks of a run, of which the first has this number: each served its connections by a new
+    -- session, and what the session has seen is a prefix of the list.
+    abbrev pub AreServed : ℕ → List (DeskRun G) → Type 0
+    AreServed number [] = Unit {0}
+    AreServed number (desk ∷ others) = IsNewVisit [] desk.before
+        × DeskServed kept first may_give asking link_view step number desk.end desk.before
+        desk.after (gate_view desk.opened) (gate_view desk.back)
+        × IsPrefix desk.after.seen list × AreServed (number + 1) others
+
+  -- All gates were served. There is one list of entries: for each history that the keeper
+  -- represented it then represents that with the list, what each session has seen is a prefix of the
+  -- list, and the list has as many entries as all sessions added. At most as many changes met a disk
+  -- fault as the disks counted.
+  pub record AreAllServed (keeper left : KeeperState D) (agents : List TokenEntry) (gates : List G)
+      (old new : ListenView G) (status : ℕ) : Type 0 where
+    pub desks : List (DeskRun G)
+    pub list : List Entry
+    pub gates_are : map (λ desk. desk.opened) desks ≡ gates
+    pub served : AreServed (KeptSome image keeper) keeper.next (asking_of (Table agents)) list
+        (length desks) 1 desks
+    pub kept : (history : History) → KeptSome image keeper history
+        → KeptSome image left (longer history list)
+    pub grown : length list ≡ sum_by (λ desk. desk.after.changes) desks
+    pub counted : Covers (faults keeper.first + faults keeper.second)
+        (sum_by (λ desk. desk.after.faults) desks) (faults left.first) (faults left.second)
+    pub safe : IsSafe image keeper → IsSafe image left
+    pub back : GivesBack (map (λ desk. desk.back) desks) old new
+    pub status_is : status ≡ served_status (map (λ desk. desk.end) desks)
+
+  -- The listener opened these gates, and each was given back unserved.
+  pub record AreGivenBack (gates : List G) (may_open : List G → Type 0) (old new : ListenView G)
+      : Type 0 where
+    pub opened : may_open gates
+    pub back : GivesBack gates old new
+
+  -- The gates weren't opened: a call of the listener failed, or it was out of memory.
+  pub record IsUnlistened (keeper left : KeeperState D) (old new : ListenView G) (status : ℕ)
+      : Type 0 where
+    pub kept : left ≡ keeper
+    pub fault : ListenFault
+    pub failed : fault ≡ listens.Failed → CountIncreased old.faults new.faults
+    pub back : new.back ≡ old.back
+    pub status_is : status ≡ listen_status fault
+
+  -- The versions of the pod weren't published: `left_right` refused a reader, or it was out of
+  -- memory. The gates were given back.
+  pub record IsUnpublished (keeper left : KeeperState D) (may_open : List G → Type 0)
+      (old new : ListenView G) (old_places new_places status : ℕ) : Type 0 where
+    pub kept : left ≡ keeper
+    pub gates : List G
+    pub unserved : AreGivenBack gates may_open old new
+    pub fault : ViewFault
+    pub refused : fault ≡ views.NoPlace → CountIncreasedByOne old_places new_places
+    pub status_is : status ≡ view_status fault
+
+  -- The connections of so many gates were served.
+  pub record IsServing (keeper left : KeeperState D) (agents : List TokenEntry) (workers : ℕ)
+      (may_open : List G → Type 0) (old new : ListenView G) (status : ℕ) : Type 0 where
+    pub gates : List G
+    pub opened : may_open gates
+    pub count : length gates ≡ workers
+    pub served : AreAllServed keeper left agents gates old new status
+
+  -- The token table was read, and what came of the listener.
+  pub record IsTabled (keeper left : KeeperState D) (workers : ℕ) (tokens : TokenSource)
+      (may_open : List G → Type 0) (old new : ListenView G) (old_places new_places status : ℕ)
+      : Type 0 where
+    pub agents : List TokenEntry
+    pub table : IsTable agents tokens
+    pub runs : IsUnlistened keeper left old new status
+        ⊎ (IsUnpublished keeper left may_open old new old_places new_places status
+        ⊎ IsServing keeper left agents workers may_open old new status)
+
+  -- There was no token table. The listener was not called.
+  pub record IsUntabled (keeper left : KeeperState D) (tokens : TokenSource) (errors : ErrorSink)
+      (old new : ListenView G) (status : ℕ) : Type 0 where
+    pub kept : left ≡ keeper
+    pub fault : TableFault
+    pub cause : HasTableCause fault tokens
+    pub tells : TellsLine (fault_line fault) (table_status fault) status errors.old errors.new
+        errors.old_faults errors.new_faults
+    pub listener : new ≡ old
+
+  module _ (moment : D → ℕ) (left_since : D → ℕ → List ℕ → Type 0) (content : D → Option (List ℕ))
+      (first second first_new second_new : D) where
+    -- The store wasn't opened, and nothing else was done.
+    pub record IsUnopened (tokens : TokenSource) (errors : ErrorSink) (old new : ListenView G)
+        (status : ℕ) : Type 0 where
+      pub fault : OpenFault
+      pub cause : HasPodCause (content first) (content second) (faults first) (faults first_new)
+          (faults second) (faults second_new) fault
+      pub disks : OpensDisks image moment left_since faults first second first_new second_new
+      pub status_is : status ≡ open_status fault
+      pub tells : TellsRefusal fault errors.old errors.new errors.old_faults errors.new_faults
+      pub unread : IsUnread tokens
+      pub listener : new ≡ old
+
+    -- The store was opened as this keeper, and its disks are those that are left.
+    pub record IsOpenedRun (workers : ℕ) (tokens : TokenSource) (errors : ErrorSink)
+        (may_open : List G → Type 0) (old new : ListenView G) (old_places new_places status : ℕ)
+        : Type 0 where
+      pub keeper : KeeperState D
+      pub left : KeeperState D
+      pub bodies : List (List ℕ)
+      pub opened : IsOpened image (content first) (content second) bodies keeper
+      pub sure : IsSure image keeper.first keeper.second keeper.pair
+      pub disks : OpensDisks image moment left_since faults first second keeper.first keeper.second
+      pub first_is : first_new ≡ left.first
+      pub second_is : second_new ≡ left.second
+      pub runs : IsUntabled keeper left tokens errors old new status
+          ⊎ (IsUntold errors × IsTabled keeper left workers tokens may_open old new old_places
+          new_places status)
+
+    -- What a run of `podd` with so many workers does. Out of memory before it began, it leaves
+    -- everything as it was.
+    abbrev pub RunsPodd : ℕ → TokenSource → ErrorSink → (List G → Type 0) → ListenView G
+        → ListenView G → ℕ → ℕ → ℕ → Type 0
+    RunsPodd workers tokens errors may_open old new old_places new_places status =
+        IsUnopened tokens errors old new status
+        ⊎ IsOpenedRun workers tokens errors may_open old new old_places new_places status
