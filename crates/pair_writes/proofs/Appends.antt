@@ -1,24 +1,20 @@
 -- A record is added, after the journal was made ready.
-use Rattle.std.proofs.Common.{◌≡◌, ◌⊎◌, inl, inr, ⊎_elim, Bool, true, false, ◌+◌, ◌<◌, ◌≤◌, ◌^◌, ℕ, List, [], ◌∷◌, ◌++◌, length, Contains, Option, Some, None, Result, Ok, Err, OnOk, OnErr, refl, sym, ◌∙◌, ap, subst, arith, append_assoc}
-use Rattle.std.specs.Prelude.{IsSome}
-use Rattle.std.proofs.lemmas.Bool.{false≢true}
-use Rattle.std.proofs.lemmas.List.{append-nil}
-use Rattle.std.proofs.lemmas.List.Elements.{Contains-append_left, Contains-append_right, Contains-push}
+use Rattle.std.proofs.Common.{◌≡◌, ◌⊎◌, inl, inr, false, ◌+◌, ◌≤◌, ℕ, List, [], ◌∷◌, ◌++◌, Option, Some, None, Result, Ok, Err, OnOk, OnErr, refl, sym, ◌∙◌, subst, arith, append_assoc}
+use Rattle.std.proofs.lemmas.List.Elements.{Contains-append_left, Contains-push}
 use Rattle.std.proofs.lemmas.Result.{on_ok_weaker, on_err_weaker}
-use Rattle.pod_disk.specs.Disk.{EachImage, LeavesOnly}
+use Rattle.pod_disk.specs.Disk.{LeavesOnly}
 use Rattle.pod_disk.proofs.Moments.{weaker, joined, holds_now}
-use Rattle.journal_log.specs.Images.{Stands, IsEither}
+use Rattle.journal_log.specs.Images.{IsEither}
 use Rattle.journal_log.specs.declared.fault.Side.{Side}
 use Rattle.journal_pair.specs.PairJournal.{HasSnapshot, IsPairClean, IsAppendInDoubt, IsPassedBeside, IsLongBeside}
-use Rattle.journal_pair.specs.PairMoments.{LeavesPairs}
 use Rattle.journal_pair.specs.PairState.{PairState}
 use Rattle.journal_pair.specs.Sides.{active_of, other_of, opposite_of}
 use Rattle.journal_pair.proofs.Beside.{stands_open, opposite_active, opposite_other}
-use Rattle.journal_pair.proofs.PairRuns.{kept_run, pairs_of}
-use Rattle.pair_writes.specs.Doubts.{RecordDoubt, certain, entered, checkpointed, HasRecords, IsSure, IsLong, tails_in, news_in}
-use Rattle.pair_writes.specs.Writes.{records_before, alone, with_record, tail_of, Moves, IsActiveImage, IsOtherImage, StandsForWritten, Runs, Readies, Writes, IsLeftByWrite}
+use Rattle.journal_pair.proofs.PairRuns.{kept_run}
+use Rattle.pair_writes.specs.Doubts.{RecordDoubt, certain, entered, checkpointed, HasRecords, tails_in, news_in}
+use Rattle.pair_writes.specs.Writes.{records_before, alone, with_record, tail_of, Moves, IsActiveImage, IsOtherImage, Runs, Readies, Writes, IsLeftByWrite}
 use Rattle.pair_writes.proofs.Renewals.{more_news, other_news}
-use Rattle.pair_writes.proofs.Repairs.{has_one}
+use Rattle.pair_writes.proofs.TogetherRuns.{together_of}
 use Rattle.pair_writes.proofs.WrittenPairs.{written_pair}
 
 snapshot_in : {D : Type 0} (image : D → List ℕ → Type 0) (first second : D) (pair : PairState) (bodies : List (List ℕ)) (doubt : RecordDoubt) → HasRecords image first second pair bodies doubt → HasSnapshot pair.snapshot bodies
@@ -55,7 +51,7 @@ module _ {D : Type 0} (image : D → List ℕ → Type 0) (moment : D → ℕ) (
         let run = h.runs bodies doubt was sure long in
         let tails = tails_in doubt ++ tail_of snapshot body in
         let news = news_in doubt ++ (alone snapshot ++ with_record snapshot body) in
-        pairs_of image moment left_since old.active first second first_mid second_mid
+        together_of image moment left_since old.active first second first_mid second_mid
         (IsActiveImage old.journal.format old.journal.epoch bodies tails) (IsOtherImage old.active old.journal.epoch news) _
         (written_pair old.active old.journal.format old.journal.epoch old.snapshot bodies tails news (snapshot_in image first second old bodies doubt was))
         (weaker image moment left_since _ _ _ _ (more_tails old.journal.format old.journal.epoch bodies (tails_in doubt) (tail_of snapshot body)) run.active)
@@ -135,7 +131,7 @@ module _ {D : Type 0} (image : D → List ℕ → Type 0) (moment : D → ℕ) (
             let runs = run snapshot bodies doubt ready.moved (ready.done bodies doubt was) (ready.runs bodies doubt was sure long) in
             let tails = tails_in doubt ++ tail_of snapshot body in
             let news = news_in doubt ++ (alone snapshot ++ with_record snapshot body) in
-            pairs_of image moment left_since old.active first second first_new second_new
+            together_of image moment left_since old.active first second first_new second_new
             (IsActiveImage old.journal.format old.journal.epoch bodies tails) (IsOtherImage old.active old.journal.epoch news) _
             (written_pair old.active old.journal.format old.journal.epoch old.snapshot bodies tails news (snapshot_in image first second old bodies doubt was))
             runs.active runs.other;

@@ -1,14 +1,9 @@
 -- What is in doubt, by the flags of the pair.
-use Rattle.std.proofs.Common.{◌≡◌, ◌⊎◌, inl, inr, ◌||◌, Bool, true, false, ℕ, List, [], ◌∷◌, ◌++◌, Contains, refl, sym, ◌∙◌, ap, subst}
+use Rattle.std.proofs.Common.{◌≡◌, inl, inr, ◌||◌, Bool, true, false, ℕ, List, refl, sym, ◌∙◌, ap}
 use Rattle.std.proofs.lemmas.Bool.{true≢false}
-use Rattle.pod_disk.specs.Disk.{EachImage}
-use Rattle.journal_log.specs.Images.{Stands, IsEither}
 use Rattle.journal_pair.specs.PairJournal.{IsPairClean, IsAppendInDoubt, IsCheckpointInDoubt, IsPairInDoubt}
 use Rattle.journal_pair.specs.PairState.{PairState}
-use Rattle.journal_pair.specs.Sides.{active_of, other_of}
-use Rattle.journal_pair.proofs.Pairing.{clean_each}
-use Rattle.pair_writes.specs.Doubts.{RecordDoubt, certain, entered, checkpointed, HasRecords, tails_in, news_in}
-use Rattle.pair_writes.specs.Writes.{IsActiveImage}
+use Rattle.pair_writes.specs.Doubts.{RecordDoubt, certain, entered, checkpointed, HasRecords}
 
 flags_off : (a b : Bool) → (a || b) ≡ false → (a ≡ false) × (b ≡ false)
 flags_off true b e = absurd (true≢false e)

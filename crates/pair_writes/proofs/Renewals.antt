@@ -1,11 +1,10 @@
 -- A checkpoint after a repair.
-use Rattle.std.proofs.Common.{◌≡◌, ◌⊎◌, inl, inr, ⊎_elim, Bool, true, false, ◌+◌, ◌<◌, ◌≤◌, ◌^◌, ℕ, List, [], ◌∷◌, ◌++◌, length, Contains, Option, Some, None, Result, Ok, Err, OnOk, OnErr, refl, sym, ◌∙◌, ap, subst, arith}
-use Rattle.std.specs.Prelude.{IsSome}
+use Rattle.std.proofs.Common.{◌≡◌, ◌⊎◌, inl, inr, false, ◌+◌, ◌<◌, ◌≤◌, ◌^◌, ℕ, List, [], ◌∷◌, ◌++◌, Some, None, Result, Ok, Err, OnOk, OnErr, refl, ◌∙◌, ap, subst, arith}
 use Rattle.std.proofs.lemmas.Bool.{false≢true}
 use Rattle.std.proofs.lemmas.List.{append-nil}
 use Rattle.std.proofs.lemmas.List.Elements.{Contains-append_left, Contains-append_right}
 use Rattle.std.proofs.lemmas.Result.{on_ok_weaker, on_err_weaker}
-use Rattle.pod_disk.specs.Disk.{EachImage, LeavesOnly}
+use Rattle.pod_disk.specs.Disk.{LeavesOnly}
 use Rattle.pod_disk.proofs.Moments.{weaker, joined, holds_now}
 use Rattle.journal_log.specs.CleanJournal.{IsShort}
 use Rattle.journal_log.specs.JournalState.{JournalState}
@@ -16,8 +15,8 @@ use Rattle.journal_pair.specs.PairMoments.{IsWhileCheckpointed}
 use Rattle.journal_pair.specs.PairState.{PairState}
 use Rattle.journal_pair.specs.Sides.{active_of, other_of, opposite_of}
 use Rattle.journal_pair.proofs.PairRuns.{kept_run}
-use Rattle.pair_writes.specs.Doubts.{RecordDoubt, certain, entered, checkpointed, HasRecords, IsSure, IsLong, tails_in, news_in}
-use Rattle.pair_writes.specs.Writes.{IsActiveImage, IsOtherImage, Runs, Readies, Moves}
+use Rattle.pair_writes.specs.Doubts.{RecordDoubt, certain, checkpointed, HasRecords, IsSure, IsLong, tails_in, news_in}
+use Rattle.pair_writes.specs.Writes.{IsOtherImage, Runs, Readies, Moves}
 use Rattle.pair_writes.proofs.Repairs.{of_new}
 
 -- more lists of records may be new

@@ -1,12 +1,11 @@
 -- A repair, where one is needed.
-use Rattle.std.proofs.Common.{◌≡◌, ◌⊎◌, inl, inr, ⊎_elim, ◌||◌, Bool, true, false, ◌+◌, ◌<◌, ◌≤◌, ◌^◌, ℕ, zero, suc, List, [], ◌∷◌, ◌++◌, length, Contains, Option, Some, None, Result, Ok, Err, OnOk, OnErr, refl, sym, ◌∙◌, ap, subst, arith}
+use Rattle.std.proofs.Common.{◌≡◌, ◌⊎◌, inl, inr, ⊎_elim, ◌||◌, Bool, true, false, ◌+◌, ◌<◌, ◌^◌, ℕ, List, [], ◌∷◌, ◌++◌, Contains, None, Result, Ok, Err, OnOk, OnErr, refl, sym, ◌∙◌, ap, arith}
 use Rattle.std.proofs.lemmas.Bool.{true≢false, false≢true}
 use Rattle.std.proofs.lemmas.Result.{on_ok_weaker, on_err_weaker}
 use Rattle.pod_disk.specs.Disk.{EachImage, LeavesOnly}
 use Rattle.pod_disk.proofs.Moments.{weaker}
-use Rattle.journal_log.specs.Classes.{HasClass}
 use Rattle.journal_log.specs.CleanJournal.{IsShort}
-use Rattle.journal_log.specs.Images.{Stands, IsEither}
+use Rattle.journal_log.specs.Images.{IsEither}
 use Rattle.journal_log.specs.Renewing.{IsNewJournal}
 use Rattle.journal_log.specs.declared.fault.Side.{Side}
 use Rattle.journal_log.proofs.Classifying.{new_lem}
@@ -16,8 +15,8 @@ use Rattle.journal_pair.specs.Sides.{active_of, other_of}
 use Rattle.journal_pair.proofs.Beside.{closed_passed, closed_class}
 use Rattle.journal_pair.proofs.PairRuns.{kept_run}
 use Rattle.journal_pair.proofs.Pairing.{clean_each, doubt_each}
-use Rattle.pair_writes.specs.Doubts.{RecordDoubt, certain, entered, checkpointed, HasRecords, IsSure, IsLong, tails_in, news_in}
-use Rattle.pair_writes.specs.Writes.{IsActiveImage, IsNewImage, IsOtherImage, Runs, Readies, Moves}
+use Rattle.pair_writes.specs.Doubts.{RecordDoubt, certain, entered, checkpointed, HasRecords, IsSure, tails_in, news_in}
+use Rattle.pair_writes.specs.Writes.{IsActiveImage, IsOtherImage, Runs, Readies}
 use Rattle.pair_writes.proofs.DoubtSteps.{clean_of, doubt_of, doubt_stays}
 
 pub bool_cases : (b : Bool) → (b ≡ false) ⊎ (b ≡ true)

@@ -1,14 +1,14 @@
 -- What two images stand for, by what each of them is.
-use Rattle.std.proofs.Common.{◌≡◌, ◌⊎◌, inl, inr, ◌+◌, ◌<◌, ℕ, List, [], ◌∷◌, ◌++◌, Contains, refl, sym, ◌∙◌, ap, subst, arith}
+use Rattle.std.proofs.Common.{inl, inr, ◌+◌, ℕ, List, [], ◌∷◌, ◌++◌, subst, arith}
 use Rattle.journal_log.specs.Classes.{HasClass}
 use Rattle.journal_log.specs.Images.{Stands}
 use Rattle.journal_log.specs.declared.class.DiskClass.TheVariants.{Open}
 use Rattle.journal_log.specs.declared.fault.Side.{Side}
 use Rattle.journal_pair.specs.PairJournal.{HasSnapshot}
 use Rattle.journal_pair.specs.Sides.{active_of, other_of, opposite_of}
-use Rattle.journal_pair.specs.Stores.{IsPassedOver, StoreStands}
+use Rattle.journal_pair.specs.Stores.{IsPassedOver}
 use Rattle.journal_pair.proofs.Beside.{open_passed, snapshot_open, snapshot_stays, opposite_active, opposite_other, store_stands}
-use Rattle.pair_writes.specs.Writes.{IsActiveImage, IsNewImage, IsOtherImage, StandsForWritten}
+use Rattle.pair_writes.specs.Writes.{IsActiveImage, IsOtherImage, StandsForWritten}
 
 module _ (side : Side) (format epoch len : ℕ) (bodies tails : List (List ℕ)) (news : List (List (List ℕ))) (has : HasSnapshot len bodies) (c d : List ℕ) where
   active_open : IsActiveImage format epoch bodies tails (active_of side c d) → HasClass (Open epoch) (active_of side c d)

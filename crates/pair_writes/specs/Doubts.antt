@@ -1,5 +1,5 @@
 -- A pair with these records, and what may be in doubt beside them.
-use Rattle.std.specs.Prelude.{◌≡◌, ℕ, List, [], ◌∷◌, ◌++◌, Option, Some, None, false}
+use Rattle.std.specs.Prelude.{◌≡◌, ℕ, List, [], ◌∷◌, false}
 use Rattle.journal_pair.specs.PairJournal.{IsPairClean, IsAppendInDoubt, IsCheckpointInDoubt}
 use Rattle.journal_pair.specs.PairJournal.{IsPassedBeside, IsLongBeside}
 use Rattle.journal_pair.specs.PairState.{PairState}

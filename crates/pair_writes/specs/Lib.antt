@@ -1,2 +1,3 @@
 pub mod Doubts
+pub mod Together
 pub mod Writes

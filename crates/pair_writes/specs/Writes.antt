@@ -8,12 +8,12 @@ use Rattle.journal_log.specs.Images.{Stands}
 use Rattle.journal_log.specs.declared.class.DiskClass.TheVariants.{Open}
 use Rattle.journal_log.specs.declared.fault.Side.{Side}
 use Rattle.journal_pair.specs.PairJournal.{IsPairClean}
-use Rattle.journal_pair.specs.PairMoments.{LeavesPairs}
 use Rattle.journal_pair.specs.PairState.{PairState}
 use Rattle.journal_pair.specs.Sides.{active_of, other_of, opposite_of}
 use Rattle.journal_pair.specs.Stores.{IsPassedOver, StoreStands}
 use Rattle.pair_writes.specs.Doubts.{RecordDoubt, certain, entered, checkpointed, tails_in, news_in}
 use Rattle.pair_writes.specs.Doubts.{HasRecords, IsSure, IsLong}
+use Rattle.pair_writes.specs.Together.{LeavesTogether}
 
 -- the records of the active journal before a record is added: those from before, or a snapshot
 -- alone
@@ -133,7 +133,7 @@ module _ {D : Type 0} (image : D → List ℕ → Type 0) (moment : D → ℕ) (
     pub pairs : (bodies : List (List ℕ)) (doubt : RecordDoubt)
         → HasRecords image first second old bodies doubt → IsSure image first second old
         → (IsSome snapshot → IsLong image first second old)
-        → LeavesPairs moment left_since first second first_new second_new
+        → LeavesTogether moment left_since first second first_new second_new
         (StandsForWritten old.active old.journal.format old.journal.epoch bodies
         (tails_in doubt ++ tail_of snapshot body) (news_in doubt ++ (alone snapshot ++ with_record snapshot body)))
     pub sure : IsSure image first second old → (IsSome snapshot → IsLong image first second old)

@@ -2,6 +2,7 @@
 use Rattle.std.proofs.Common.{◌≡◌, ℕ, zero, suc, List, [], ◌∷◌, ◌++◌, All, Option, Some, None, IfSome, refl, sym, ◌∙◌, ap, subst, arith}
 use Rattle.std.specs.Option.{option_map, option_to_list}
 use Rattle.pair_writes.specs.Doubts.{IsSure}
+use Rattle.pair_writes.proofs.TogetherRuns.{together_still}
 use Rattle.pod_base.specs.declared.moment.Stamp.{Stamp}
 use Rattle.pod_base.specs.declared.request.Request.{Request}
 use Rattle.pod_command.specs.Bare.{bare_entry}
@@ -9,6 +10,7 @@ use Rattle.pod_command.specs.declared.entry.Entry.{Entry}
 use Rattle.pod_core.specs.History.{History, end_of}
 use Rattle.pod_core.specs.KeeperSteps.{stamp_at_end, IsReplyAtEnd}
 use Rattle.pod_keeper.specs.Commits.{later, IsEntryAtEnd, IsGrown, IsLeftFaulted, IsLeftByEntry, FollowsReply, IsCommitted, IsCommitFaulted, LeavesPodsOf, LeavesPods}
+use Rattle.pod_keeper.specs.CrashedPods.{StandsForOneOf}
 use Rattle.pod_keeper.specs.Kept.{Doubt, entries_in, IsKept}
 use Rattle.pod_keeper.specs.KeeperState.{KeeperState}
 use Rattle.pod_keeper.specs.Plans.{planned_entry, IsPlan, IsPlannedAt}
@@ -27,13 +29,15 @@ module _ {D : Type 0} (image : D → List ℕ → Type 0) (moment : D → ℕ) (
   -- where nothing was written
   pub untouched : (only_now : (d : D) (c : List ℕ) → left_since d (moment d) c → image d c) (more : List Entry) (history : History) (place : ℕ) (doubt : Doubt) → IsKept image old history place doubt → IsSure image old.first old.second old.pair
       → LeavesPodsOf moment left_since old old history (entries_in doubt ++ more)
-  untouched only_now more history place doubt kept sure c d left left_2 =
-      more_entries history (entries_in doubt) more c d (disks_stand image moment left_since old history place kept.bodies kept.stored doubt kept.disks sure c d (only_now old.first c left) (only_now old.second d left_2))
+  untouched only_now more history place doubt kept sure =
+      together_still image moment left_since only_now old.first old.second (StandsForOneOf history (entries_in doubt ++ more))
+      (λ c d now now_2. more_entries history (entries_in doubt) more c d (disks_stand image moment left_since old history place kept.bodies kept.stored doubt kept.disks sure c d now now_2))
 
   pub untouched_as : (only_now : (d : D) (c : List ℕ) → left_since d (moment d) c → image d c) (history : History) (place : ℕ) (doubt : Doubt) → IsKept image old history place doubt → IsSure image old.first old.second old.pair
       → LeavesPodsOf moment left_since old old history (entries_in doubt)
-  untouched_as only_now history place doubt kept sure c d left left_2 =
-      disks_stand image moment left_since old history place kept.bodies kept.stored doubt kept.disks sure c d (only_now old.first c left) (only_now old.second d left_2)
+  untouched_as only_now history place doubt kept sure =
+      together_still image moment left_since only_now old.first old.second (StandsForOneOf history (entries_in doubt))
+      (disks_stand image moment left_since old history place kept.bodies kept.stored doubt kept.disks sure)
 
   -- the reply at the end of each history, and its moment
   module _ (request : Request) (asked : AskedAgent) (stamp : Stamp) where

@@ -3,12 +3,12 @@ use Rattle.std.proofs.Common.{◌≡◌, inl, inr, ⊎_elim, ℕ, zero, suc, ◌
 use Rattle.std.proofs.lemmas.List.Elements.{Contains-append_cases}
 use Rattle.journal_pair.specs.PairJournal.{HasSnapshot}
 use Rattle.journal_pair.specs.PairState.{PairState}
-use Rattle.journal_pair.proofs.PairRuns.{pairs_of}
 use Rattle.journal_pair.specs.Sides.{opposite_of}
 use Rattle.journal_pair.specs.Stores.{StoreStands}
 use Rattle.pair_writes.specs.Doubts as records
 use Rattle.pair_writes.specs.Doubts.{RecordDoubt, HasRecords, IsSure, IsLong, tails_in, news_in}
 use Rattle.pair_writes.specs.Writes.{Readies, Moves, StandsForWritten, IsLeftBefore, IsActiveImage, IsOtherImage}
+use Rattle.pair_writes.proofs.TogetherRuns.{together_of, together_weaker}
 use Rattle.pair_writes.proofs.WrittenPairs.{written_pair}
 use Rattle.pod_core.specs.History.{History, end_of, longer}
 use Rattle.pod_keeper.specs.Commits.{IsCheckpointed, IsCheckpointFaulted, LeavesPodsOf}
@@ -87,13 +87,14 @@ module _ {D : Type 0} (image : D → List ℕ → Type 0) (moment : D → ℕ) (
 
     module _ (new : KeeperState D) {T E : Type 0} (r : Result T E) (ready : Readies image moment left_since old.first old.second new.first new.second old.pair new.pair r (Some s)) where
       pub checkpoint_leaves : IsSure image old.first old.second old.pair → IsLong image old.first old.second old.pair → LeavesPodsOf moment left_since old new history (entries_in doubt)
-      checkpoint_leaves sure long c d left left_2 =
+      checkpoint_leaves sure long =
           let runs = ready.runs h.bodies of_old.records_doubt of_old.has sure (λ _. long) in
-          written_stands c d (pairs_of image moment left_since old.pair.active old.first old.second new.first new.second
+          together_weaker image moment left_since old.first old.second new.first new.second _ (StandsForOneOf history (entries_in doubt)) written_stands
+          (together_of image moment left_since old.pair.active old.first old.second new.first new.second
           (IsActiveImage old.pair.journal.format old.pair.journal.epoch h.bodies (tails_in of_old.records_doubt)) (IsOtherImage old.pair.active old.pair.journal.epoch (news_in of_old.records_doubt ++ (s ∷ []) ∷ [])) _
           (written_pair old.pair.active old.pair.journal.format old.pair.journal.epoch old.pair.snapshot h.bodies (tails_in of_old.records_doubt) (news_in of_old.records_doubt ++ (s ∷ []) ∷ [])
           (snapshot_in image old.first old.second old.pair h.bodies of_old.records_doubt of_old.has))
-          runs.active runs.other c d left left_2)
+          runs.active runs.other)
 
     module _ (new : KeeperState D) (pod : new.pod ≡ old.pod) (next : new.next ≡ old.next) (last : new.last ≡ old.last) (feed : SameEffects new old) where
       -- the checkpoint was made

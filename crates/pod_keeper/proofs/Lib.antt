@@ -1,7 +1,8 @@
--- kept for the crates above: the moment of a change at the end of a history, and histories and
--- versions with more entries
+-- kept for the crates above: the moment of a change at the end of a history, histories and
+-- versions with more entries, and what a commit is as an item of a run
 pub mod Stamps
 pub mod HistoryLaws
+pub mod TakenItems
 -- internal
 mod NewStore
 mod Opened
@@ -15,3 +16,4 @@ mod Standing
 mod Carried
 mod EventRuns
 mod Checkpoints
+mod StepMoments

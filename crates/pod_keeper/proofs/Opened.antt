@@ -79,11 +79,13 @@ module _ {D : Type 0} (image : D → List ℕ → Type 0) (moment : D → ℕ) (
     stands = torn.stands;
   })
 
-  pub opens_disks : LeavesPairs moment left_since first second first_new second_new (IsWhileStoreOpened image first second) → faults first ≤ faults first_new → faults second ≤ faults second_new
+  pub opens_disks : LeavesPairs moment left_since first second first_new second_new (IsWhileStoreOpened image first second) → moment first ≤ moment first_new → moment second ≤ moment second_new → faults first ≤ faults first_new → faults second ≤ faults second_new
       → OpensDisks image moment left_since faults first second first_new second_new
-  opens_disks pairs no_fewer_first no_fewer_second = record {
+  opens_disks pairs later_first later_second no_fewer_first no_fewer_second = record {
     pairs = pairs;
     stands = λ history entries each c d left left_2. mended (StandsForOneOf history entries) each c d (pairs c d left left_2);
+    later_first = later_first;
+    later_second = later_second;
     no_fewer_first = no_fewer_first;
     no_fewer_second = no_fewer_second;
   }

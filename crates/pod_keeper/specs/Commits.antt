@@ -1,10 +1,10 @@
 -- What a commit and a checkpoint do to a keeper, for a history that it represented.
 use Rattle.std.specs.Prelude.{◌≡◌, ◌⊎◌, ℕ, ◌+◌, max, List, [], ◌∷◌, ◌++◌, All, Option, Some}
 use Rattle.std.specs.Prelude.{None}
-use Rattle.journal_pair.specs.PairMoments.{LeavesPairs}
 use Rattle.journal_pair.specs.PairState.{PairState}
 use Rattle.journal_pair.specs.Sides.{opposite_of}
 use Rattle.pair_writes.specs.Doubts.{IsSure, IsLong}
+use Rattle.pair_writes.specs.Together.{LeavesTogether}
 use Rattle.pod_base.specs.declared.moment.Moment.{Moment}
 use Rattle.pod_base.specs.declared.moment.Stamp.{Stamp}
 use Rattle.pod_base.specs.declared.request.Request.{Request}
@@ -118,9 +118,9 @@ module _ {D : Type 0} (image : D → List ℕ → Type 0) (old new : KeeperState
 module _ {D : Type 0} (moment : D → ℕ) (left_since : D → ℕ → List ℕ → Type 0)
     (old new : KeeperState D) (history : History) where
   -- At each moment since, each pair of crash images represents the history, or it with one of these
-  -- entries after its end.
+  -- entries after its end; and nothing else was on a disk at any of these moments.
   abbrev pub LeavesPodsOf : List Entry → Type 0
-  LeavesPodsOf entries = LeavesPairs moment left_since old.first old.second new.first new.second
+  LeavesPodsOf entries = LeavesTogether moment left_since old.first old.second new.first new.second
       (StandsForOneOf history entries)
 
   -- The entries are the one in doubt before, and the one under way.

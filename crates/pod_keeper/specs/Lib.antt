@@ -7,5 +7,7 @@ pub mod Kept
 pub mod Commits
 pub mod Plans
 pub mod CommitEvents
+pub mod KeeperRuns
+pub mod RunMoments
 pub mod OpenedPods
 pub mod NewStores

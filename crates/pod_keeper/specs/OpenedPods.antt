@@ -34,12 +34,14 @@ KeepsStanding image moment left_since first second first_new second_new =
     (StandsForOneOf history entries)
 
 -- What an opening did to the disks. At each moment every pair of crash images was one from before,
--- but for a torn last gate that is written; and no count of faults fell.
+-- but for a torn last gate that is written; and no moment and no count of faults fell.
 pub record OpensDisks {D : Type 0} (image : D → List ℕ → Type 0) (moment : D → ℕ)
     (left_since : D → ℕ → List ℕ → Type 0) (faults : D → ℕ) (first second first_new second_new : D)
     : Type 0 where
   pub pairs : LeavesPairs moment left_since first second first_new second_new
       (IsWhileStoreOpened image first second)
   pub stands : KeepsStanding image moment left_since first second first_new second_new
+  pub later_first : moment first ≤ moment first_new
+  pub later_second : moment second ≤ moment second_new
   pub no_fewer_first : faults first ≤ faults first_new
   pub no_fewer_second : faults second ≤ faults second_new

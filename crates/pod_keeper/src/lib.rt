@@ -17,8 +17,9 @@
 //! is a run of the events of a world, as `specs/CommitEvents.antt` lists them (`world_done`,
 //! `world_fault`); at each moment of each call every pair of crash images represents the history,
 //! or it with the one entry under way or in doubt (`pairs`), and so between calls
-//! ([`Keeper::crash_images_stand`]). A plan has one reply for all histories that the keeper
-//! represents (`IsPlan`).
+//! ([`Keeper::crash_images_stand`]) and at each moment of a run of requests
+//! ([`moments_are_of_steps`], over `specs/KeeperRuns.antt`). A plan has one reply for all histories
+//! that the keeper represents (`IsPlan`).
 //!
 //! It depends on `pod_core` for replies, on `pod_pages` for versions, on `pod_records` and
 //! `first_rows` for what records hold, and on `pair_writes` and `journal_pair` for the disks.
@@ -36,5 +37,6 @@ mod plan;
 
 pub use fault::{CommitFault, Done, NotOpened};
 pub use keeper::Keeper;
+pub use laws::moments_are_of_steps;
 pub use plan::{Plan, Planned};
 pub use pod_pages::Version;

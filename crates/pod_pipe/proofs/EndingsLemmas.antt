@@ -10,6 +10,7 @@ use Rattle.conn_talk.proofs.ListLemmas.{whole_front}
 use Rattle.pod_base.proofs.Prefixes.{prefix_of_append, prefix_trans}
 use Rattle.pod_base.specs.declared.request.Request.{Request}
 use Rattle.pod_base.specs.declared.heard.Heard.{Heard}
+use Rattle.pod_command.specs.declared.entry.Entry.{Entry}
 use Rattle.pod_core.specs.History.{History, IsHistory, end_of}
 use Rattle.pod_core.specs.Output.{output}
 use Rattle.pod_core.specs.Session.{IsItem, IsSession, Item, NeverFalls, Session, UpgradesLast, IsRefused, ends_upgraded, places_of, requests_of}
@@ -65,6 +66,10 @@ module _ (may_give : ℕ → Type 0) (asking : Request → AskedAgent) (trails :
     lines = ([], append-nil _ ∙ s.lines);
   }
 
+  pub served_session : (upgraded : Bool) (hears : List Heard) (written lines : List ℕ) (s : IsServed may_give asking trails begun leaves upgraded hears written lines) → (served_stops upgraded hears written lines s).session ≡ s.session
+  unfolding served_stops
+  served_session upgraded hears written lines s = refl
+
   -- the session of a switch of protocols is one of whatever was heard behind it
   module _ (hears more : List Heard) (written lines : List ℕ) (s : IsServed may_give asking trails begun leaves true hears written lines) where
     refusal_is : (refusal : Option ℕ) → IfSome refusal (IsRefused may_give hears s.session.items) → refusal ≡ None
@@ -111,18 +116,18 @@ module _ (may_give : ℕ → Type 0) (asking : Request → AskedAgent) (trails :
     }
 
 -- the ends of a connection that a holder answered, over one history that it represented
-module _ {A H : Type 0} (stands : H → History → Type 0) (faults : H → Faults) (follows : H → History → H → History → Type 0) (legal : (holder : H) (history : History) → stands holder history → IsHistory history) (still : (holder : H) (history : History) → follows holder history holder history)
-    (joins : (a b c : H) (h i j : History) → follows a h b i → follows b i c j → follows a h c j) (holder_of : A → H) (may_give : ℕ → Type 0) (asking : Request → AskedAgent) (trails : Bool) (law : IsolatesItems may_give) (begun : History) (first last : A) (held : stands (holder_of first) begun) where
+module _ {A H : Type 0} (stands : H → History → Option Entry → Type 0) (faults : H → Faults) (takes : ℕ → ℕ → H → History → Option Entry → Item → H → Option Entry → Type 0) (legal : (holder : H) (history : History) (doubt : Option Entry) → stands holder history doubt → IsHistory history)
+    (holder_of : A → H) (may_give : ℕ → Type 0) (asking : Request → AskedAgent) (trails : Bool) (law : IsolatesItems may_give) (begun : History) (doubt : Option Entry) (first last : A) (held : stands (holder_of first) begun doubt) where
   abbrev pub holder_leaves : List Item → Type 0
-  holder_leaves = Leaves stands faults follows begun (holder_of first) (holder_of last)
+  holder_leaves = Leaves stands takes may_give faults begun doubt (holder_of first) (holder_of last)
 
-  chained : (items : List Item) → AreItems (holder_rules stands faults follows holder_of may_give asking trails) first last items → Chained stands faults follows still joins holder_of may_give asking trails begun first last items
-  chained items a = chain_is_session stands faults follows still joins holder_of may_give asking trails items first last begun held a.chain
+  chained : (items : List Item) → AreItems (holder_rules stands faults takes holder_of may_give asking trails) first last items → Chained stands faults takes holder_of may_give asking trails begun doubt first last items
+  chained items a = chain_is_session stands faults takes holder_of may_give asking trails items first last begun doubt held a.chain
 
-  session_items : (items : List Item) → AreItems (holder_rules stands faults follows holder_of may_give asking trails) first last items → AreSessionItems may_give asking begun items
+  session_items : (items : List Item) → AreItems (holder_rules stands faults takes holder_of may_give asking trails) first last items → AreSessionItems may_give asking begun items
   session_items items a =
       let c = chained items a in
-      let from : AreItemsFrom may_give 1 begun items = record { is_history = legal (holder_of last) (grown begun items) c.left.gone.0; answers = c.so_far.answers; places = c.so_far.places } in
+      let from : AreItemsFrom may_give 1 begun items = record { is_history = legal (holder_of last) (grown begun items) c.left.after c.left.represents; answers = c.so_far.answers; places = c.so_far.places } in
       record {
         numbers = a.numbers;
         asked = a.asked;
@@ -133,7 +138,7 @@ module _ {A H : Type 0} (stands : H → History → Type 0) (faults : H → Faul
       }
 
   -- all events were answered
-  pub served_of : (upgraded : Bool) (events : List Heard) (written trail : List ℕ) → EndsWhole (holder_rules stands faults follows holder_of may_give asking trails) upgraded first last events written trail → IsServed may_give asking trails begun holder_leaves upgraded events written trail
+  pub served_of : (upgraded : Bool) (events : List Heard) (written trail : List ℕ) → EndsWhole (holder_rules stands faults takes holder_of may_give asking trails) upgraded first last events written trail → IsServed may_give asking trails begun holder_leaves upgraded events written trail
   served_of upgraded events written trail e = record {
     session = session_of may_give asking trails begun holder_leaves e.items e.refusal;
     continues = continues may_give asking trails begun holder_leaves e.items (session_items e.items e.are_items) events e.refusal (whole_front _ _ e.requests) e.last e.refused;
@@ -145,7 +150,7 @@ module _ {A H : Type 0} (stands : H → History → Type 0) (faults : H → Faul
   }
 
   -- the connection was cut off
-  pub stopped_of : (events : List Heard) (written trail : List ℕ) → EndsPart (holder_rules stands faults follows holder_of may_give asking trails) first last events written trail → IsStopped may_give asking trails begun holder_leaves events written trail
+  pub stopped_of : (events : List Heard) (written trail : List ℕ) → EndsPart (holder_rules stands faults takes holder_of may_give asking trails) first last events written trail → IsStopped may_give asking trails begun holder_leaves events written trail
   stopped_of events written trail e = record {
     session = session_of may_give asking trails begun holder_leaves e.items e.refusal;
     continues = continues may_give asking trails begun holder_leaves e.items (session_items e.items e.are_items) events e.refusal e.requests e.last e.refused;

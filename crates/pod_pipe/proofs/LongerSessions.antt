@@ -3,7 +3,7 @@ use Rattle.std.proofs.Common.{◌≡◌, ℕ, ◌+◌, Bool, true, false, if◌t
 use Rattle.std.proofs.lemmas.List.{append-nil}
 use mathlib.Core.List.{IsPrefix}
 use Rattle.http_out.specs.Text.{interim_text}
-use Rattle.http_conn.specs.Messages.{NothingAfterEnd}
+use Rattle.http_conn.specs.Messages.{Messages, NothingAfterEnd}
 use Rattle.http_conn.proofs.EndLemmas.{ends_there}
 use Rattle.pod_base.proofs.Prefixes.{prefix_of_append, prefix_trans, prefix_after}
 use Rattle.pod_base.specs.declared.heard.Heard.{Heard}
@@ -15,11 +15,11 @@ use Rattle.pod_core.specs.Session.{IsRefused, IsSession, Item, Session, has_bad,
 use Rattle.session_laws.proofs.AlikeSessions.{still_isolated}
 use Rattle.token_table.specs.Credentials.{AskedAgent}
 use Rattle.pod_pipe.specs.Served.{Continues, IsStopped, WritesSession}
-use Rattle.pod_pipe.specs.Statuses.{HearsFirst, IsHeard, IsWritten, Pipes}
+use Rattle.pod_pipe.specs.Statuses.{HearsFirst, IsHeard, IsWritten, Pipes, written_session}
 use Rattle.conn_talk.specs.Trails.{trail_of}
 use Rattle.pod_pipe.specs.declared.status.PipeEnd.{PipeEnd}
 use Rattle.pod_pipe.specs.declared.status.PipeEnd.TheVariants.{Peer, Cut, Closed, Limit, Upgraded, Bad, ReadFault, WriteFault, NoMemory, ReadLimit}
-use Rattle.pod_pipe.proofs.EndingsLemmas.{served_stops}
+use Rattle.pod_pipe.proofs.EndingsLemmas.{served_session, served_stops}
 use Rattle.conn_talk.proofs.HeardLemmas.{requests_append}
 use Rattle.pod_pipe.proofs.ServingLemmas.{hears_first, all_first}
 
@@ -90,41 +90,62 @@ module _ (may_give : ℕ → Type 0) (asking : Request → AskedAgent) (trails :
           lines = lines;
         }
 
-    by_refusal : (session : Session) (refusal : Option ℕ) → session.refusal ≡ refusal → Continues may_give asking begun events session → leaves session.items → IsPrefix written (output events session) → IsPrefix trail (trail_of trails session.items) → IsStopped may_give asking trails begun leaves (events ++ more) written trail
-    by_refusal session None e s left begins_so lines = open_session session e s left begins_so lines
+    abbrev StopsWith : Session → Type 0
+    StopsWith session = (stops : IsStopped may_give asking trails begun leaves (events ++ more) written trail) × (stops.session ≡ session)
+
+    by_refusal : (session : Session) (refusal : Option ℕ) → session.refusal ≡ refusal → Continues may_give asking begun events session → leaves session.items → IsPrefix written (output events session) → IsPrefix trail (trail_of trails session.items) → StopsWith session
+    unfolding open_session
+    by_refusal session None e s left begins_so lines = (open_session session e s left begins_so lines, refl)
     by_refusal session (Some moment) e s left begins_so lines =
         let refused : IfSome (Some moment) (IsRefused may_give events session.items) = subst (λ (o : Option ℕ). IfSome o (IsRefused may_give events session.items)) e s.is_session.refused in
         let none : more ≡ [] = nothing_more 0 events more refused.bad ends in
-        subst (λ all. IsStopped may_give asking trails begun leaves all written trail) (sym (ap (λ rest. events ++ rest) none ∙ append-nil events))
-        (record { session = session; continues = s; left = left; bytes = begins_so; lines = lines })
+        let same : events ++ more ≡ events = ap (λ rest. events ++ rest) none ∙ append-nil events in (
+          record {
+            session = session;
+            continues = subst (λ all. Continues may_give asking begun all session) (sym same) s;
+            left = left;
+            bytes = subst (λ all. IsPrefix written (output all session)) (sym same) begins_so;
+            lines = lines;
+          },
+          refl,
+        )
 
-    stops_longer : IsStopped may_give asking trails begun leaves events written trail → IsStopped may_give asking trails begun leaves (events ++ more) written trail
+    stops_longer : (s : IsStopped may_give asking trails begun leaves events written trail) → StopsWith s.session
     stops_longer s = by_refusal s.session s.session.refusal refl s.continues s.left s.bytes s.lines
 
-  stops_of_end : (end : PipeEnd) (events : List Heard) (written trail : List ℕ) → IsWritten may_give asking trails begun leaves end events written trail → IsStopped may_give asking trails begun leaves events written trail
-  stops_of_end Peer events written trail w = served_stops may_give asking trails begun leaves false events written trail w
-  stops_of_end (Cut rest) events written trail w = served_stops may_give asking trails begun leaves false events written trail w
-  stops_of_end Closed events written trail w = served_stops may_give asking trails begun leaves false events written trail w
-  stops_of_end Limit events written trail w = served_stops may_give asking trails begun leaves false events written trail w
-  stops_of_end Upgraded events written trail w = served_stops may_give asking trails begun leaves true events written trail w
-  stops_of_end (Bad status) events written trail w = served_stops may_give asking trails begun leaves false events written trail w
-  stops_of_end ReadFault events written trail w = served_stops may_give asking trails begun leaves false events written trail w
-  stops_of_end ReadLimit events written trail w = served_stops may_give asking trails begun leaves false events written trail w
-  stops_of_end WriteFault events written trail w = w
-  stops_of_end NoMemory events written trail w = w
+  abbrev StopsAs : (end : PipeEnd) (events : List Heard) (written trail : List ℕ) → IsWritten may_give asking trails begun leaves end events written trail → Type 0
+  StopsAs end events written trail w = (stops : IsStopped may_give asking trails begun leaves events written trail) × (stops.session ≡ written_session may_give asking trails begun leaves end events written trail w)
 
-  -- whatever the end, the bytes written begin those of a session over the bytes read
-  pub writes_session : (end : PipeEnd) (old_input new_input old_output new_output old_errors new_errors : Option (List ℕ))
-      → Pipes may_give asking trails begun leaves end old_input new_input old_output new_output old_errors new_errors → WritesSession may_give asking trails begun leaves old_input new_input old_output new_output
-  writes_session end old_input new_input old_output new_output old_errors new_errors p = record {
-    read = p.read;
-    written = p.written;
-    trail = p.trail;
-    reads = p.reads;
-    writes = p.writes;
-    session = λ all rest m.
+  stops_of_end : (end : PipeEnd) (events : List Heard) (written trail : List ℕ) (w : IsWritten may_give asking trails begun leaves end events written trail) → StopsAs end events written trail w
+  stops_of_end Peer events written trail w = (served_stops may_give asking trails begun leaves false events written trail w, served_session may_give asking trails begun leaves false events written trail w)
+  stops_of_end (Cut rest) events written trail w = (served_stops may_give asking trails begun leaves false events written trail w, served_session may_give asking trails begun leaves false events written trail w)
+  stops_of_end Closed events written trail w = (served_stops may_give asking trails begun leaves false events written trail w, served_session may_give asking trails begun leaves false events written trail w)
+  stops_of_end Limit events written trail w = (served_stops may_give asking trails begun leaves false events written trail w, served_session may_give asking trails begun leaves false events written trail w)
+  stops_of_end Upgraded events written trail w = (served_stops may_give asking trails begun leaves true events written trail w, served_session may_give asking trails begun leaves true events written trail w)
+  stops_of_end (Bad status) events written trail w = (served_stops may_give asking trails begun leaves false events written trail w, served_session may_give asking trails begun leaves false events written trail w)
+  stops_of_end ReadFault events written trail w = (served_stops may_give asking trails begun leaves false events written trail w, served_session may_give asking trails begun leaves false events written trail w)
+  stops_of_end ReadLimit events written trail w = (served_stops may_give asking trails begun leaves false events written trail w, served_session may_give asking trails begun leaves false events written trail w)
+  stops_of_end WriteFault events written trail w = (w, refl)
+  stops_of_end NoMemory events written trail w = (w, refl)
+
+  module _ (end : PipeEnd) (old_input new_input old_output new_output old_errors new_errors : Option (List ℕ)) (p : Pipes may_give asking trails begun leaves end old_input new_input old_output new_output old_errors new_errors) where
+    -- whatever the end, the bytes written begin those of that session over the bytes read
+    abbrev StopsOver : List Heard → Type 0
+    StopsOver all = (stops : IsStopped may_give asking trails begun leaves all p.written p.trail) × (stops.session ≡ written_session may_give asking trails begun leaves end p.heard p.written p.trail p.serves)
+
+    pub stops_over : (all : List Heard) (rest : ℕ) → Messages p.read all rest → StopsOver all
+    stops_over all rest m =
         let more = (first_of_end end p.read p.heard new_input p.hears).whole all rest m in
-        subst (λ events. IsStopped may_give asking trails begun leaves events p.written p.trail) (sym more.1)
-        (stops_longer p.heard more.0 p.written p.trail (subst (NothingAfterEnd 0) more.1 (ends_there p.read all rest m))
-        (stops_of_end end p.heard p.written p.trail p.serves));
-  }
+        let stops = stops_of_end end p.heard p.written p.trail p.serves in
+        let longer = stops_longer p.heard more.0 p.written p.trail (subst (NothingAfterEnd 0) more.1 (ends_there p.read all rest m)) stops.0 in
+        subst StopsOver (sym more.1) (longer.0, longer.1 ∙ stops.1)
+
+    pub writes_session : WritesSession may_give asking trails begun leaves old_input new_input old_output new_output
+    writes_session = record {
+      read = p.read;
+      written = p.written;
+      trail = p.trail;
+      reads = p.reads;
+      writes = p.writes;
+      session = λ all rest m. (stops_over all rest m).0;
+    }

@@ -25,7 +25,7 @@ use Rattle.pod_pipe.specs.Streams.{Reads, AtEnd, AddsReads, MeetsEnd, CountsInpu
 use Rattle.pod_pipe.specs.Served.{IsServed, IsStopped}
 use Rattle.line_sink.specs.Writing.{AddsOrPart, AddsPart, ExtendsBy}
 use Rattle.line_sink.proofs.Extending.{extends_more, nothing_added}
-use Rattle.pod_pipe.specs.Statuses.{HearsFirst, IsHeard, IsWritten, IsTold, Pipes, ComesOf, Tells, end_line}
+use Rattle.pod_pipe.specs.Statuses.{HearsFirst, IsDone, IsHeard, IsWritten, Pipes, ComesOf, Tells, end_line}
 use Rattle.pod_pipe.specs.declared.status.PipeEnd.{PipeEnd}
 use Rattle.pod_pipe.specs.declared.status.PipeEnd.TheVariants.{Peer, Cut, Closed, Limit, Upgraded, Bad, ReadFault, WriteFault, NoMemory, ReadLimit}
 use Rattle.pod_pipe.proofs.EndingsLemmas.{served_longer, served_stops}
@@ -259,8 +259,8 @@ counts_heard talks.Limit old_reads new_reads old_ends new_ends le same = record 
 counts_heard talks.Upgraded old_reads new_reads old_ends new_ends le same = record { reads = le; limit = λ is. absurd cc; ends = same }
 counts_heard (talks.Bad status) old_reads new_reads old_ends new_ends le same = record { reads = le; limit = λ is. absurd cc; ends = same }
 counts_heard talks.WriteFault old_reads new_reads old_ends new_ends le same = record { reads = le; limit = λ is. absurd cc; ends = inl same }
-counts_heard talks.NoMemory old_reads new_reads old_ends new_ends le same = record { reads = le; limit = λ is. absurd cc; ends = inl same }
-counts_heard talks.NoPlace old_reads new_reads old_ends new_ends le same = record { reads = le; limit = λ is. absurd cc; ends = inl same }
+counts_heard talks.NoMemory old_reads new_reads old_ends new_ends le same = record { reads = le; limit = λ is. absurd cc; ends = same }
+counts_heard talks.NoPlace old_reads new_reads old_ends new_ends le same = record { reads = le; limit = λ is. absurd cc; ends = same }
 
 -- the end of the input
 pub counts_end : (rest : ℕ) (end : PipeEnd) (old_reads new_reads old_ends new_ends : ℕ) → end ≡ (if rest == 0 then Peer else Cut rest) → AddsReads old_reads new_reads
@@ -279,82 +279,67 @@ end_reads rest end is fault = elim (rest == 0) as (λ b. ReadFault ≡ (if b the
 pub end_writes : (rest : ℕ) (end : PipeEnd) → end ≡ (if rest == 0 then Peer else Cut rest) → end ≡ WriteFault → ⊥
 end_writes rest end is fault = elim (rest == 0) as (λ b. WriteFault ≡ (if b then Peer else Cut rest) → ⊥) [ true ↦ λ e. cc | false ↦ λ e. cc ] (sym fault ∙ is)
 
--- the counts at an end of which a line tells, where that line fails
-told_ends : (end : PipeEnd) (old new : ℕ) → IsTold end → MeetsEnd end old new → (new ≡ old) ⊎ (new ≡ next_count old)
-told_ends Peer old new t m = inr m
-told_ends (Cut rest) old new t m = inr m
-told_ends Closed old new t m = inl m
-told_ends Limit old new t m = inl m
-told_ends Upgraded old new t m = inl m
-told_ends (Bad status) old new t m = inl m
-told_ends ReadFault old new t m = absurd t
-told_ends WriteFault old new t m = absurd t
-told_ends NoMemory old new t m = absurd t
-told_ends ReadLimit old new t m = absurd t
+-- the counts at an end of status 0, where its line fails
+done_ends : (end : PipeEnd) (old new : ℕ) → IsDone end → MeetsEnd end old new → (new ≡ old) ⊎ (new ≡ next_count old)
+done_ends Peer old new t m = inr m
+done_ends Closed old new t m = inl m
+done_ends Limit old new t m = inl m
+done_ends Upgraded old new t m = inl m
+done_ends (Cut rest) old new t m = absurd t
+done_ends (Bad status) old new t m = absurd t
+done_ends ReadFault old new t m = absurd t
+done_ends WriteFault old new t m = absurd t
+done_ends NoMemory old new t m = absurd t
+done_ends ReadLimit old new t m = absurd t
 
 pub counts_come_to : (end told : PipeEnd) (old_reads new_reads old_ends new_ends : ℕ) → ComesOf end told → CountsInput end old_reads new_reads old_ends new_ends
     → CountsInput told old_reads new_reads old_ends new_ends
 counts_come_to end told old_reads new_reads old_ends new_ends (inl same) c = subst (λ e. CountsInput e old_reads new_reads old_ends new_ends) (sym same) c
-counts_come_to end told old_reads new_reads old_ends new_ends (inr (t, inl fault)) c =
-    subst (λ e. CountsInput e old_reads new_reads old_ends new_ends) (sym fault) (record { reads = c.reads; limit = λ e. absurd cc; ends = told_ends end old_ends new_ends t c.ends })
-counts_come_to end told old_reads new_reads old_ends new_ends (inr (t, inr none)) c =
-    subst (λ e. CountsInput e old_reads new_reads old_ends new_ends) (sym none) (record { reads = c.reads; limit = λ e. absurd cc; ends = told_ends end old_ends new_ends t c.ends })
+counts_come_to end told old_reads new_reads old_ends new_ends (inr (t, fault)) c =
+    subst (λ e. CountsInput e old_reads new_reads old_ends new_ends) (sym fault) (record { reads = c.reads; limit = λ e. absurd cc; ends = done_ends end old_ends new_ends t c.ends })
 
 -- ---- the last line
 
--- what was heard in what was read, at an end that a line tells of
-told_reading : (end : PipeEnd) (read : List ℕ) (heard : List Heard) (left : Option (List ℕ)) → IsTold end → IsHeard end read heard left → (rest : ℕ) × Messages read heard rest
-told_reading Peer read heard left t h = (0, h.0)
-told_reading (Cut rest) read heard left t h = (rest, h.0)
-told_reading Closed read heard left t h = (0, h.0)
-told_reading Limit read heard left t h = (0, h.0)
-told_reading Upgraded read heard left t h = h
-told_reading (Bad status) read heard left t h = (0, h.0)
-told_reading ReadFault read heard left t h = absurd t
-told_reading WriteFault read heard left t h = absurd t
-told_reading NoMemory read heard left t h = absurd t
-told_reading ReadLimit read heard left t h = absurd t
+-- what was heard in what was read, at an end of status 0
+done_reading : (end : PipeEnd) (read : List ℕ) (heard : List Heard) (left : Option (List ℕ)) → IsDone end → IsHeard end read heard left → (rest : ℕ) × Messages read heard rest
+done_reading Peer read heard left t h = (0, h.0)
+done_reading Closed read heard left t h = (0, h.0)
+done_reading Limit read heard left t h = (0, h.0)
+done_reading Upgraded read heard left t h = h
+done_reading (Cut rest) read heard left t h = absurd t
+done_reading (Bad status) read heard left t h = absurd t
+done_reading ReadFault read heard left t h = absurd t
+done_reading WriteFault read heard left t h = absurd t
+done_reading NoMemory read heard left t h = absurd t
+done_reading ReadLimit read heard left t h = absurd t
 
 module _ (may_give : ℕ → Type 0) (asking : Request → AskedAgent) (trails : Bool) (begun : History) (leaves : List Item → Type 0) where
-  told_stops : (end : PipeEnd) (heard : List Heard) (written trail : List ℕ) → IsTold end → IsWritten may_give asking trails begun leaves end heard written trail → IsStopped may_give asking trails begun leaves heard written trail
-  told_stops Peer heard written trail t w = served_stops may_give asking trails begun leaves false heard written trail w
-  told_stops (Cut rest) heard written trail t w = served_stops may_give asking trails begun leaves false heard written trail w
-  told_stops Closed heard written trail t w = served_stops may_give asking trails begun leaves false heard written trail w
-  told_stops Limit heard written trail t w = served_stops may_give asking trails begun leaves false heard written trail w
-  told_stops Upgraded heard written trail t w = served_stops may_give asking trails begun leaves true heard written trail w
-  told_stops (Bad status) heard written trail t w = served_stops may_give asking trails begun leaves false heard written trail w
-  told_stops ReadFault heard written trail t w = absurd t
-  told_stops WriteFault heard written trail t w = absurd t
-  told_stops NoMemory heard written trail t w = absurd t
-  told_stops ReadLimit heard written trail t w = absurd t
+  done_stops : (end : PipeEnd) (heard : List Heard) (written trail : List ℕ) → IsDone end → IsWritten may_give asking trails begun leaves end heard written trail → IsStopped may_give asking trails begun leaves heard written trail
+  done_stops Peer heard written trail t w = served_stops may_give asking trails begun leaves false heard written trail w
+  done_stops Closed heard written trail t w = served_stops may_give asking trails begun leaves false heard written trail w
+  done_stops Limit heard written trail t w = served_stops may_give asking trails begun leaves false heard written trail w
+  done_stops Upgraded heard written trail t w = served_stops may_give asking trails begun leaves true heard written trail w
+  done_stops (Cut rest) heard written trail t w = absurd t
+  done_stops (Bad status) heard written trail t w = absurd t
+  done_stops ReadFault heard written trail t w = absurd t
+  done_stops WriteFault heard written trail t w = absurd t
+  done_stops NoMemory heard written trail t w = absurd t
+  done_stops ReadLimit heard written trail t w = absurd t
 
-  -- an end is told of, or its line is a write fault or want of memory
+  -- an end has its line, or that of an end of status 0 is a write fault
   pub comes_to : (end told : PipeEnd) (old_input new_input old_output new_output old_errors new_errors : Option (List ℕ)) → ComesOf end told
       → Pipes may_give asking trails begun leaves end old_input new_input old_output new_output old_errors new_errors → Pipes may_give asking trails begun leaves told old_input new_input old_output new_output old_errors new_errors
   comes_to end told old_input new_input old_output new_output old_errors new_errors (inl same) p = subst (λ e. Pipes may_give asking trails begun leaves e old_input new_input old_output new_output old_errors new_errors) (sym same) p
-  comes_to end told old_input new_input old_output new_output old_errors new_errors (inr (t, inl fault)) p = subst (λ e. Pipes may_give asking trails begun leaves e old_input new_input old_output new_output old_errors new_errors) (sym fault) (record {
+  comes_to end told old_input new_input old_output new_output old_errors new_errors (inr (t, fault)) p = subst (λ e. Pipes may_give asking trails begun leaves e old_input new_input old_output new_output old_errors new_errors) (sym fault) (record {
     read = p.read;
     heard = p.heard;
     written = p.written;
     trail = p.trail;
     reads = p.reads;
     hears =
-        let r = told_reading end p.read p.heard new_input t p.hears in
+        let r = done_reading end p.read p.heard new_input t p.hears in
         (p.heard, r.0, r.1, ([], sym (append-nil p.heard)));
-    serves = told_stops end p.heard p.written p.trail t p.serves;
-    writes = p.writes;
-    trails_too = p.trails_too;
-  })
-  comes_to end told old_input new_input old_output new_output old_errors new_errors (inr (t, inr none)) p = subst (λ e. Pipes may_give asking trails begun leaves e old_input new_input old_output new_output old_errors new_errors) (sym none) (record {
-    read = p.read;
-    heard = p.heard;
-    written = p.written;
-    trail = p.trail;
-    reads = p.reads;
-    hears =
-        let r = told_reading end p.read p.heard new_input t p.hears in
-        all_first p.read p.heard r.0 r.1;
-    serves = told_stops end p.heard p.written p.trail t p.serves;
+    serves = done_stops end p.heard p.written p.trail t p.serves;
     writes = p.writes;
     trails_too = p.trails_too;
   })

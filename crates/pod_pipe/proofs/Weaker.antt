@@ -1,5 +1,5 @@
 -- The same with less said of what is left of the holder, and where nothing was served.
-use Rattle.std.proofs.Common.{ℕ, Bool, true, false, List, [], Option, None, refl, sym, subst, length-append, arith}
+use Rattle.std.proofs.Common.{◌≡◌, ℕ, Bool, true, false, List, [], Option, None, refl, sym, subst, ◌∙◌, length-append, arith}
 use Rattle.http_conn.specs.Messages.{Messages, unfinished, in_head}
 use Rattle.pod_base.specs.declared.heard.Heard.{Heard}
 use Rattle.pod_base.specs.declared.request.Request.{Request}
@@ -7,14 +7,14 @@ use Rattle.pod_core.specs.History.{History, IsHistory}
 use Rattle.pod_core.specs.Session.{Item}
 use Rattle.token_table.specs.Credentials.{AskedAgent}
 use Rattle.pod_pipe.specs.Served.{IsServed, IsStopped, WritesSession}
-use Rattle.pod_pipe.specs.Statuses.{IsWritten, Pipes, PipesAndTells}
+use Rattle.pod_pipe.specs.Statuses.{IsWritten, Pipes, PipesAndTells, written_session}
 use Rattle.pod_pipe.specs.declared.status.PipeEnd.{PipeEnd}
 use Rattle.pod_pipe.specs.declared.status.PipeEnd.TheVariants.{Peer, Cut, Closed, Limit, Upgraded, Bad, ReadFault, WriteFault, NoMemory, ReadLimit}
 use Rattle.session_laws.proofs.AlikeSessions.{nothing_isolated}
 use Rattle.session_laws.proofs.PodsAtEnd.{same_history}
 use Rattle.pod_pipe.proofs.EndingsLemmas.{AreSessionItems, continues, session_of}
 use Rattle.pod_pipe.proofs.ServingLemmas.{all_first, nothing_read}
-use Rattle.pod_pipe.proofs.LongerSessions.{writes_session}
+use Rattle.pod_pipe.proofs.LongerSessions.{stops_over, writes_session}
 use Rattle.line_sink.proofs.Extending.{nothing_added}
 
 module _ (may_give : ℕ → Type 0) (asking : Request → AskedAgent) (trails : Bool) (begun : History) (leaves less : List Item → Type 0) (weaker : (items : List Item) → leaves items → less items) where
@@ -36,9 +36,25 @@ module _ (may_give : ℕ → Type 0) (asking : Request → AskedAgent) (trails :
   was_written WriteFault events written trail w = stopped events written trail w
   was_written NoMemory events written trail w = stopped events written trail w
 
+  -- by the same session
+  same_session : (end : PipeEnd) (events : List Heard) (written trail : List ℕ) (w : IsWritten may_give asking trails begun leaves end events written trail)
+      → written_session may_give asking trails begun leaves end events written trail w ≡ written_session may_give asking trails begun less end events written trail (was_written end events written trail w)
+  unfolding was_written served stopped
+  same_session Peer events written trail w = refl
+  same_session (Cut rest) events written trail w = refl
+  same_session Closed events written trail w = refl
+  same_session Limit events written trail w = refl
+  same_session Upgraded events written trail w = refl
+  same_session (Bad status) events written trail w = refl
+  same_session ReadFault events written trail w = refl
+  same_session ReadLimit events written trail w = refl
+  same_session WriteFault events written trail w = refl
+  same_session NoMemory events written trail w = refl
+
   pub pipes_weaker : (end : PipeEnd) (old_input new_input old_output new_output old_errors new_errors : Option (List ℕ)) (before after : ℕ)
       → PipesAndTells may_give asking trails begun leaves end old_input new_input old_output new_output old_errors new_errors before after
       → PipesAndTells may_give asking trails begun less end old_input new_input old_output new_output old_errors new_errors before after
+  unfolding stopped
   pipes_weaker end old_input new_input old_output new_output old_errors new_errors before after p = record {
     trailed = p.trailed;
     pipes = record {
@@ -53,6 +69,9 @@ module _ (may_give : ℕ → Type 0) (asking : Request → AskedAgent) (trails :
       trails_too = p.pipes.trails_too;
     };
     tells = p.tells;
+    over_all = λ all rest m.
+        let stops = p.over_all all rest m in
+        (stopped all p.pipes.written p.pipes.trail stops.0, stops.1 ∙ same_session end p.pipes.heard p.pipes.written p.pipes.trail p.pipes.serves);
   }
 
   pub session_weaker : (old_input new_input old_output new_output : Option (List ℕ))
@@ -105,7 +124,12 @@ module _ (may_give : ℕ → Type 0) (asking : Request → AskedAgent) (trails :
   }
 
   pub unserved : (faults : ℕ) → PipesAndTells may_give asking trails begun leaves NoMemory input input output output errors errors faults faults
-  unserved faults = record { trailed = errors; pipes = nothing_piped; tells = refl }
+  unserved faults = record {
+    trailed = errors;
+    pipes = nothing_piped;
+    tells = refl;
+    over_all = stops_over may_give asking trails begun leaves NoMemory input input output output errors errors nothing_piped;
+  }
 
   pub unserved_session : WritesSession may_give asking trails begun leaves input input output output
   unserved_session = writes_session may_give asking trails begun leaves NoMemory input input output output errors errors nothing_piped

@@ -5,13 +5,15 @@ use Rattle.http_conn.specs.Messages.{Messages}
 use Rattle.line_sink.specs.Writing.{ExtendsBy}
 use Rattle.pod_base.specs.declared.heard.Heard.{Heard}
 use Rattle.pod_base.specs.declared.request.Request.{Request}
-use Rattle.pod_core.specs.History.{History, IsHistory, end_of}
+use Rattle.pod_command.specs.declared.entry.Entry.{Entry}
+use Rattle.pod_core.specs.History.{History, IsHistory, end_of, longer}
 use Rattle.pod_core.specs.Output.{output}
-use Rattle.pod_core.specs.Session.{Outcome, answered, no_memory, disk_fault, Item, Session}
+use Rattle.pod_core.specs.Session.{IsClockMoment, Item, Outcome, Session, answered, disk_fault}
+use Rattle.pod_core.specs.Session.{entries_of, no_memory}
 use Rattle.pod_core.specs.Session.{IsSession, IsWhole, ends_upgraded}
 use Rattle.session_laws.specs.Isolated.{IsIsolated, grown}
 use Rattle.token_table.specs.Credentials.{AskedAgent}
-use Rattle.pod_pipe.specs.Holders.{Faults, CountsUnanswered, Goes}
+use Rattle.pod_pipe.specs.Holders.{Faults, CountsUnanswered}
 use Rattle.pod_pipe.specs.Streams.{Reads}
 use Rattle.conn_talk.specs.Trails.{trail_of}
 
@@ -47,14 +49,29 @@ pub record Continues (may_give : ℕ → Type 0) (asking : Request → AskedAgen
       (end_of session.history)
   pub isolated : IsIsolated may_give asking begun events session
 
--- The returned holder, which represented the history: it has advanced to the history with the
--- items' entries, and each item that met a disk fault or ran out of memory was counted.
-pub record Leaves {H : Type 0} (stands : H → History → Type 0) (faults : H → Faults)
-    (follows : H → History → H → History → Type 0) (begun : History) (old new : H)
-    (items : List Item) : Type 0 where
-  pub gone : Goes stands follows old begun new (grown begun items)
-  pub counted : CountsUnanswered (disk_faults items) (out_of_memory_items items) (faults old)
-      (faults new)
+module _ {H : Type 0} (stands : H → History → Option Entry → Type 0)
+    (takes : ℕ → ℕ → H → History → Option Entry → Item → H → Option Entry → Type 0)
+    (may_give : ℕ → Type 0) where
+  -- The items of connection 1, one after the other: between two of them the holder represents the
+  -- history with the entries of those before, and `takes` holds of each.
+  abbrev pub TakesAll : H → History → Option Entry → List Item → H → Option Entry → Type 0
+  TakesAll old history doubt [] new after = (new ≡ old) × (after ≡ doubt)
+  TakesAll old history doubt (item ∷ items) new after = (mid : H) × (between : Option Entry)
+      × stands mid (longer history (entries_of item)) between
+      × ((clock : ℕ) × IsClockMoment may_give clock
+      × takes 1 clock old history doubt item mid between)
+      × TakesAll mid (longer history (entries_of item)) between items new after
+
+  -- The returned holder, which represented the history with that in doubt: it has advanced to the
+  -- history with the items' entries, item by item, and each item that met a disk fault or ran out
+  -- of memory was counted.
+  pub record Leaves (faults : H → Faults) (begun : History) (doubt : Option Entry) (old new : H)
+      (items : List Item) : Type 0 where
+    pub after : Option Entry
+    pub represents : stands new (grown begun items) after
+    pub taken : TakesAll old begun doubt items new after
+    pub counted : CountsUnanswered (disk_faults items) (out_of_memory_items items) (faults old)
+        (faults new)
 
 module _ (may_give : ℕ → Type 0) (asking : Request → AskedAgent) (trails : Bool) (begun : History)
     (leaves : List Item → Type 0) where

@@ -7,7 +7,7 @@ use Rattle.line_sink.specs.Writing.{AddsOrPart, AddsPart, ExtendsBy}
 use Rattle.pod_base.specs.declared.heard.Heard.{Heard}
 use Rattle.pod_base.specs.declared.request.Request.{Request}
 use Rattle.pod_core.specs.History.{History}
-use Rattle.pod_core.specs.Session.{Item, requests_of, bad_status}
+use Rattle.pod_core.specs.Session.{Item, Session, requests_of, bad_status}
 use Rattle.token_table.specs.Credentials.{AskedAgent}
 use Rattle.pod_pipe.specs.Streams.{Reads, AtEnd}
 use Rattle.pod_pipe.specs.Served.{IsServed, IsStopped}
@@ -78,6 +78,20 @@ module _ (may_give : ℕ → Type 0) (asking : Request → AskedAgent) (trails :
   IsWritten _ heard written trail =
       IsServed may_give asking trails begun leaves false heard written trail
 
+  -- that session
+  abbrev pub written_session : (end : PipeEnd) (heard : List Heard) (written trail : List ℕ)
+      → IsWritten end heard written trail → Session
+  written_session Peer heard written trail w = w.session
+  written_session (Cut rest) heard written trail w = w.session
+  written_session Closed heard written trail w = w.session
+  written_session Limit heard written trail w = w.session
+  written_session Upgraded heard written trail w = w.session
+  written_session (Bad status) heard written trail w = w.session
+  written_session ReadFault heard written trail w = w.session
+  written_session ReadLimit heard written trail w = w.session
+  written_session WriteFault heard written trail w = w.session
+  written_session NoMemory heard written trail w = w.session
+
   -- The input returned the bytes that were read, the output has those that were written, and the
   -- error sink the trail: those of a session over the events.
   pub record Pipes (end : PipeEnd) (old_input new_input old_output new_output old_errors new_errors
@@ -126,20 +140,39 @@ IsTold NoMemory = ⊥
 IsTold ReadLimit = ⊥
 IsTold _ = Unit {0}
 
--- How a connection ends that ended so: a line that can't be written is a write fault, one that
--- can't be made is out of memory.
+-- it is an end of status 0, the only one whose line may fail
+abbrev pub IsDone : PipeEnd → Type 0
+IsDone Peer = Unit {0}
+IsDone Closed = Unit {0}
+IsDone Limit = Unit {0}
+IsDone Upgraded = Unit {0}
+IsDone _ = ⊥
+
+-- internal: its line has a number
+abbrev pub HasNumber : PipeEnd → Type 0
+HasNumber (Cut rest) = Unit {0}
+HasNumber (Bad status) = Unit {0}
+HasNumber _ = ⊥
+
+-- How a connection ends that ended so: where the line of an end of status 0 can't be written, that
+-- is a write fault.
 abbrev pub ComesOf : PipeEnd → PipeEnd → Type 0
-ComesOf end told = (told ≡ end) ⊎ (IsTold end × ((told ≡ WriteFault) ⊎ (told ≡ NoMemory)))
+ComesOf end told = (told ≡ end) ⊎ (IsDone end × (told ≡ WriteFault))
 
 module _ (may_give : ℕ → Type 0) (asking : Request → AskedAgent) (trails : Bool) (begun : History)
     (leaves : List Item → Type 0) where
-  -- The same with the last line after the trail.
+  -- The same with the last line after the trail. And the bytes written are a prefix of those of the
+  -- same session over each parse of the bytes read.
   pub record PipesAndTells (end : PipeEnd) (old_input new_input old_output new_output old_errors
       new_errors : Option (List ℕ)) (before after : ℕ) : Type 0 where
     pub trailed : Option (List ℕ)
     pub pipes : Pipes may_give asking trails begun leaves end old_input new_input old_output
         new_output old_errors trailed
     pub tells : Tells end trailed new_errors before after
+    pub over_all : (all : List Heard) (rest : ℕ) → Messages pipes.read all rest
+        → (stops : IsStopped may_give asking trails begun leaves all pipes.written pipes.trail)
+        × (stops.session ≡ written_session may_give asking trails begun leaves end pipes.heard
+        pipes.written pipes.trail pipes.serves)
 
 -- nothing was read or written
 pub record Untouched

@@ -5,7 +5,6 @@ use Rattle.pod_io.specs.Counts.{next_count}
 use Rattle.pod_io.specs.Visible.{IfVisible}
 use Rattle.pod_pipe.specs.declared.status.PipeEnd.{PipeEnd}
 use Rattle.pod_pipe.specs.declared.status.PipeEnd.TheVariants.{Peer, Cut, ReadLimit, WriteFault}
-use Rattle.pod_pipe.specs.declared.status.PipeEnd.TheVariants.{NoMemory}
 
 -- these bytes were read: they preceded what is left of the input
 abbrev pub Reads : List ℕ → Option (List ℕ) → Option (List ℕ) → Type 0
@@ -21,7 +20,6 @@ abbrev pub MeetsEnd : PipeEnd → ℕ → ℕ → Type 0
 MeetsEnd Peer old new = new ≡ next_count old
 MeetsEnd (Cut rest) old new = new ≡ next_count old
 MeetsEnd WriteFault old new = (new ≡ old) ⊎ (new ≡ next_count old)
-MeetsEnd NoMemory old new = (new ≡ old) ⊎ (new ≡ next_count old)
 MeetsEnd _ old new = new ≡ old
 
 -- the reads that were counted are at most 2^40

@@ -1,6 +1,7 @@
 //! [`pipe`]: one connection over two streams, with its last line.
-ghost use Rattle.std.specs.Prelude.{◌≡◌, ◌≤◌, ◌⊎◌};
+ghost use Rattle.std.specs.Prelude.{◌≡◌, ◌≤◌, ◌⊎◌, Option};
 ghost use Rattle.pod_base.specs.Counts.{CountIncreased};
+ghost use Rattle.pod_command.specs.declared.entry.Entry.{Entry};
 ghost use Rattle.pod_core.specs.History.{History};
 ghost use Rattle.conn_talk.specs.Agents.{asking_of};
 ghost use Rattle.pod_pipe.specs.Served.{Leaves, WritesSession};
@@ -28,7 +29,7 @@ pub struct Piped<H> {
 ///
 /// Each piece is answered before the next one is read. For each history that the holder
 /// represented, what was written is the output of a session from its end on, and the holder then
-/// represents that history with the entries of the session's items.
+/// represents that history with the entries of the session's items, item by item.
 pub fn pipe<H: PodHolder, S: Source, K: Sink, E: Sink, C: Clock>(
     alloc: Global,
     holder: H,
@@ -38,19 +39,21 @@ pub fn pipe<H: PodHolder, S: Source, K: Sink, E: Sink, C: Clock>(
     errors: &mut E,
     clock: &C,
 ) -> Piped<H>
-    requires { (history : History) × H.stands holder history }
+    requires { (history : History) × (doubt : Option Entry) × H.stands holder history doubt }
 
-    // For each history that the holder represented.
-    ensures pipes { (history : History) → H.stands holder history
+    // For each history that the holder represented, with an entry in doubt or without.
+    ensures pipes { (history : History) (doubt : Option Entry) → H.stands holder history doubt
         → PipesAndTells (C.may_give clock.now) (asking_of options.now.agents) options.now.trail
-        history (Leaves H.stands H.faults H.follows history holder result.holder) result.end
+        history (Leaves H.stands H.takes (C.may_give clock.now) H.faults history doubt holder
+        result.holder) result.end
         (S.rest input.old) (S.rest input.new) (K.taken output.old) (K.taken output.new)
         (E.taken errors.old) (E.taken errors.new) (E.faults errors.old) (E.faults errors.new) }
 
     // Whatever the end, what was written is a prefix of the output of a session over what was read.
-    ensures session { (history : History) → H.stands holder history
+    ensures session { (history : History) (doubt : Option Entry) → H.stands holder history doubt
         → WritesSession (C.may_give clock.now) (asking_of options.now.agents) options.now.trail
-        history (Leaves H.stands H.faults H.follows history holder result.holder)
+        history (Leaves H.stands H.takes (C.may_give clock.now) H.faults history doubt holder
+        result.holder)
         (S.rest input.old) (S.rest input.new) (K.taken output.old) (K.taken output.new) }
     ensures counts { CountsInput result.end (S.reads input.old) (S.reads input.new)
         (S.ends input.old) (S.ends input.new) }
@@ -67,7 +70,7 @@ pub fn pipe<H: PodHolder, S: Source, K: Sink, E: Sink, C: Clock>(
 {
     let mut held = Held { holder };
     let end = serve(alloc, &mut held, options, input, output, errors, clock);
-    let end = write_end_line(alloc, end, errors);
+    let end = write_end_line(end, errors);
     let Held { holder } = held;
     Piped { end, holder }
 }

@@ -13,13 +13,16 @@ pub(crate) struct Held<H> {
 }
 
 impl<H: PodHolder> Answers for Held<H> {
+    ghost use Rattle.std.specs.Prelude.{Option};
+    ghost use Rattle.pod_command.specs.declared.entry.Entry.{Entry};
     ghost use Rattle.pod_core.specs.History.{History};
     ghost use Rattle.pod_pipe.specs.Held.{HolderTurns};
 
-    ghost ready = { λ held. (history : History) × H.stands held.holder history };
+    ghost ready = { λ held.
+        (history : History) × (doubt : Option Entry) × H.stands held.holder history doubt };
 
     ghost turns = { λ conn clock old item new.
-        HolderTurns H.stands H.faults H.follows conn clock old.holder item new.holder };
+        HolderTurns H.stands H.faults H.takes conn clock old.holder item new.holder };
 
     ghost passes = { λ request old new. ⊥ };
 

@@ -8,7 +8,7 @@ ghost use Rattle.reply_laws.specs.Granted.{is_change};
 ghost use Rattle.reply_laws.specs.Sent.{IsSent};
 ghost use Rattle.token_table.specs.Credentials.{asked_view};
 ghost use Rattle.pod_pipe.specs.Holders.{AnswersAtEnd};
-ghost use Rattle.pod_pipe.specs.Memory.{memory_stands, nothing_follows};
+ghost use Rattle.pod_pipe.specs.Memory.{memory_stands, memory_takes};
 
 use crate::holder::{HolderFault, PodHolder};
 use conn_talk::Answer;
@@ -71,7 +71,7 @@ impl MemoryPod {
         asked: &Asked<'_>,
         stamp: Stamp,
     ) -> Mem<Answer>
-        ensures answered { IfOk result (λ answer. AnswersAtEnd memory_stands nothing_follows
+        ensures answered { IfOk result (λ answer. AnswersAtEnd memory_stands memory_takes
             self.old self.new request.now (asked_view asked.now) stamp answer) }
         ensures sent { IfOk result (λ answer. IsSent answer.response) }
         ensures out_of_memory { self.new.out_of_memory ≡ self.old.out_of_memory }
@@ -95,11 +95,14 @@ impl MemoryPod {
 }
 
 impl PodHolder for MemoryPod {
-    ghost use Rattle.pod_pipe.specs.Memory.{memory_faults, memory_stands, nothing_follows};
+    ghost use Rattle.pod_pipe.specs.Memory.{memory_faults, memory_stands, memory_takes};
+    ghost use Rattle.pod_pipe.specs.Memory.{same_memory};
 
     ghost stands = { memory_stands };
 
-    ghost follows = { nothing_follows };
+    ghost takes = { memory_takes };
+
+    ghost same = { same_memory };
 
     ghost faults = { memory_faults };
 
@@ -119,9 +122,5 @@ impl PodHolder for MemoryPod {
         }
     }
 
-    ghost legal = { λ _ _ stands. stands.is_history };
-
-    ghost still = { λ _ _. tt };
-
-    ghost joins = { λ _ _ _ _ _ _ _ _. tt };
+    ghost legal = { λ _ _ _ stands. stands.0.is_history };
 }

@@ -1,55 +1,26 @@
 //! The last line of a connection, on the error sink.
-ghost use Rattle.std.specs.Prelude.{◌≡◌, ◌≤◌, ◌⊎◌, ◌++◌, IfOk, codes, decimal};
+ghost use Rattle.std.specs.Prelude.{◌≡◌, ◌≤◌, ◌⊎◌};
+ghost use Rattle.line_sink.specs.Writing.{number_line};
 ghost use Rattle.pod_base.specs.Counts.{CountIncreased};
-ghost use Rattle.pod_pipe.specs.Statuses.{ComesOf, Tells, end_line, status_of};
+ghost use Rattle.pod_pipe.specs.Statuses.{ComesOf, HasNumber, Tells, end_line, status_of};
 
 use crate::status::PipeEnd;
-use itoa::Buffer;
-use line_sink::write_all;
-use pod_base::{Bytes, BytesBuilder, Mem};
+use line_sink::{write_all, write_number_line};
 use pod_io::Sink;
-use std::alloc::Global;
 
-/// A word and a number, as a line.
-fn number_line(alloc: Global, word: &[u8], number: u64) -> Mem<Bytes>
-    ensures { IfOk result (λ line. line ≡ word.now ++ decimal number ++ codes "\n") }
-{
-    let mut line = BytesBuilder::new(alloc);
-    line.append(alloc, word)?;
-    line.append(alloc, Buffer::new().format(number).as_bytes())?;
-    line.append(alloc, b"\n")?;
-    line.freeze(alloc)
-}
-
-/// Reports that the input ended inside a message.
-fn write_cut<E: Sink>(alloc: Global, rest: usize, errors: &mut E) -> PipeEnd
-    ensures end { (result ≡ PipeEnd.Cut rest) ⊎ (result ≡ PipeEnd.NoMemory) }
+/// Reports that the input ended inside a message, or that a malformed one was refused, by a word and
+/// a number. A failed write changes nothing.
+fn write_number<E: Sink>(end: PipeEnd, word: &[u8], number: u64, errors: &mut E) -> PipeEnd
+    requires line { number_line word.now number ≡ end_line end }
+    requires number { HasNumber end }
+    ensures end { result ≡ end }
     ensures told { Tells result (E.taken errors.old) (E.taken errors.new) (E.faults errors.old)
         (E.faults errors.new) }
     ensures no_fewer { E.faults errors.old ≤ E.faults errors.new }
 {
-    let Ok(line) = number_line(alloc, b"end: cut ", rest as u64) else {
-        return PipeEnd::NoMemory;
-    };
-    match write_all(errors, line.as_slice()) {
-        Ok(()) => PipeEnd::Cut { rest },
-        Err(_failed) => PipeEnd::Cut { rest },
-    }
-}
-
-/// Reports that a malformed message was refused.
-fn write_bad<E: Sink>(alloc: Global, status: u16, errors: &mut E) -> PipeEnd
-    ensures end { (result ≡ PipeEnd.Bad status) ⊎ (result ≡ PipeEnd.NoMemory) }
-    ensures told { Tells result (E.taken errors.old) (E.taken errors.new) (E.faults errors.old)
-        (E.faults errors.new) }
-    ensures no_fewer { E.faults errors.old ≤ E.faults errors.new }
-{
-    let Ok(line) = number_line(alloc, b"end: bad ", u64::from(status)) else {
-        return PipeEnd::NoMemory;
-    };
-    match write_all(errors, line.as_slice()) {
-        Ok(()) => PipeEnd::Bad { status },
-        Err(_failed) => PipeEnd::Bad { status },
+    match write_number_line(errors, word, number) {
+        Ok(()) => end,
+        Err(_failed) => end,
     }
 }
 
@@ -71,8 +42,8 @@ fn write_done<E: Sink>(end: PipeEnd, line: &[u8], errors: &mut E) -> PipeEnd
 }
 
 /// Reports by a last line how a connection ended, unless a fault, out of memory or the limit on
-/// reads ended it.
-pub fn write_end_line<E: Sink>(alloc: Global, end: PipeEnd, errors: &mut E) -> PipeEnd
+/// reads ended it. It takes no memory.
+pub fn write_end_line<E: Sink>(end: PipeEnd, errors: &mut E) -> PipeEnd
     ensures end { ComesOf end result }
     ensures told { Tells result (E.taken errors.old) (E.taken errors.new) (E.faults errors.old)
         (E.faults errors.new) }
@@ -85,8 +56,8 @@ pub fn write_end_line<E: Sink>(alloc: Global, end: PipeEnd, errors: &mut E) -> P
         PipeEnd::Closed => write_done(end, b"end: closed\n", errors),
         PipeEnd::Limit => write_done(end, b"end: limit\n", errors),
         PipeEnd::Upgraded => write_done(end, b"end: upgraded\n", errors),
-        PipeEnd::Cut { rest } => write_cut(alloc, rest, errors),
-        PipeEnd::Bad { status } => write_bad(alloc, status, errors),
+        PipeEnd::Cut { rest } => write_number(end, b"end: cut ", rest as u64, errors),
+        PipeEnd::Bad { status } => write_number(end, b"end: bad ", u64::from(status), errors),
         PipeEnd::WriteFault => PipeEnd::WriteFault,
         PipeEnd::ReadFault => PipeEnd::ReadFault,
         PipeEnd::NoMemory => PipeEnd::NoMemory,

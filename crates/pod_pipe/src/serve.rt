@@ -1,6 +1,7 @@
 //! Serves an input as one connection.
-ghost use Rattle.std.specs.Prelude.{◌≡◌, ◌≢◌, ◌==◌, ◌≤◌, ◌⊎◌, if◌then◌else◌};
+ghost use Rattle.std.specs.Prelude.{◌≡◌, ◌≢◌, ◌==◌, ◌≤◌, ◌⊎◌, Option, if◌then◌else◌};
 ghost use Rattle.pod_base.specs.Counts.{CountIncreased};
+ghost use Rattle.pod_command.specs.declared.entry.Entry.{Entry};
 ghost use Rattle.pod_core.specs.History.{History};
 ghost use Rattle.conn_talk.specs.Agents.{asking_of};
 ghost use Rattle.pod_pipe.specs.Held.{end_of_talk};
@@ -64,10 +65,13 @@ pub(crate) fn serve<H: PodHolder, S: Source, K: Sink, E: Sink, C: Clock>(
     errors: &mut E,
     clock: &C,
 ) -> PipeEnd
-    requires { (history : History) × H.stands held.old.holder history }
-    ensures pipes { (history : History) → H.stands held.old.holder history
+    requires { (history : History) × (doubt : Option Entry)
+        × H.stands held.old.holder history doubt }
+    ensures pipes { (history : History) (doubt : Option Entry)
+        → H.stands held.old.holder history doubt
         → Pipes (C.may_give clock.now) (asking_of options.now.agents) options.now.trail history
-        (Leaves H.stands H.faults H.follows history held.old.holder held.new.holder) result
+        (Leaves H.stands H.takes (C.may_give clock.now) H.faults history doubt held.old.holder
+        held.new.holder) result
         (S.rest input.old) (S.rest input.new) (K.taken output.old) (K.taken output.new)
         (E.taken errors.old) (E.taken errors.new) }
     ensures counts { CountsInput result (S.reads input.old) (S.reads input.new)

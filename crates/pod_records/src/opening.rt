@@ -48,6 +48,8 @@ pub fn open_store<D: Disk>(
         opened.records.items)) }
     ensures read { IfOk result (λ opened. IsReadTo opened.pair.journal.format opened.records.items
         opened.reading.version opened.reading.last) }
+    ensures later_first { D.moment first.old ≤ D.moment first.new }
+    ensures later_second { D.moment second.old ≤ D.moment second.new }
     ensures no_fewer_first { D.faults first.old ≤ D.faults first.new }
     ensures no_fewer_second { D.faults second.old ≤ D.faults second.new }
     ensures cause { IfErr result (HasPodCause (D.content first.old) (D.content second.old)

@@ -7,7 +7,7 @@ use Rattle.store_commands.specs.Ends.{IsInitEnd, status_of}
 use Rattle.store_commands.specs.declared.ends.StoreEnd.{StoreEnd}
 use Rattle.store_commands.specs.declared.ends.StoreEnd.TheVariants.{Done, WriteFault, Damaged, DiskFault, NoMemory, NotEmpty, Empty}
 use Rattle.store_pipe.specs.StoreRuns.{Streams}
-use Rattle.store_pipe.specs.Tables.{TokenSource}
+use Rattle.store_pipe.specs.Tables.{IsUnread, TokenSource}
 use Rattle.pod_tool.specs.Runs.{Runs}
 use Rattle.pod_tool.specs.Stores.{IsIdle, IsUnbegun}
 
@@ -46,14 +46,14 @@ if_some_twice None P each = tt
 if_some_twice (Some x) P each = each x
 
 -- no memory was left for the words
-module _ {D : Type 0} (content : D → Option (List ℕ)) (image : D → List ℕ → Type 0) (moment : D → ℕ) (left_since : D → ℕ → List ℕ → Type 0) (faults : D → ℕ) (first second : D) (may_give : ℕ → Type 0) (tokens : TokenSource) (streams : Streams) (status : ℕ) (is : status ≡ 7) (idle : IsIdle streams) where
+module _ {D : Type 0} (content : D → Option (List ℕ)) (image : D → List ℕ → Type 0) (moment : D → ℕ) (left_since : D → ℕ → List ℕ → Type 0) (faults : D → ℕ) (first second : D) (may_give : ℕ → Type 0) (tokens : TokenSource) (streams : Streams) (status : ℕ) (is : status ≡ 7) (idle : IsIdle streams) (unread : IsUnread tokens) where
   unbegun : IsUnbegun first second first second status
   unbegun = record { status_is = is; first_is = refl; second_is = refl }
 
   pub has_not_begun : (command : Command) → Runs content image moment left_since faults first second first second may_give command tokens streams status
   has_not_begun (Init base owner) = inl unbegun
-  has_not_begun (Pipe ByTokens trail) = inl (unbegun, idle)
-  has_not_begun (Pipe Owner trail) = inl (unbegun, idle)
+  has_not_begun (Pipe ByTokens trail) = inl (unbegun, idle, unread)
+  has_not_begun (Pipe Owner trail) = inl (unbegun, idle, unread)
   has_not_begun (Pipe (Fresh owner) trail) = inl (is, idle)
   has_not_begun Check = inl (unbegun, idle.unwritten)
   has_not_begun Audit = inl (unbegun, idle.unwritten)

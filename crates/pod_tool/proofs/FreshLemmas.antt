@@ -1,5 +1,5 @@
 -- A connection of a new pod in memory.
-use Rattle.std.proofs.Common.{◌≡◌, inl, ℕ, Bool, List, Option, refl, ap, subst, arith}
+use Rattle.std.proofs.Common.{◌≡◌, ℕ, Bool, List, Option, None, refl, ap, subst, arith}
 use Rattle.first_rows.specs.FirstPods.{first_pod}
 use Rattle.first_rows.proofs.FirstPodLaws.{first_pods_well_formed}
 use Rattle.pod_base.specs.declared.request.Request.{Request}
@@ -7,7 +7,7 @@ use Rattle.pod_core.specs.History.{IsHistory}
 use Rattle.pod_core.specs.Session.{IsClockMoment, Item}
 use Rattle.token_table.specs.Credentials.{AskedAgent}
 use Rattle.conn_talk.specs.Agents.{asking_of}
-use Rattle.pod_pipe.specs.Memory.{IsMemoryOf, memory_faults, memory_stands, nothing_follows}
+use Rattle.pod_pipe.specs.Memory.{IsMemoryOf, memory_faults, memory_stands, memory_takes}
 use Rattle.pod_pipe.specs.Served.{Leaves, WritesSession}
 use Rattle.pod_pipe.specs.Statuses.{PipesAndTells, status_of}
 use Rattle.pod_pipe.specs.Streams.{CountsInput}
@@ -31,16 +31,16 @@ pub fresh_stands : (owner : List ℕ) (made : ℕ) (pod : Pod) (next last : ℕ)
 fresh_stands owner made pod next last is none zero = record { is_history = fresh_is_history owner made; pod_is = is; next_is = none; last_is = zero }
 
 -- what is left of a pod in memory
-abbrev pub LeavesPod : List ℕ → ℕ → MemoryPod → MemoryPod → List Item → Type 0
-LeavesPod owner made = Leaves memory_stands memory_faults nothing_follows (fresh_history owner made)
+abbrev pub LeavesPod : (ℕ → Type 0) → List ℕ → ℕ → MemoryPod → MemoryPod → List Item → Type 0
+LeavesPod may_give owner made = Leaves memory_stands memory_takes may_give memory_faults (fresh_history owner made) None
 
-no_disk : (owner : List ℕ) (made : ℕ) (old new : MemoryPod) (items : List Item) → LeavesPod owner made old new items → MeetsNoDisk items
-no_disk owner made old new items left = omega (arith, left.counted.disks.counted (omega arith) (omega arith))
+no_disk : (may_give : ℕ → Type 0) (owner : List ℕ) (made : ℕ) (old new : MemoryPod) (items : List Item) → LeavesPod may_give owner made old new items → MeetsNoDisk items
+no_disk may_give owner made old new items left = omega (arith, left.counted.disks.counted (omega arith) (omega arith))
 
 module _ (may_give : ℕ → Type 0) (owner : List ℕ) (trail : Bool) (streams : Streams) (status made : ℕ) (given : IsClockMoment may_give made) where
   pub runs_fresh : (options : PipeOptions) → options.agents ≡ Owner owner → options.trail ≡ trail → (end : PipeEnd) → status ≡ status_of end → (old new : MemoryPod)
-      → PipesAndTells may_give (asking_of options.agents) options.trail (fresh_history owner made) (LeavesPod owner made old new) end streams.old_input streams.new_input streams.old_output streams.new_output streams.old_errors streams.new_errors streams.old_faults streams.new_faults
-      → WritesSession may_give (asking_of options.agents) options.trail (fresh_history owner made) (LeavesPod owner made old new) streams.old_input streams.new_input streams.old_output streams.new_output
+      → PipesAndTells may_give (asking_of options.agents) options.trail (fresh_history owner made) (LeavesPod may_give owner made old new) end streams.old_input streams.new_input streams.old_output streams.new_output streams.old_errors streams.new_errors streams.old_faults streams.new_faults
+      → WritesSession may_give (asking_of options.agents) options.trail (fresh_history owner made) (LeavesPod may_give owner made old new) streams.old_input streams.new_input streams.old_output streams.new_output
       → CountsInput end streams.old_reads streams.new_reads streams.old_ends streams.new_ends → RunsFresh may_give owner trail streams status
   runs_fresh options agents trailed end is old new pipes session counts = record {
     end = end;
@@ -49,10 +49,10 @@ module _ (may_give : ℕ → Type 0) (owner : List ℕ) (trail : Bool) (streams 
     clock = given;
     pipes = subst (λ (t : Bool). PipesAndTells may_give (asking_owner owner) t (fresh_history owner made) MeetsNoDisk end streams.old_input streams.new_input streams.old_output streams.new_output streams.old_errors streams.new_errors streams.old_faults streams.new_faults) trailed
         (subst (λ (a : Request → AskedAgent). PipesAndTells may_give a options.trail (fresh_history owner made) MeetsNoDisk end streams.old_input streams.new_input streams.old_output streams.new_output streams.old_errors streams.new_errors streams.old_faults streams.new_faults) (ap asking_of agents)
-        (pipes_weaker may_give (asking_of options.agents) options.trail (fresh_history owner made) _ MeetsNoDisk (no_disk owner made old new) end streams.old_input streams.new_input streams.old_output streams.new_output streams.old_errors streams.new_errors streams.old_faults streams.new_faults pipes));
+        (pipes_weaker may_give (asking_of options.agents) options.trail (fresh_history owner made) _ MeetsNoDisk (no_disk may_give owner made old new) end streams.old_input streams.new_input streams.old_output streams.new_output streams.old_errors streams.new_errors streams.old_faults streams.new_faults pipes));
     session = subst (λ (t : Bool). WritesSession may_give (asking_owner owner) t (fresh_history owner made) MeetsNoDisk streams.old_input streams.new_input streams.old_output streams.new_output) trailed
         (subst (λ (a : Request → AskedAgent). WritesSession may_give a options.trail (fresh_history owner made) MeetsNoDisk streams.old_input streams.new_input streams.old_output streams.new_output) (ap asking_of agents)
-        (session_weaker may_give (asking_of options.agents) options.trail (fresh_history owner made) _ MeetsNoDisk (no_disk owner made old new) streams.old_input streams.new_input streams.old_output streams.new_output session));
+        (session_weaker may_give (asking_of options.agents) options.trail (fresh_history owner made) _ MeetsNoDisk (no_disk may_give owner made old new) streams.old_input streams.new_input streams.old_output streams.new_output session));
     counts = counts;
   }
 
@@ -66,7 +66,7 @@ unserved_run may_give owner trail made given input output errors faults reads en
   clock = given;
   pipes = unserved may_give (asking_owner owner) trail (fresh_history owner made) (fresh_is_history owner made) MeetsNoDisk refl input output errors faults;
   session = unserved_session may_give (asking_owner owner) trail (fresh_history owner made) (fresh_is_history owner made) MeetsNoDisk refl input output errors;
-  counts = record { reads = no_reads reads; limit = λ e. absurd cc; ends = inl refl };
+  counts = record { reads = no_reads reads; limit = λ e. absurd cc; ends = refl };
 }
 
 -- the one end of status 4

@@ -18,16 +18,16 @@ use Rattle.pod_tool.specs.Loads.{AllAnswered, IsLoaded, IsLoadMoment, load_histo
 use Rattle.pod_tool.proofs.FreshLemmas.{LeavesPod}
 
 -- each request was answered, and the pod that is left is the one behind them
-pub all_answered : (old new : MemoryPod) (rows : ℕ) → new.out_of_memory ≡ 0 → rows ≡ length new.state.pod.rows → (items : List Item) → LeavesPod load_owner LOAD_MOMENT old new items → AllAnswered rows items
+pub all_answered : (old new : MemoryPod) (rows : ℕ) → new.out_of_memory ≡ 0 → rows ≡ length new.state.pod.rows → (items : List Item) → LeavesPod IsLoadMoment load_owner LOAD_MOMENT old new items → AllAnswered rows items
 all_answered old new rows none are items left = record {
   no_fault = omega (arith, left.counted.disks.counted (omega arith) (omega arith));
   no_want = omega (arith, none, left.counted.out_of_memory.counted (omega (arith, none)));
-  rows_are = are ∙ ap (λ (p : Pod). length p.rows) left.gone.0.pod_is;
+  rows_are = are ∙ ap (λ (p : Pod). length p.rows) left.represents.0.pod_is;
 }
 
 module _ (requests : ℕ) (bytes taken told_first written : List ℕ) (options : PipeOptions) (is_stream : bytes ≡ stream requests) (nothing : taken ≡ []) (nothing_told : told_first ≡ []) (agents : options.agents ≡ Owner load_owner) (trail : options.trail ≡ false) where
   pub loaded : (end : PipeEnd) → IsTold end → (old new : MemoryPod) (rows : ℕ) → new.out_of_memory ≡ 0 → rows ≡ length new.state.pod.rows → (left errors : Option (List ℕ)) (before after : ℕ)
-      → PipesAndTells IsLoadMoment (asking_of options.agents) options.trail load_history (LeavesPod load_owner LOAD_MOMENT old new) end (Some bytes) left (Some taken) (Some written) (Some told_first) errors before after
+      → PipesAndTells IsLoadMoment (asking_of options.agents) options.trail load_history (LeavesPod IsLoadMoment load_owner LOAD_MOMENT old new) end (Some bytes) left (Some taken) (Some written) (Some told_first) errors before after
       → IsLoaded requests written rows
   loaded end told old new rows none are left errors before after pipes =
       let weak = pipes_weaker IsLoadMoment (asking_of options.agents) options.trail load_history _ (AllAnswered rows) (all_answered old new rows none are) end (Some bytes) left (Some taken) (Some written) (Some told_first) errors before after pipes in

@@ -14,7 +14,7 @@ use Rattle.store_commands.specs.Prints.{Prints, Tells}
 use Rattle.store_commands.specs.declared.ends.StoreEnd.{StoreEnd}
 use Rattle.store_commands.specs.declared.ends.StoreEnd.TheVariants.{Done, NoMemory, NotEmpty}
 use Rattle.store_pipe.specs.StoreRuns.{IsUnserved, RunsStore, Streams}
-use Rattle.store_pipe.specs.Tables.{TokenSource}
+use Rattle.store_pipe.specs.Tables.{IsUnread, TokenSource}
 
 -- a disk that shows its content isn't empty
 abbrev pub HoldsSome : Option (List ℕ) → Type 0
@@ -92,6 +92,6 @@ module _ {D : Type 0} (content : D → Option (List ℕ)) (image : D → List �
     -- what a run of `pipe` over the store does, with agents by the token table or not
     abbrev pub RunsStored : (ℕ → Type 0) → Bool → Bool → TokenSource → Streams → ℕ → Type 0
     RunsStored may_give by_tokens trail tokens streams status =
-        (IsUnbegun first second first_new second_new status × IsIdle streams)
+        (IsUnbegun first second first_new second_new status × IsIdle streams × IsUnread tokens)
         ⊎ RunsStore image moment left_since faults may_give by_tokens trail content
         first second first_new second_new tokens streams status

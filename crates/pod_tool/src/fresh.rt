@@ -1,5 +1,5 @@
 //! `pipe --fresh`: a connection of a new pod in memory.
-ghost use Rattle.std.specs.Prelude.{◌≡◌, ◌≢◌, ◌≤◌, ◌⊎◌, IfOk};
+ghost use Rattle.std.specs.Prelude.{◌≡◌, ◌≢◌, ◌≤◌, ◌⊎◌, IfOk, None};
 ghost use Rattle.first_rows.specs.FirstPods.{first_pod};
 ghost use Rattle.pod_base.specs.Counts.{CountIncreased};
 ghost use Rattle.pod_pipe.specs.Memory.{memory_stands};
@@ -47,7 +47,7 @@ fn first_state(alloc: Global, owner: &Iri, moment: Moment) -> Mem<Version>
 
 /// A new pod in memory with that owner, whose rows have that moment.
 fn fresh_pod(alloc: Global, owner: &Iri, moment: Moment) -> Mem<MemoryPod>
-    ensures { IfOk result (λ pod. memory_stands pod (fresh_history owner.now moment.0)) }
+    ensures { IfOk result (λ pod. memory_stands pod (fresh_history owner.now moment.0) None) }
 {
     let state = first_state(alloc, owner, moment)?;
     Ok(MemoryPod {
@@ -64,7 +64,8 @@ pub(crate) fn fresh_start(
     trail: bool,
     moment: Moment,
 ) -> Mem<(MemoryPod, PipeOptions)>
-    ensures pod { IfOk result (λ start. memory_stands start.0 (fresh_history owner.now moment.0)) }
+    ensures pod { IfOk result
+        (λ start. memory_stands start.0 (fresh_history owner.now moment.0) None) }
     ensures owner { IfOk result (λ start. start.1.agents ≡ Agents.Owner owner.now) }
     ensures trail { IfOk result (λ start. start.1.trail ≡ trail) }
 {

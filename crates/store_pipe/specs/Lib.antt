@@ -2,5 +2,3 @@
 pub mod StoredPods
 pub mod Tables
 pub mod StoreRuns
--- internal: laws of the pods of stores
-pub mod StoredLaws

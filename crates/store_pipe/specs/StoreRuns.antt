@@ -2,7 +2,9 @@
 use Rattle.std.specs.Prelude.{◌≡◌, ◌⊎◌, ℕ, Bool, List, [], Option}
 use Rattle.journal_log.specs.declared.fault.OpenFault.{OpenFault}
 use Rattle.pair_writes.specs.Doubts.{IsSure}
+use Rattle.pod_command.specs.declared.entry.Entry.{Entry}
 use Rattle.pod_core.specs.History.{History}
+use Rattle.pod_keeper.specs.KeeperRuns.{StandsWith}
 use Rattle.pod_keeper.specs.KeeperState.{KeeperState}
 use Rattle.pod_keeper.specs.OpenedPods.{IsOpened, OpensDisks}
 use Rattle.conn_talk.specs.Agents.{asking_of}
@@ -14,8 +16,9 @@ use Rattle.conn_talk.specs.declared.agents.Agents.{Agents}
 use Rattle.pod_pipe.specs.declared.status.PipeEnd.{PipeEnd}
 use Rattle.pod_records.specs.OpenedStores.{HasPodCause}
 use Rattle.store_lines.specs.Refusals.{TellsRefusal, open_status}
-use Rattle.store_pipe.specs.StoredPods.{LeavesKeeper, StandsFor}
-use Rattle.store_pipe.specs.Tables.{HasAgentsCause, IsAsked, TokenSource, table_line, table_status}
+use Rattle.store_pipe.specs.StoredPods.{LeavesKeeper}
+use Rattle.store_pipe.specs.Tables.{HasAgentsCause, IsAsked, IsUnread, TokenSource, table_line}
+use Rattle.store_pipe.specs.Tables.{table_status}
 use Rattle.store_pipe.specs.declared.tokens.TableFault.{TableFault}
 use Rattle.store_pipe.specs.declared.tokens.TableFault.TheVariants.{Line}
 
@@ -64,9 +67,9 @@ module _ {D : Type 0} (image : D → List ℕ → Type 0) (moment : D → ℕ)
     pub tells : TellsLine (fault_line fault) (table_status fault) status streams.old_errors
         streams.new_errors streams.old_faults streams.new_faults
 
-  -- It was served. For each history that the keeper represented, what was written is the output of
-  -- a session from its end on, and the keeper has advanced to that history with the session's
-  -- entries.
+  -- It was served. For each history that the keeper represented, with an entry in doubt or without,
+  -- what was written is the output of a session from its end on, and the keeper has advanced to that
+  -- history with the session's entries, item by item.
   pub record IsPiped (keeper left : KeeperState D) (tokens : TokenSource) (streams : Streams)
       (status : ℕ) : Type 0 where
     pub agents : Agents
@@ -74,14 +77,14 @@ module _ {D : Type 0} (image : D → List ℕ → Type 0) (moment : D → ℕ)
     pub table_reads : AddsReads tokens.old_reads tokens.new_reads
     pub end : PipeEnd
     pub status_is : status ≡ status_of end
-    pub pipes : (history : History) → StandsFor image keeper history
+    pub pipes : (history : History) (doubt : Option Entry) → StandsWith image keeper history doubt
         → PipesAndTells may_give (asking_of agents) trail history
-        (LeavesKeeper image moment left_since faults keeper left history) end
+        (LeavesKeeper image moment left_since may_give faults keeper left history doubt) end
         streams.old_input streams.new_input streams.old_output streams.new_output
         streams.old_errors streams.new_errors streams.old_faults streams.new_faults
-    pub session : (history : History) → StandsFor image keeper history
+    pub session : (history : History) (doubt : Option Entry) → StandsWith image keeper history doubt
         → WritesSession may_give (asking_of agents) trail history
-        (LeavesKeeper image moment left_since faults keeper left history)
+        (LeavesKeeper image moment left_since may_give faults keeper left history doubt)
         streams.old_input streams.new_input streams.old_output streams.new_output
     pub counts : CountsInput end streams.old_reads streams.new_reads streams.old_ends
         streams.new_ends
@@ -92,9 +95,10 @@ module _ {D : Type 0} (image : D → List ℕ → Type 0) (moment : D → ℕ)
       ⊎ IsPiped keeper left tokens streams status
 
   module _ (content : D → Option (List ℕ)) (first second first_new second_new : D) where
-    -- The store wasn't opened, and nothing was served.
-    pub record IsRefused (streams : Streams) (status : ℕ) : Type 0 where
+    -- The store wasn't opened, and nothing was served. The token table wasn't read.
+    pub record IsRefused (tokens : TokenSource) (streams : Streams) (status : ℕ) : Type 0 where
       pub unserved : IsUnserved streams
+      pub unread : IsUnread tokens
       pub fault : OpenFault
       pub cause : HasPodCause (content first) (content second) (faults first) (faults first_new)
           (faults second) (faults second_new) fault
@@ -117,4 +121,4 @@ module _ {D : Type 0} (image : D → List ℕ → Type 0) (moment : D → ℕ)
 
     abbrev pub RunsStore : TokenSource → Streams → ℕ → Type 0
     RunsStore tokens streams status =
-        IsRefused streams status ⊎ IsRun tokens streams status
+        IsRefused tokens streams status ⊎ IsRun tokens streams status

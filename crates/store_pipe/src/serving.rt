@@ -1,9 +1,11 @@
 //! [`pipe_store`]: `pipe` over a store.
-ghost use Rattle.std.specs.Prelude.{◌≡◌, ◌≢◌, ◌≤◌, ◌⊎◌, Some, false, IfOk, IfErr, IfSome, IsSome};
+ghost use Rattle.std.specs.Prelude.{◌≡◌, ◌≢◌, ◌≤◌, ◌⊎◌, Option, Some, false, IfOk, IfErr, IfSome};
+ghost use Rattle.std.specs.Prelude.{IsSome};
 ghost use Rattle.pod_base.specs.Counts.{CountIncreased};
+ghost use Rattle.pod_command.specs.declared.entry.Entry.{Entry};
 ghost use Rattle.pod_core.specs.History.{History};
+ghost use Rattle.pod_keeper.specs.KeeperRuns.{StandsWith};
 ghost use Rattle.pod_pipe.specs.Streams.{AddsReads};
-ghost use Rattle.store_pipe.specs.StoredPods.{StandsFor};
 ghost use Rattle.store_pipe.specs.StoreRuns.{RunsKeeper, RunsStore};
 ghost use Rattle.store_pipe.specs.Tables.{HasAgentsCause, IsAsked, tokens_of};
 
@@ -65,7 +67,8 @@ fn pipe_keeper<D: Disk, T: Source, S: Source, K: Sink, E: Sink, C: Clock>(
     errors: &mut E,
     clock: &C,
 ) -> (Status, Keeper<D>)
-    requires { (history : History) × StandsFor D.image keeper history }
+    requires { (history : History) × (doubt : Option Entry)
+        × StandsWith D.image keeper history doubt }
     ensures runs { RunsKeeper D.image D.moment D.left_since D.faults (C.may_give clock.now)
         by_tokens trail keeper result.1
         (tokens_of T.rest T.faults T.reads T.ends tokens.old tokens.new) (record {

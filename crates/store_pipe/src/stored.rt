@@ -1,11 +1,14 @@
 //! [`StoredPod`]: the pod of a store, held by its keeper.
-ghost use Rattle.std.specs.Prelude.{◌≡◌, IfOk, OnErr, IsErrOf, IsTrue, false, max};
+ghost use Rattle.std.specs.Prelude.{◌≡◌, Option, IfOk, IfErr, IsErrOf, IsTrue, false, max};
+ghost use Rattle.pod_command.specs.declared.entry.Entry.{Entry};
 ghost use Rattle.pod_core.specs.History.{History, end_of, moment_before};
 ghost use Rattle.reply_laws.specs.Granted.{is_change};
 ghost use Rattle.reply_laws.specs.Sent.{IsSent};
 ghost use Rattle.token_table.specs.Credentials.{asked_view};
-ghost use Rattle.pod_pipe.specs.Holders.{AnswersAtEnd, CountsDiskFaults, Goes, faults_in};
-ghost use Rattle.store_pipe.specs.StoredPods.{Passes, StandsFor, disk_faults};
+ghost use Rattle.pod_keeper.specs.KeeperRuns.{StandsWith, TakesItem};
+ghost use Rattle.pod_pipe.specs.Holders.{AdvancesUnanswered, AnswersAtEnd, CountsDiskFaults};
+ghost use Rattle.pod_pipe.specs.Holders.{faults_in};
+ghost use Rattle.store_pipe.specs.StoredPods.{disk_faults};
 
 use pod_base::{Mem, Moment, Request, Stamp};
 use pod_core::{Replied, answer, is_change};
@@ -26,7 +29,8 @@ pub(crate) struct StoredPod<D: Disk> {
 impl<D: Disk> StoredPod<D> {
     /// The moment of a change: no earlier than that of the last entry.
     fn change_moment(&self, moment: Moment) -> Moment
-        ensures { (history : History) → StandsFor D.image self.now.keeper history
+        ensures { (history : History) (doubt : Option Entry)
+            → StandsWith D.image self.now.keeper history doubt
             → result.0 ≡ max moment.0 (moment_before history (end_of history)) }
     {
         match self.keeper.last() {
@@ -38,8 +42,8 @@ impl<D: Disk> StoredPod<D> {
     /// Answers a request that is no change, at the present version.
     fn read(&self, alloc: Global, request: &Request, asked: &Asked<'_>, stamp: Stamp) -> Mem<Answer>
         requires { is_change request.now.method ≡ false }
-        ensures answered { IfOk result (λ answer. AnswersAtEnd (StandsFor D.image)
-            (Passes D.image D.moment D.left_since) self.now.keeper self.now.keeper request.now
+        ensures answered { IfOk result (λ answer. AnswersAtEnd (StandsWith D.image)
+            (TakesItem D.image D.moment D.left_since) self.now.keeper self.now.keeper request.now
             (asked_view asked.now) stamp answer) }
         ensures sent { IfOk result (λ answer. IsSent answer.response) }
     {
@@ -63,15 +67,17 @@ impl<D: Disk> StoredPod<D> {
         stamp: Stamp,
     ) -> Result<Answer, HolderFault>
         requires change { IsTrue (is_change request.now.method) }
-        requires stands { (history : History) × StandsFor D.image self.old.keeper history }
-        ensures answered { IfOk result (λ answer. AnswersAtEnd (StandsFor D.image)
-            (Passes D.image D.moment D.left_since) self.old.keeper self.new.keeper request.now
+        requires stands { (history : History) × (doubt : Option Entry)
+            × StandsWith D.image self.old.keeper history doubt }
+        ensures answered { IfOk result (λ answer. AnswersAtEnd (StandsWith D.image)
+            (TakesItem D.image D.moment D.left_since) self.old.keeper self.new.keeper request.now
             (asked_view asked.now) stamp answer) }
         ensures sent { IfOk result (λ answer. IsSent answer.response) }
-        ensures kept { OnErr result ((history : History)
-            → StandsFor D.image self.old.keeper history
-            → Goes (StandsFor D.image) (Passes D.image D.moment D.left_since) self.old.keeper
-            history self.new.keeper history) }
+        ensures kept { IfErr result (λ fault. AdvancesUnanswered (StandsWith D.image)
+            (TakesItem D.image D.moment D.left_since) self.old.keeper self.new.keeper request.now
+            (asked_view asked.now) stamp fault) }
+        ensures memory { IsErrOf result HolderFault.NoMemory
+            → self.new.keeper ≡ self.old.keeper }
         ensures faults { CountsDiskFaults (faults_in result) (disk_faults D.faults self.old.keeper)
             (disk_faults D.faults self.new.keeper) }
         ensures out_of_memory { self.new.out_of_memory ≡ self.old.out_of_memory }
@@ -99,15 +105,17 @@ impl<D: Disk> StoredPod<D> {
         asked: &Asked<'_>,
         stamp: Stamp,
     ) -> Result<Answer, HolderFault>
-        requires { (history : History) × StandsFor D.image self.old.keeper history }
-        ensures answered { IfOk result (λ answer. AnswersAtEnd (StandsFor D.image)
-            (Passes D.image D.moment D.left_since) self.old.keeper self.new.keeper request.now
+        requires { (history : History) × (doubt : Option Entry)
+            × StandsWith D.image self.old.keeper history doubt }
+        ensures answered { IfOk result (λ answer. AnswersAtEnd (StandsWith D.image)
+            (TakesItem D.image D.moment D.left_since) self.old.keeper self.new.keeper request.now
             (asked_view asked.now) stamp answer) }
         ensures sent { IfOk result (λ answer. IsSent answer.response) }
-        ensures kept { OnErr result ((history : History)
-            → StandsFor D.image self.old.keeper history
-            → Goes (StandsFor D.image) (Passes D.image D.moment D.left_since) self.old.keeper
-            history self.new.keeper history) }
+        ensures kept { IfErr result (λ fault. AdvancesUnanswered (StandsWith D.image)
+            (TakesItem D.image D.moment D.left_since) self.old.keeper self.new.keeper request.now
+            (asked_view asked.now) stamp fault) }
+        ensures memory { IsErrOf result HolderFault.NoMemory
+            → self.new.keeper ≡ self.old.keeper }
         ensures change { IsErrOf result HolderFault.DiskFault
             → IsTrue (is_change request.now.method) }
         ensures faults { CountsDiskFaults (faults_in result) (disk_faults D.faults self.old.keeper)
@@ -126,13 +134,16 @@ impl<D: Disk> StoredPod<D> {
 }
 
 impl<D: Disk> PodHolder for StoredPod<D> {
-    ghost use Rattle.store_pipe.specs.StoredPods.{Passes, StandsFor, stored_faults};
-    ghost use Rattle.store_pipe.specs.StoredLaws.{kept_history, no_commits, joined};
+    ghost use Rattle.pod_keeper.specs.KeeperRuns.{StandsWith, TakesItem};
+    ghost use Rattle.store_pipe.specs.StoredPods.{stored_faults};
 
-    ghost stands = { λ pod history. StandsFor D.image pod.keeper history };
+    ghost stands = { λ pod history doubt. StandsWith D.image pod.keeper history doubt };
 
-    ghost follows = { λ old history new more.
-        Passes D.image D.moment D.left_since old.keeper history new.keeper more };
+    ghost takes = { λ conn clock old history doubt item new after.
+        TakesItem D.image D.moment D.left_since conn clock old.keeper history doubt item
+        new.keeper after };
+
+    ghost same = { λ old new. new.keeper ≡ old.keeper };
 
     ghost faults = { λ pod. stored_faults D.faults pod.keeper pod.out_of_memory };
 
@@ -153,10 +164,5 @@ impl<D: Disk> PodHolder for StoredPod<D> {
         }
     }
 
-    ghost legal = { λ pod history stands. kept_history D.image pod.keeper history stands };
-
-    ghost still = { λ pod history. no_commits D.image D.moment D.left_since pod.keeper history };
-
-    ghost joins = { λ a b c h i j. joined D.image D.moment D.left_since a.keeper b.keeper c.keeper
-        h i j };
+    ghost legal = { λ pod history doubt stands. stands.kept.is_history };
 }

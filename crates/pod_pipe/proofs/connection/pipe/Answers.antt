@@ -1,16 +1,19 @@
-use Rattle.pod_pipe.proofs.LongerSessions.{writes_session}
+use Rattle.pod_pipe.proofs.LongerSessions.{stops_over, writes_session}
 use Rattle.pod_pipe.proofs.ServingLemmas.{comes_to, counts_come_to, tells_since, write_failed}
 use Rattle.pod_pipe.proofs.connection.pipe.Goals as goal
 
 pub returns-clause-pipes : goal.returns-clause-pipes
-returns-clause-pipes g c = λ history held. record {
-  trailed = g.E.Sink.taken c.serve-end.new.errors;
-  pipes = comes_to _ _ _ _ _ c.serve-end.result _ _ _ _ _ _ _ c.write_end_line-end.ensures.end (c.serve-end.ensures.pipes history held);
-  tells = tells_since c.write_end_line-end.result (g.E.Sink.taken c.serve-end.new.errors) (g.E.Sink.taken c.write_end_line-end.new.errors) (g.E.Sink.faults c.args.errors.now) (g.E.Sink.faults c.serve-end.new.errors) (g.E.Sink.faults c.write_end_line-end.new.errors) c.serve-end.ensures.tells c.write_end_line-end.ensures.told;
-}
+returns-clause-pipes g c = λ history doubt held.
+    let pipes = comes_to _ _ _ _ _ c.serve-end.result c.write_end_line-end.result _ _ _ _ (g.E.Sink.taken c.args.errors.now) (g.E.Sink.taken c.serve-end.new.errors) c.write_end_line-end.ensures.end (c.serve-end.ensures.pipes history doubt held) in
+    record {
+      trailed = g.E.Sink.taken c.serve-end.new.errors;
+      pipes = pipes;
+      tells = tells_since c.write_end_line-end.result (g.E.Sink.taken c.serve-end.new.errors) (g.E.Sink.taken c.write_end_line-end.new.errors) (g.E.Sink.faults c.args.errors.now) (g.E.Sink.faults c.serve-end.new.errors) (g.E.Sink.faults c.write_end_line-end.new.errors) c.serve-end.ensures.tells c.write_end_line-end.ensures.told;
+      over_all = stops_over _ _ _ _ _ c.write_end_line-end.result _ _ _ _ _ _ pipes;
+    }
 
 pub returns-clause-session : goal.returns-clause-session
-returns-clause-session g c = λ history held. writes_session _ _ _ _ _ c.serve-end.result _ _ _ _ _ _ (c.serve-end.ensures.pipes history held)
+returns-clause-session g c = λ history doubt held. writes_session _ _ _ _ _ c.serve-end.result _ _ _ _ _ _ (c.serve-end.ensures.pipes history doubt held)
 
 pub returns-clause-counts : goal.returns-clause-counts
 returns-clause-counts g c = counts_come_to c.serve-end.result _ _ _ _ _ c.write_end_line-end.ensures.end c.serve-end.ensures.counts

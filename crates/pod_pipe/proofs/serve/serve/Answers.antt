@@ -17,7 +17,7 @@ use Rattle.pod_pipe.proofs.serve.serve.Goals as goal
 
 pub reads-init : goal.reads-init
 reads-init g c =
-    let conn_rules : Rules (Held g.row.H.Denot) = holder_rules g.H.PodHolder.stands g.H.PodHolder.faults g.H.PodHolder.follows (λ (h : Held g.row.H.Denot). h.holder) (g.C.Clock.may_give c.args.clock.now) (asking_of c.args.options.now.agents) c.args.options.now.trail in (
+    let conn_rules : Rules (Held g.row.H.Denot) = holder_rules g.H.PodHolder.stands g.H.PodHolder.faults g.H.PodHolder.takes (λ (h : Held g.row.H.Denot). h.holder) (g.C.Clock.may_give c.args.clock.now) (asking_of c.args.options.now.agents) c.args.options.now.trail in (
       begins conn_rules c.new-conn.result c.args.held.now (g.S.Source.rest c.args.input.now) (g.K.Sink.taken c.args.output.now) (g.E.Sink.taken c.args.errors.now) c.new-conn.ensures,
       omega arith,
       omega arith,
@@ -40,27 +40,27 @@ returns-then-count-eq0-clause-write_fault g c = λ is. absurd (end_writes c.rest
 -- a read failed
 pub returns-in_default-clause-pipes : goal.returns-in_default-clause-pipes
 returns-in_default-clause-pipes g c =
-    λ history held.
-    let conn_rules : Rules (Held g.row.H.Denot) = holder_rules g.H.PodHolder.stands g.H.PodHolder.faults g.H.PodHolder.follows (λ (h : Held g.row.H.Denot). h.holder) (g.C.Clock.may_give c.args.clock.now) (asking_of c.args.options.now.agents) c.args.options.now.trail in
+    λ history doubt held.
+    let conn_rules : Rules (Held g.row.H.Denot) = holder_rules g.H.PodHolder.stands g.H.PodHolder.faults g.H.PodHolder.takes (λ (h : Held g.row.H.Denot). h.holder) (g.C.Clock.may_give c.args.clock.now) (asking_of c.args.options.now.agents) c.args.options.now.trail in
     read_fault conn_rules (g.C.Clock.may_give c.args.clock.now) (asking_of c.args.options.now.agents) c.args.options.now.trail history
-    (holder_leaves g.H.PodHolder.stands g.H.PodHolder.faults g.H.PodHolder.follows g.met.H.PodHolder.legal g.met.H.PodHolder.still g.met.H.PodHolder.joins (λ (h : Held g.row.H.Denot). h.holder) (g.C.Clock.may_give c.args.clock.now) (asking_of c.args.options.now.agents) c.args.options.now.trail c.sessions_are_isolated.ensures.items history c.args.held.now c.reads.held held)
+    (holder_leaves g.H.PodHolder.stands g.H.PodHolder.faults g.H.PodHolder.takes g.met.H.PodHolder.legal (λ (h : Held g.row.H.Denot). h.holder) (g.C.Clock.may_give c.args.clock.now) (asking_of c.args.options.now.agents) c.args.options.now.trail c.sessions_are_isolated.ensures.items history doubt c.args.held.now c.reads.held held)
     c.args.held.now c.reads.held
-    (served_of g.H.PodHolder.stands g.H.PodHolder.faults g.H.PodHolder.follows g.met.H.PodHolder.legal g.met.H.PodHolder.still g.met.H.PodHolder.joins (λ (h : Held g.row.H.Denot). h.holder) (g.C.Clock.may_give c.args.clock.now) (asking_of c.args.options.now.agents) c.args.options.now.trail c.sessions_are_isolated.ensures.items history c.args.held.now c.reads.held held)
-    (stopped_of g.H.PodHolder.stands g.H.PodHolder.faults g.H.PodHolder.follows g.met.H.PodHolder.legal g.met.H.PodHolder.still g.met.H.PodHolder.joins (λ (h : Held g.row.H.Denot). h.holder) (g.C.Clock.may_give c.args.clock.now) (asking_of c.args.options.now.agents) c.args.options.now.trail c.sessions_are_isolated.ensures.items history c.args.held.now c.reads.held held)
+    (served_of g.H.PodHolder.stands g.H.PodHolder.faults g.H.PodHolder.takes g.met.H.PodHolder.legal (λ (h : Held g.row.H.Denot). h.holder) (g.C.Clock.may_give c.args.clock.now) (asking_of c.args.options.now.agents) c.args.options.now.trail c.sessions_are_isolated.ensures.items history doubt c.args.held.now c.reads.held held)
+    (stopped_of g.H.PodHolder.stands g.H.PodHolder.faults g.H.PodHolder.takes g.met.H.PodHolder.legal (λ (h : Held g.row.H.Denot). h.holder) (g.C.Clock.may_give c.args.clock.now) (asking_of c.args.options.now.agents) c.args.options.now.trail c.sessions_are_isolated.ensures.items history doubt c.args.held.now c.reads.held held)
     c.reads.conn c.reads.connection.number (g.S.Source.rest c.args.input.now) (g.S.Source.rest c.reads.input) (g.K.Sink.taken c.args.output.now) (g.K.Sink.taken c.reads.output) (g.E.Sink.taken c.args.errors.now) (g.E.Sink.taken c.reads.errors) c.reads.counter c.reads.invariant.0 (g.S.Source.rest c.read.new.self) c.in_default.ensures.rest.whole
 
 -- the input ended
 pub returns-then-count-eq0-clause-pipes : goal.returns-then-count-eq0-clause-pipes
 returns-then-count-eq0-clause-pipes g c =
-    λ history held.
-    let conn_rules : Rules (Held g.row.H.Denot) = holder_rules g.H.PodHolder.stands g.H.PodHolder.faults g.H.PodHolder.follows (λ (h : Held g.row.H.Denot). h.holder) (g.C.Clock.may_give c.args.clock.now) (asking_of c.args.options.now.agents) c.args.options.now.trail in
+    λ history doubt held.
+    let conn_rules : Rules (Held g.row.H.Denot) = holder_rules g.H.PodHolder.stands g.H.PodHolder.faults g.H.PodHolder.takes (λ (h : Held g.row.H.Denot). h.holder) (g.C.Clock.may_give c.args.clock.now) (asking_of c.args.options.now.agents) c.args.options.now.trail in
     let s = c.reads.invariant.0 in
     let read = c.in-Ok.ensures in
     at_end conn_rules (g.C.Clock.may_give c.args.clock.now) (asking_of c.args.options.now.agents) c.args.options.now.trail history
-    (holder_leaves g.H.PodHolder.stands g.H.PodHolder.faults g.H.PodHolder.follows g.met.H.PodHolder.legal g.met.H.PodHolder.still g.met.H.PodHolder.joins (λ (h : Held g.row.H.Denot). h.holder) (g.C.Clock.may_give c.args.clock.now) (asking_of c.args.options.now.agents) c.args.options.now.trail c.sessions_are_isolated.ensures.items history c.args.held.now c.reads.held held)
+    (holder_leaves g.H.PodHolder.stands g.H.PodHolder.faults g.H.PodHolder.takes g.met.H.PodHolder.legal (λ (h : Held g.row.H.Denot). h.holder) (g.C.Clock.may_give c.args.clock.now) (asking_of c.args.options.now.agents) c.args.options.now.trail c.sessions_are_isolated.ensures.items history doubt c.args.held.now c.reads.held held)
     c.args.held.now c.reads.held
-    (served_of g.H.PodHolder.stands g.H.PodHolder.faults g.H.PodHolder.follows g.met.H.PodHolder.legal g.met.H.PodHolder.still g.met.H.PodHolder.joins (λ (h : Held g.row.H.Denot). h.holder) (g.C.Clock.may_give c.args.clock.now) (asking_of c.args.options.now.agents) c.args.options.now.trail c.sessions_are_isolated.ensures.items history c.args.held.now c.reads.held held)
-    (stopped_of g.H.PodHolder.stands g.H.PodHolder.faults g.H.PodHolder.follows g.met.H.PodHolder.legal g.met.H.PodHolder.still g.met.H.PodHolder.joins (λ (h : Held g.row.H.Denot). h.holder) (g.C.Clock.may_give c.args.clock.now) (asking_of c.args.options.now.agents) c.args.options.now.trail c.sessions_are_isolated.ensures.items history c.args.held.now c.reads.held held)
+    (served_of g.H.PodHolder.stands g.H.PodHolder.faults g.H.PodHolder.takes g.met.H.PodHolder.legal (λ (h : Held g.row.H.Denot). h.holder) (g.C.Clock.may_give c.args.clock.now) (asking_of c.args.options.now.agents) c.args.options.now.trail c.sessions_are_isolated.ensures.items history doubt c.args.held.now c.reads.held held)
+    (stopped_of g.H.PodHolder.stands g.H.PodHolder.faults g.H.PodHolder.takes g.met.H.PodHolder.legal (λ (h : Held g.row.H.Denot). h.holder) (g.C.Clock.may_give c.args.clock.now) (asking_of c.args.options.now.agents) c.args.options.now.trail c.sessions_are_isolated.ensures.items history doubt c.args.held.now c.reads.held held)
     c.reads.conn c.reads.connection.number (g.S.Source.rest c.args.input.now) (g.S.Source.rest c.reads.input) (g.K.Sink.taken c.args.output.now) (g.K.Sink.taken c.reads.output) (g.E.Sink.taken c.args.errors.now) (g.E.Sink.taken c.reads.errors) c.reads.counter s c.rest.result c.at_end.result (g.S.Source.rest c.read.new.self) c.rest.ensures.exact c.at_end.ensures
     (reads_none s.text c.reads.piece c.read.new.into c.in-Ok.count (g.S.Source.rest c.args.input.now) (g.S.Source.rest c.reads.input) (g.S.Source.rest c.read.new.self) c.if-count-eq0.true s.reads read.bytes read.rest.taken)
     (ended_at c.reads.piece c.read.new.into c.in-Ok.count (g.S.Source.rest c.reads.input) (g.S.Source.rest c.read.new.self) c.if-count-eq0.true read.bytes read.rest.taken)
@@ -68,27 +68,27 @@ returns-then-count-eq0-clause-pipes g c =
 -- no memory was left to parse the piece
 pub returns-in_default-feed-clause-pipes : goal.returns-in_default-feed-clause-pipes
 returns-in_default-feed-clause-pipes g c =
-    λ history held.
-    let conn_rules : Rules (Held g.row.H.Denot) = holder_rules g.H.PodHolder.stands g.H.PodHolder.faults g.H.PodHolder.follows (λ (h : Held g.row.H.Denot). h.holder) (g.C.Clock.may_give c.args.clock.now) (asking_of c.args.options.now.agents) c.args.options.now.trail in
+    λ history doubt held.
+    let conn_rules : Rules (Held g.row.H.Denot) = holder_rules g.H.PodHolder.stands g.H.PodHolder.faults g.H.PodHolder.takes (λ (h : Held g.row.H.Denot). h.holder) (g.C.Clock.may_give c.args.clock.now) (asking_of c.args.options.now.agents) c.args.options.now.trail in
     let s = c.reads.invariant.0 in
     let read = c.in-Ok.ensures in
     no_memory conn_rules (g.C.Clock.may_give c.args.clock.now) (asking_of c.args.options.now.agents) c.args.options.now.trail history
-    (holder_leaves g.H.PodHolder.stands g.H.PodHolder.faults g.H.PodHolder.follows g.met.H.PodHolder.legal g.met.H.PodHolder.still g.met.H.PodHolder.joins (λ (h : Held g.row.H.Denot). h.holder) (g.C.Clock.may_give c.args.clock.now) (asking_of c.args.options.now.agents) c.args.options.now.trail c.sessions_are_isolated.ensures.items history c.args.held.now c.reads.held held)
+    (holder_leaves g.H.PodHolder.stands g.H.PodHolder.faults g.H.PodHolder.takes g.met.H.PodHolder.legal (λ (h : Held g.row.H.Denot). h.holder) (g.C.Clock.may_give c.args.clock.now) (asking_of c.args.options.now.agents) c.args.options.now.trail c.sessions_are_isolated.ensures.items history doubt c.args.held.now c.reads.held held)
     c.args.held.now c.reads.held
-    (served_of g.H.PodHolder.stands g.H.PodHolder.faults g.H.PodHolder.follows g.met.H.PodHolder.legal g.met.H.PodHolder.still g.met.H.PodHolder.joins (λ (h : Held g.row.H.Denot). h.holder) (g.C.Clock.may_give c.args.clock.now) (asking_of c.args.options.now.agents) c.args.options.now.trail c.sessions_are_isolated.ensures.items history c.args.held.now c.reads.held held)
-    (stopped_of g.H.PodHolder.stands g.H.PodHolder.faults g.H.PodHolder.follows g.met.H.PodHolder.legal g.met.H.PodHolder.still g.met.H.PodHolder.joins (λ (h : Held g.row.H.Denot). h.holder) (g.C.Clock.may_give c.args.clock.now) (asking_of c.args.options.now.agents) c.args.options.now.trail c.sessions_are_isolated.ensures.items history c.args.held.now c.reads.held held)
+    (served_of g.H.PodHolder.stands g.H.PodHolder.faults g.H.PodHolder.takes g.met.H.PodHolder.legal (λ (h : Held g.row.H.Denot). h.holder) (g.C.Clock.may_give c.args.clock.now) (asking_of c.args.options.now.agents) c.args.options.now.trail c.sessions_are_isolated.ensures.items history doubt c.args.held.now c.reads.held held)
+    (stopped_of g.H.PodHolder.stands g.H.PodHolder.faults g.H.PodHolder.takes g.met.H.PodHolder.legal (λ (h : Held g.row.H.Denot). h.holder) (g.C.Clock.may_give c.args.clock.now) (asking_of c.args.options.now.agents) c.args.options.now.trail c.sessions_are_isolated.ensures.items history doubt c.args.held.now c.reads.held held)
     c.reads.conn c.reads.connection.number (g.S.Source.rest c.args.input.now) (g.S.Source.rest c.reads.input) (g.K.Sink.taken c.args.output.now) (g.K.Sink.taken c.reads.output) (g.E.Sink.taken c.args.errors.now) (g.E.Sink.taken c.reads.errors) c.reads.counter s (take c.in-Ok.count c.read.new.into) (g.S.Source.rest c.read.new.self) (reads_more s.text c.reads.piece c.read.new.into c.in-Ok.count (g.S.Source.rest c.args.input.now) (g.S.Source.rest c.reads.input) (g.S.Source.rest c.read.new.self) s.reads read.bytes read.rest.taken)
 
 pub answer_events-requires-clause-ends : goal.answer_events-requires-clause-ends
 answer_events-requires-clause-ends g c =
-    let conn_rules : Rules (Held g.row.H.Denot) = holder_rules g.H.PodHolder.stands g.H.PodHolder.faults g.H.PodHolder.follows (λ (h : Held g.row.H.Denot). h.holder) (g.C.Clock.may_give c.args.clock.now) (asking_of c.args.options.now.agents) c.args.options.now.trail in
+    let conn_rules : Rules (Held g.row.H.Denot) = holder_rules g.H.PodHolder.stands g.H.PodHolder.faults g.H.PodHolder.takes (λ (h : Held g.row.H.Denot). h.holder) (g.C.Clock.may_give c.args.clock.now) (asking_of c.args.options.now.agents) c.args.options.now.trail in
     let s = c.reads.invariant.0 in
     subst (NothingAfterEnd c.reads.connection.number) (sym c.as_slice.ensures)
     (piece_ends conn_rules c.args.held.now c.reads.conn c.reads.held c.reads.connection.number s.text s.written s.trail s.answering (s.text ++ take c.in-Ok.count c.read.new.into) c.in-Ok-feed.heard.items _ (c.in-Ok-feed.ensures.messages s.text s.answering.heard s.answering.represents))
 
 pub answer_events-requires-clause-statuses : goal.answer_events-requires-clause-statuses
 answer_events-requires-clause-statuses g c =
-    let conn_rules : Rules (Held g.row.H.Denot) = holder_rules g.H.PodHolder.stands g.H.PodHolder.faults g.H.PodHolder.follows (λ (h : Held g.row.H.Denot). h.holder) (g.C.Clock.may_give c.args.clock.now) (asking_of c.args.options.now.agents) c.args.options.now.trail in
+    let conn_rules : Rules (Held g.row.H.Denot) = holder_rules g.H.PodHolder.stands g.H.PodHolder.faults g.H.PodHolder.takes (λ (h : Held g.row.H.Denot). h.holder) (g.C.Clock.may_give c.args.clock.now) (asking_of c.args.options.now.agents) c.args.options.now.trail in
     let s = c.reads.invariant.0 in
     subst (AllByRecursion MayBeSent) (sym c.as_slice.ensures)
     (piece_statuses conn_rules c.args.held.now c.reads.conn c.reads.held c.reads.connection.number s.text s.written s.trail s.answering (s.text ++ take c.in-Ok.count c.read.new.into) c.in-Ok-feed.heard.items _ (c.in-Ok-feed.ensures.messages s.text s.answering.heard s.answering.represents))
@@ -96,7 +96,7 @@ answer_events-requires-clause-statuses g c =
 -- each request had a place
 pub pipe_end-requires : goal.pipe_end-requires
 pipe_end-requires g c =
-    let conn_rules : Rules (Held g.row.H.Denot) = holder_rules g.H.PodHolder.stands g.H.PodHolder.faults g.H.PodHolder.follows (λ (h : Held g.row.H.Denot). h.holder) (g.C.Clock.may_give c.args.clock.now) (asking_of c.args.options.now.agents) c.args.options.now.trail in
+    let conn_rules : Rules (Held g.row.H.Denot) = holder_rules g.H.PodHolder.stands g.H.PodHolder.faults g.H.PodHolder.takes (λ (h : Held g.row.H.Denot). h.holder) (g.C.Clock.may_give c.args.clock.now) (asking_of c.args.options.now.agents) c.args.options.now.trail in
     let told = c.in-Err.ensures.turns in
     has_place conn_rules c.args.held.now c.reads.conn c.reads.held c.reads.connection.number (g.S.Source.rest c.args.input.now) (g.S.Source.rest c.reads.input) (g.K.Sink.taken c.args.output.now) (g.K.Sink.taken c.reads.output) (g.E.Sink.taken c.args.errors.now) (g.E.Sink.taken c.reads.errors) c.reads.counter c.reads.invariant.0 c.in-Ok-feed.heard.items c.answer_events.new.answers c.answer_events.new.self.number told.0 told.1 c.in-Err.end (λ request old new passed. passed)
     (subst (λ hears. TurnsIn conn_rules c.reads.held c.reads.connection.number c.answer_events.new.answers c.answer_events.new.self.number hears told.0 told.1 (Err c.in-Err.end)) c.as_slice.ensures (subst (λ (n : ℕ). TurnsIn (record conn_rules { conn = n }) c.reads.held c.reads.connection.number c.answer_events.new.answers c.answer_events.new.self.number c.as_slice.result.now told.0 told.1 (Err c.in-Err.end)) c.reads.invariant.9 told.4))
@@ -104,18 +104,18 @@ pipe_end-requires g c =
 -- the connection ended in this piece
 pub returns-in-Err-clause-pipes : goal.returns-in-Err-clause-pipes
 returns-in-Err-clause-pipes g c =
-    λ history held.
-    let conn_rules : Rules (Held g.row.H.Denot) = holder_rules g.H.PodHolder.stands g.H.PodHolder.faults g.H.PodHolder.follows (λ (h : Held g.row.H.Denot). h.holder) (g.C.Clock.may_give c.args.clock.now) (asking_of c.args.options.now.agents) c.args.options.now.trail in
+    λ history doubt held.
+    let conn_rules : Rules (Held g.row.H.Denot) = holder_rules g.H.PodHolder.stands g.H.PodHolder.faults g.H.PodHolder.takes (λ (h : Held g.row.H.Denot). h.holder) (g.C.Clock.may_give c.args.clock.now) (asking_of c.args.options.now.agents) c.args.options.now.trail in
     let s = c.reads.invariant.0 in
     let read = c.in-Ok.ensures in
     let told = c.in-Err.ensures.turns in
-    subst (λ end. Pipes (g.C.Clock.may_give c.args.clock.now) (asking_of c.args.options.now.agents) c.args.options.now.trail history (holder_leaves g.H.PodHolder.stands g.H.PodHolder.faults g.H.PodHolder.follows g.met.H.PodHolder.legal g.met.H.PodHolder.still g.met.H.PodHolder.joins (λ (h : Held g.row.H.Denot). h.holder) (g.C.Clock.may_give c.args.clock.now) (asking_of c.args.options.now.agents) c.args.options.now.trail c.sessions_are_isolated.ensures.items history c.args.held.now c.answer_events.new.answers held) end
+    subst (λ end. Pipes (g.C.Clock.may_give c.args.clock.now) (asking_of c.args.options.now.agents) c.args.options.now.trail history (holder_leaves g.H.PodHolder.stands g.H.PodHolder.faults g.H.PodHolder.takes g.met.H.PodHolder.legal (λ (h : Held g.row.H.Denot). h.holder) (g.C.Clock.may_give c.args.clock.now) (asking_of c.args.options.now.agents) c.args.options.now.trail c.sessions_are_isolated.ensures.items history doubt c.args.held.now c.answer_events.new.answers held) end
     (g.S.Source.rest c.args.input.now) (g.S.Source.rest c.read.new.self) (g.K.Sink.taken c.args.output.now) (g.K.Sink.taken c.answer_events.new.output) (g.E.Sink.taken c.args.errors.now) (g.E.Sink.taken c.answer_events.new.errors)) (sym c.pipe_end.ensures)
     (ended conn_rules (g.C.Clock.may_give c.args.clock.now) (asking_of c.args.options.now.agents) c.args.options.now.trail history
-    (holder_leaves g.H.PodHolder.stands g.H.PodHolder.faults g.H.PodHolder.follows g.met.H.PodHolder.legal g.met.H.PodHolder.still g.met.H.PodHolder.joins (λ (h : Held g.row.H.Denot). h.holder) (g.C.Clock.may_give c.args.clock.now) (asking_of c.args.options.now.agents) c.args.options.now.trail c.sessions_are_isolated.ensures.items history c.args.held.now c.answer_events.new.answers held)
+    (holder_leaves g.H.PodHolder.stands g.H.PodHolder.faults g.H.PodHolder.takes g.met.H.PodHolder.legal (λ (h : Held g.row.H.Denot). h.holder) (g.C.Clock.may_give c.args.clock.now) (asking_of c.args.options.now.agents) c.args.options.now.trail c.sessions_are_isolated.ensures.items history doubt c.args.held.now c.answer_events.new.answers held)
     c.args.held.now c.answer_events.new.answers
-    (served_of g.H.PodHolder.stands g.H.PodHolder.faults g.H.PodHolder.follows g.met.H.PodHolder.legal g.met.H.PodHolder.still g.met.H.PodHolder.joins (λ (h : Held g.row.H.Denot). h.holder) (g.C.Clock.may_give c.args.clock.now) (asking_of c.args.options.now.agents) c.args.options.now.trail c.sessions_are_isolated.ensures.items history c.args.held.now c.answer_events.new.answers held)
-    (stopped_of g.H.PodHolder.stands g.H.PodHolder.faults g.H.PodHolder.follows g.met.H.PodHolder.legal g.met.H.PodHolder.still g.met.H.PodHolder.joins (λ (h : Held g.row.H.Denot). h.holder) (g.C.Clock.may_give c.args.clock.now) (asking_of c.args.options.now.agents) c.args.options.now.trail c.sessions_are_isolated.ensures.items history c.args.held.now c.answer_events.new.answers held)
+    (served_of g.H.PodHolder.stands g.H.PodHolder.faults g.H.PodHolder.takes g.met.H.PodHolder.legal (λ (h : Held g.row.H.Denot). h.holder) (g.C.Clock.may_give c.args.clock.now) (asking_of c.args.options.now.agents) c.args.options.now.trail c.sessions_are_isolated.ensures.items history doubt c.args.held.now c.answer_events.new.answers held)
+    (stopped_of g.H.PodHolder.stands g.H.PodHolder.faults g.H.PodHolder.takes g.met.H.PodHolder.legal (λ (h : Held g.row.H.Denot). h.holder) (g.C.Clock.may_give c.args.clock.now) (asking_of c.args.options.now.agents) c.args.options.now.trail c.sessions_are_isolated.ensures.items history doubt c.args.held.now c.answer_events.new.answers held)
     c.reads.conn c.reads.held c.reads.connection.number c.answer_events.new.self.number (g.S.Source.rest c.args.input.now) (g.S.Source.rest c.reads.input) (g.K.Sink.taken c.args.output.now) (g.K.Sink.taken c.reads.output) (g.E.Sink.taken c.args.errors.now) (g.E.Sink.taken c.reads.errors) c.reads.counter s (take c.in-Ok.count c.read.new.into) (g.S.Source.rest c.read.new.self) c.in-Ok-feed.heard.items _ c.in-Err.end told.0 told.1 (g.K.Sink.taken c.answer_events.new.output) (g.E.Sink.taken c.answer_events.new.errors) (λ request old new passed. passed)
     (reads_more s.text c.reads.piece c.read.new.into c.in-Ok.count (g.S.Source.rest c.args.input.now) (g.S.Source.rest c.reads.input) (g.S.Source.rest c.read.new.self) s.reads read.bytes read.rest.taken) (c.in-Ok-feed.ensures.messages s.text s.answering.heard s.answering.represents) told.2 told.3
     (subst (λ hears. TurnsIn conn_rules c.reads.held c.reads.connection.number c.answer_events.new.answers c.answer_events.new.self.number hears told.0 told.1 (Err c.in-Err.end)) c.as_slice.ensures (subst (λ (n : ℕ). TurnsIn (record conn_rules { conn = n }) c.reads.held c.reads.connection.number c.answer_events.new.answers c.answer_events.new.self.number c.as_slice.result.now told.0 told.1 (Err c.in-Err.end)) c.reads.invariant.9 told.4)))
@@ -130,7 +130,7 @@ returns-in-Err-clause-write_fault g c =
 
 pub reads-preserved : goal.reads-preserved
 reads-preserved g c =
-    let conn_rules : Rules (Held g.row.H.Denot) = holder_rules g.H.PodHolder.stands g.H.PodHolder.faults g.H.PodHolder.follows (λ (h : Held g.row.H.Denot). h.holder) (g.C.Clock.may_give c.args.clock.now) (asking_of c.args.options.now.agents) c.args.options.now.trail in
+    let conn_rules : Rules (Held g.row.H.Denot) = holder_rules g.H.PodHolder.stands g.H.PodHolder.faults g.H.PodHolder.takes (λ (h : Held g.row.H.Denot). h.holder) (g.C.Clock.may_give c.args.clock.now) (asking_of c.args.options.now.agents) c.args.options.now.trail in
     let s = c.reads.invariant.0 in
     let read = c.in-Ok.ensures in
     let told = c.in-Ok-answer_events.ensures.turns in (
@@ -152,13 +152,13 @@ reads-preserved g c =
 -- each read gave a byte
 pub returns-clause-pipes : goal.returns-clause-pipes
 returns-clause-pipes g c =
-    λ history held.
-    let conn_rules : Rules (Held g.row.H.Denot) = holder_rules g.H.PodHolder.stands g.H.PodHolder.faults g.H.PodHolder.follows (λ (h : Held g.row.H.Denot). h.holder) (g.C.Clock.may_give c.args.clock.now) (asking_of c.args.options.now.agents) c.args.options.now.trail in
+    λ history doubt held.
+    let conn_rules : Rules (Held g.row.H.Denot) = holder_rules g.H.PodHolder.stands g.H.PodHolder.faults g.H.PodHolder.takes (λ (h : Held g.row.H.Denot). h.holder) (g.C.Clock.may_give c.args.clock.now) (asking_of c.args.options.now.agents) c.args.options.now.trail in
     bounded conn_rules (g.C.Clock.may_give c.args.clock.now) (asking_of c.args.options.now.agents) c.args.options.now.trail history
-    (holder_leaves g.H.PodHolder.stands g.H.PodHolder.faults g.H.PodHolder.follows g.met.H.PodHolder.legal g.met.H.PodHolder.still g.met.H.PodHolder.joins (λ (h : Held g.row.H.Denot). h.holder) (g.C.Clock.may_give c.args.clock.now) (asking_of c.args.options.now.agents) c.args.options.now.trail c.sessions_are_isolated.ensures.items history c.args.held.now c.reads.held held)
+    (holder_leaves g.H.PodHolder.stands g.H.PodHolder.faults g.H.PodHolder.takes g.met.H.PodHolder.legal (λ (h : Held g.row.H.Denot). h.holder) (g.C.Clock.may_give c.args.clock.now) (asking_of c.args.options.now.agents) c.args.options.now.trail c.sessions_are_isolated.ensures.items history doubt c.args.held.now c.reads.held held)
     c.args.held.now c.reads.held
-    (served_of g.H.PodHolder.stands g.H.PodHolder.faults g.H.PodHolder.follows g.met.H.PodHolder.legal g.met.H.PodHolder.still g.met.H.PodHolder.joins (λ (h : Held g.row.H.Denot). h.holder) (g.C.Clock.may_give c.args.clock.now) (asking_of c.args.options.now.agents) c.args.options.now.trail c.sessions_are_isolated.ensures.items history c.args.held.now c.reads.held held)
-    (stopped_of g.H.PodHolder.stands g.H.PodHolder.faults g.H.PodHolder.follows g.met.H.PodHolder.legal g.met.H.PodHolder.still g.met.H.PodHolder.joins (λ (h : Held g.row.H.Denot). h.holder) (g.C.Clock.may_give c.args.clock.now) (asking_of c.args.options.now.agents) c.args.options.now.trail c.sessions_are_isolated.ensures.items history c.args.held.now c.reads.held held)
+    (served_of g.H.PodHolder.stands g.H.PodHolder.faults g.H.PodHolder.takes g.met.H.PodHolder.legal (λ (h : Held g.row.H.Denot). h.holder) (g.C.Clock.may_give c.args.clock.now) (asking_of c.args.options.now.agents) c.args.options.now.trail c.sessions_are_isolated.ensures.items history doubt c.args.held.now c.reads.held held)
+    (stopped_of g.H.PodHolder.stands g.H.PodHolder.faults g.H.PodHolder.takes g.met.H.PodHolder.legal (λ (h : Held g.row.H.Denot). h.holder) (g.C.Clock.may_give c.args.clock.now) (asking_of c.args.options.now.agents) c.args.options.now.trail c.sessions_are_isolated.ensures.items history doubt c.args.held.now c.reads.held held)
     c.reads.conn c.reads.connection.number (g.S.Source.rest c.args.input.now) (g.S.Source.rest c.reads.input) (g.K.Sink.taken c.args.output.now) (g.K.Sink.taken c.reads.output) (g.E.Sink.taken c.args.errors.now) (g.E.Sink.taken c.reads.errors) c.reads.counter c.reads.invariant.0 (omega (arith, c.reads-test.false))
 
 -- ---- the counts of the input
@@ -185,7 +185,7 @@ returns-in_default-feed-clause-counts g c =
     record {
       reads = few_counted _ _ _ counted;
       limit = λ e. absurd cc;
-      ends = inl (met_no_end (g.S.Source.ends c.reads.input) (g.S.Source.ends c.read.new.self) c.in-Ok.count c.if-count-eq0.false read.ends.read ∙ c.reads.invariant.5);
+      ends = met_no_end (g.S.Source.ends c.reads.input) (g.S.Source.ends c.read.new.self) c.in-Ok.count c.if-count-eq0.false read.ends.read ∙ c.reads.invariant.5;
     }
 
 pub returns-in-Err-clause-counts : goal.returns-in-Err-clause-counts

@@ -9,4 +9,4 @@ returns-in-Err-clause-runs g c = if_some_all _ _ (λ command. if_some_twice c.ar
     has_not_begun g.D.Disk.content g.D.Disk.image g.D.Disk.moment g.D.Disk.left_since g.D.Disk.faults disks.first disks.second (g.C.Clock.may_give c.args.clock.now) _ _ c.status.result.0 c.status.ensures (record {
       unserved = record { input = refl; reads = refl; output = refl };
       unwritten = record { output = refl; errors = refl };
-    }) command))
+    }) (record { rest = refl; faults = refl; reads = refl; ends = refl }) command))
