@@ -1,0 +1,3 @@
+pub mod FeedLemmas
+mod TurnLemmas
+mod EachChangeLemmas
