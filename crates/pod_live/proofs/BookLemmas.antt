@@ -1,15 +1,12 @@
 -- What an entry, or a disk fault, leaves of what a store's lock protects, and what a plan is there.
-use Rattle.std.proofs.Common.{◌≡◌, ◌⊎◌, inl, inr, ◌≤◌, ◌+◌, ℕ, List, [], ◌∷◌, ◌++◌, length, ap, arith, append_assoc, length-append, subst, sym, ◌∙◌}
-use Rattle.std.specs.Option.{option_to_list}
+use Rattle.std.proofs.Common.{◌≡◌, ◌⊎◌, inl, inr, ◌≤◌, ◌+◌, ℕ, IsTrue, IsSome, Option, Some, None, List, refl, [], ◌∷◌, ◌++◌, length, ap, arith, append_assoc, length-append, subst, sym, ◌∙◌}
 use Rattle.std.proofs.lemmas.List.{append-nil}
 use mathlib.Core.List.{IsPrefix}
 use Rattle.pair_writes.specs.Doubts.{IsSure, IsLong}
-use Rattle.pod_base.proofs.Prefixes.{prefix_trans}
 use Rattle.pod_base.specs.Counts.{CountIncreased}
 use Rattle.pod_base.specs.declared.moment.Moment.{Moment}
 use Rattle.pod_base.specs.declared.moment.Stamp.{Stamp}
 use Rattle.pod_base.specs.declared.request.Request.{Request}
-use Rattle.pod_base.specs.declared.response.Response.{Response}
 use Rattle.pod_command.specs.declared.entry.Entry.{Entry}
 use Rattle.pod_core.specs.History.{History, longer}
 use Rattle.pod_keeper.specs.Commits.{IsGrown, IsLeftFaulted}
@@ -18,10 +15,12 @@ use Rattle.pod_keeper.specs.KeeperState.{KeeperState, version_in, IsCheckpointDu
 use Rattle.pod_keeper.specs.Plans.{IsPlan, planned_entry}
 use Rattle.pod_keeper.specs.declared.plan.Plan.{Plan}
 use Rattle.pod_keeper.proofs.HistoryLaws.{states_after_append, states_next}
-use Rattle.pod_live.specs.Locks.{LockState, IsBooked, IsPlannedHere, Decided}
+use Rattle.pod_live.proofs.EventLemmas.{is_change_of, is_fault_of}
+use Rattle.pod_live.specs.Locks.{LockState, IsBooked, IsPlannedHere}
 use Rattle.pod_live.specs.Stores.{KeptSome, IsSafe, Covers}
-use Rattle.pod_live.specs.Visits.{Visit, Changed}
+use Rattle.pod_live.specs.Visits.{FaultedAt, RepliesAtEnd}
 use Rattle.pod_pages.specs.State.{VersionState, state_after, states_after}
+use Rattle.reply_laws.specs.Granted.{is_change}
 use Rattle.token_table.specs.Credentials.{AskedAgent}
 
 -- the version after one entry more
@@ -81,58 +80,42 @@ module _ {D : Type 0} (image : D → List ℕ → Type 0) (count : D → ℕ) (k
         covers = λ a b. omega (arith, counted_is);
       }
 
-  pub planned_here : (state : LockState D) → IsBooked image count kept safe opened opening counted state → (request : Request) (asked : AskedAgent) (stamp : Stamp) (plan : Plan)
+  pub planned_here : (state : LockState D) → IsBooked image count kept safe opened opening counted state → (request : Request) (asked : AskedAgent) (stamp : Stamp) (plan : Plan) → IsTrue (is_change request.method)
       → IsPlan image state.keeper request asked stamp plan → IsPlannedHere kept opened.next state.list state.keeper request asked stamp plan
-  planned_here state booked request asked stamp plan is = record {
-    reply = is.reply;
-    replies = λ h k. let s = booked.stands h k in is.at_end (longer h state.list) s.0 s.1 s.2;
-    response_is = is.response_is;
-    place_is = is.place_is ∙ (ap (λ (v : VersionState). v.next) booked.version ∙ states_next opened state.list);
-    moment_is = λ h k. let s = booked.stands h k in ap (λ (m : Moment). m.0) (is.moment_at_end (longer h state.list) s.0 s.1 s.2);
-    entry_is = is.entry_is;
-    planned = is.planned;
-    sent = is.sent;
-    status = is.status;
-  }
+  planned_here state booked request asked stamp plan changes is =
+      let replies : RepliesAtEnd kept state.list request asked stamp is.reply = λ h k. let s = booked.stands h k in is.at_end (longer h state.list) s.0 s.1 s.2 in
+      record {
+        reply = is.reply;
+        replies = replies;
+        events = is_change_of kept state.list request asked stamp is.reply changes replies;
+        response_is = is.response_is;
+        place_is = is.place_is ∙ (ap (λ (v : VersionState). v.next) booked.version ∙ states_next opened state.list);
+        moment_is = λ h k. let s = booked.stands h k in ap (λ (m : Moment). m.0) (is.moment_at_end (longer h state.list) s.0 s.1 s.2);
+        entry_is = is.entry_is;
+        planned = is.planned;
+        sent = is.sent;
+        status = is.status;
+      }
 
 -- the version of a keeper, by its parts
 pub version_same : {D : Type 0} (version : VersionState) (keeper : KeeperState D) → version.pod ≡ keeper.pod → version.next ≡ keeper.next → version.effects ≡ keeper.effects → version.oldest ≡ keeper.oldest → version ≡ version_in keeper
 version_same version keeper pod next effects oldest = λ i. record { pod = pod i; next = next i; effects = effects i; oldest = oldest i }
 
--- a change that was decided, and one look after it
-pub changed : (kept : History → Type 0) (first : ℕ) (old mid new : Visit) (request : Request) (asked : AskedAgent) (stamp : Stamp) (response : Response) (place moment : ℕ) → Decided kept first old request asked stamp response place moment mid
-    → IsPrefix mid.told new.seen → new.looks ≡ mid.looks + 1 → mid.refused ≤ new.refused → new.changes ≡ mid.changes → new.faults ≡ mid.faults → Changed kept first old request asked stamp response place moment new
-changed kept first old mid new request asked stamp response place moment d told looks refused changes faults = record {
-  entries = d.entries;
-  reply = d.reply;
-  replies = d.replies;
-  response_is = d.response_is;
-  place_is = d.place_is;
-  moment_is = d.moment_is;
-  after_seen = d.after_seen;
-  then_seen = prefix_trans (d.entries ++ option_to_list d.reply.entry) mid.told new.seen d.then_told told;
-  growth = changes ∙ d.growth;
-  looks = looks ∙ ap (λ n. n + 1) d.looks;
-  refused = omega (arith, d.refused, refused);
-  faults = faults ∙ d.faults;
-}
+some_of : {A : Type 0} (o : Option A) → IsSome o → (x : A) × (o ≡ Some x)
+some_of None is = absurd (cc is)
+some_of (Some x) is = (x, refl)
 
-pub decided : {D : Type 0} (kept : History → Type 0) (first : ℕ) (list : List Entry) (keeper : KeeperState D) (request : Request) (asked : AskedAgent) (stamp : Stamp) (plan : Plan)
-    → IsPlannedHere kept first list keeper request asked stamp plan → (old mid new : Visit) (now : List Entry) → IsPrefix old.seen list
-    → mid ≡ record old { changes = old.changes + length (option_to_list (planned_entry plan.next)) } → now ≡ list ++ option_to_list (planned_entry plan.next)
-    → IsPrefix now new.told → record new { told = mid.told } ≡ mid → Decided kept first old request asked stamp plan.done.response plan.done.place plan.moment.0 new
-decided kept first list keeper request asked stamp plan is old mid new now after counted grown told rest = record {
-  entries = list;
-  reply = is.reply;
-  replies = is.replies;
-  response_is = is.response_is;
-  place_is = is.place_is;
-  moment_is = is.moment_is;
-  after_seen = after;
-  then_told = subst (λ o. IsPrefix (list ++ option_to_list o) new.told) is.entry_is (subst (λ (xs : List Entry). IsPrefix xs new.told) grown told);
-  growth = ap (λ (v : Visit). v.changes) rest ∙ (ap (λ (v : Visit). v.changes) counted ∙ ap (λ o. old.changes + length (option_to_list o)) is.entry_is);
-  seen = ap (λ (v : Visit). v.seen) rest ∙ ap (λ (v : Visit). v.seen) counted;
-  looks = ap (λ (v : Visit). v.looks) rest ∙ ap (λ (v : Visit). v.looks) counted;
-  refused = ap (λ (v : Visit). v.refused) rest ∙ ap (λ (v : Visit). v.refused) counted;
-  faults = ap (λ (v : Visit). v.faults) rest ∙ ap (λ (v : Visit). v.faults) counted;
-}
+-- a change that met a disk fault
+pub faulted_at : {D : Type 0} (kept : History → Type 0) (first : ℕ) (list seen : List Entry) (keeper : KeeperState D) (request : Request) (asked : AskedAgent) (stamp : Stamp) (plan : Plan)
+    → IsPlannedHere kept first list keeper request asked stamp plan → IsPrefix seen list → IsTrue (is_change request.method) → IsSome (planned_entry plan.next) → FaultedAt kept seen request asked stamp
+faulted_at kept first list seen keeper request asked stamp plan is after changes had =
+    let one = some_of is.reply.entry (subst (λ (o : Option Entry). IsSome o) is.entry_is had) in
+    record {
+      entries = list;
+      reply = is.reply;
+      after_seen = after;
+      replies = is.replies;
+      entry = one.0;
+      entry_is = one.1;
+      events = is_fault_of kept list request asked stamp is.reply one.0 one.1 changes is.replies;
+    }

@@ -1,3 +1,4 @@
 -- internal
 mod BookLemmas
+mod EventLemmas
 mod ReadLemmas

@@ -1,5 +1,6 @@
 -- what a store represents, and what its sessions do
 pub mod Stores
+pub mod WorldEvents
 pub mod Visits
 -- internal: cited by private clauses alone
 pub mod Locks

@@ -13,6 +13,7 @@ use Rattle.pod_keeper.specs.Plans.{IsPlannedAt, planned_entry}
 use Rattle.pod_keeper.specs.declared.plan.Plan.{Plan}
 use Rattle.pod_live.specs.Stores.{KeptSome, IsSafe, Covers}
 use Rattle.pod_live.specs.Visits.{Visit, RepliesAtEnd, IsMomentAtEnd}
+use Rattle.pod_live.specs.WorldEvents.{IsChange}
 use Rattle.pod_pages.specs.State.{VersionState, states_after}
 use Rattle.pod_reply.specs.Replies.{Reply}
 use Rattle.reply_laws.specs.Laws.{IsNoFailure}
@@ -46,6 +47,7 @@ pub record IsPlannedHere {D : Type 0} (kept : History → Type 0) (first : ℕ) 
     : Type 0 where
   pub reply : Reply
   pub replies : RepliesAtEnd kept list request asked stamp reply
+  pub events : IsChange kept list request asked stamp reply
   pub response_is : plan.done.response ≡ reply.response
   pub place_is : plan.done.place ≡ first + length list
   pub moment_is : IsMomentAtEnd kept list stamp plan.moment.0
@@ -62,6 +64,7 @@ pub record Decided (kept : History → Type 0) (first : ℕ) (old : Visit) (requ
   pub entries : List Entry
   pub reply : Reply
   pub replies : RepliesAtEnd kept entries request asked stamp reply
+  pub events : IsChange kept entries request asked stamp reply
   pub response_is : response ≡ reply.response
   pub place_is : place ≡ first + length entries
   pub moment_is : IsMomentAtEnd kept entries stamp moment

@@ -1,5 +1,5 @@
 -- What contracts see of a session, and what its calls do to it.
-use Rattle.std.specs.Prelude.{◌≡◌, ◌≤◌, ℕ, ◌+◌, List, ◌++◌, length, None}
+use Rattle.std.specs.Prelude.{◌≡◌, ◌≤◌, ℕ, ◌+◌, List, ◌++◌, length, None, Some}
 use Rattle.std.specs.Option.{option_to_list}
 use mathlib.Core.List.{IsPrefix}
 use Rattle.pod_base.specs.declared.moment.Stamp.{Stamp}
@@ -8,6 +8,7 @@ use Rattle.pod_base.specs.declared.response.Response.{Response}
 use Rattle.pod_command.specs.declared.entry.Entry.{Entry}
 use Rattle.pod_core.specs.History.{History, end_of, longer, pod_at}
 use Rattle.pod_core.specs.KeeperSteps.{IsReplyAtEnd, stamp_at_end}
+use Rattle.pod_live.specs.WorldEvents.{IsChange, IsFault}
 use Rattle.pod_reply.specs.Replies.{Reply}
 use Rattle.pod_reply.specs.Reply.{IsReply}
 use Rattle.published_view.specs.LookerState.{CountIncreasedByOne}
@@ -50,13 +51,15 @@ IsMomentAtEnd kept entries stamp moment = (history : History) → kept history
 
 -- One list of entries decided the answer, and what the session had seen is a prefix of it. The
 -- answer's place is the end of that list, and the entry, where there is one, follows it in what the
--- session has then seen, by one look.
+-- session has then seen, by one look. In a world it is the events of a change that was answered:
+-- the lock is taken, and an entry is written and published.
 pub record Changed (kept : History → Type 0) (first : ℕ) (old : Visit) (request : Request)
     (asked : AskedAgent) (stamp : Stamp) (response : Response) (place moment : ℕ) (new : Visit)
     : Type 0 where
   pub entries : List Entry
   pub reply : Reply
   pub replies : RepliesAtEnd kept entries request asked stamp reply
+  pub events : IsChange kept entries request asked stamp reply
   pub response_is : response ≡ reply.response
   pub place_is : place ≡ first + length entries
   pub moment_is : IsMomentAtEnd kept entries stamp moment
@@ -70,6 +73,19 @@ pub record Changed (kept : History → Type 0) (first : ℕ) (old : Visit) (requ
 -- one disk fault was counted on the session, and nothing else changed
 abbrev pub IsFaulted : Visit → Visit → Type 0
 IsFaulted old new = new ≡ record old { faults = old.faults + 1 }
+
+-- A change met a disk fault. One list of entries decided it, and what the session had seen is a
+-- prefix of it. The reply there has an entry, which could not be made durable. In a world it is the
+-- events of such a change up to the one that failed.
+pub record FaultedAt (kept : History → Type 0) (seen : List Entry) (request : Request)
+    (asked : AskedAgent) (stamp : Stamp) : Type 0 where
+  pub entries : List Entry
+  pub reply : Reply
+  pub entry : Entry
+  pub after_seen : IsPrefix seen entries
+  pub replies : RepliesAtEnd kept entries request asked stamp reply
+  pub entry_is : reply.entry ≡ Some entry
+  pub events : IsFault kept entries request asked stamp reply entry
 
 -- ---- looks
 

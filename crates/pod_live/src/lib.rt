@@ -16,6 +16,10 @@
 //! changes (`one_list`); the keeper then represents that list, and each disk fault of a change was
 //! counted by a disk (`faults`).
 //!
+//! `specs/WorldEvents.antt` says the same as events of a world with many connections: a read is one
+//! look at the list that was published then (`look`), and a change takes the lock, is written to the
+//! disks and published (`changed`), or fails at one of these steps (`fault_at`).
+//!
 //! `Names` gives the type parameter `N`, by which these contracts speak of one store. The crate
 //! depends on `pod_keeper` for the store, on `published_view` for the readers that don't wait, and
 //! on `pod_core` for replies.

@@ -16,7 +16,7 @@ ghost use Rattle.reply_laws.specs.Sent.{IsSent};
 ghost use Rattle.token_table.specs.Credentials.{asked_view};
 ghost use Rattle.pod_live.specs.Locks.{Decided};
 ghost use Rattle.pod_live.specs.Stores.{Covers, IsSafe, KeptSome};
-ghost use Rattle.pod_live.specs.Visits.{Changed, IsFaulted, IsNewVisit, Meets};
+ghost use Rattle.pod_live.specs.Visits.{Changed, FaultedAt, IsFaulted, IsNewVisit, Meets};
 
 use crate::locked::Locked;
 use crate::names::{Changes, Faults, Names, StoreName};
@@ -78,6 +78,8 @@ pub trait Rounds<N: ViewName<CommittedEntry> + StoreName> {
         ensures sent { IfOk result (λ done. IsSent done.response) }
         ensures status { IfOk result (λ done. IsNoFailure done.response.status) }
         ensures fault { IsErrOf result CommitFault.DiskFault → IsFaulted session.old session.new }
+        ensures fault_at { IsErrOf result CommitFault.DiskFault → FaultedAt N.kept session.old.seen
+            request.now (asked_view asked.now) stamp }
         ensures memory { IsErrOf result CommitFault.NoMemory → session.new ≡ session.old };
 
     /// Shows all sessions the one list, which has grown by the sum of their changes. The seats hold
@@ -268,6 +270,8 @@ impl<N: ViewName<CommittedEntry> + StoreName, D: Disk> Live<N, D> {
         ensures sent { IfOk result IsSent }
         ensures status { IfOk result (λ response. IsNoFailure response.status) }
         ensures fault { IsErrOf result CommitFault.DiskFault → IsFaulted session.old session.new }
+        ensures fault_at { IsErrOf result CommitFault.DiskFault → FaultedAt N.kept session.old.seen
+            request.now (asked_view asked.now) stamp }
         ensures memory { IsErrOf result CommitFault.NoMemory → session.new ≡ session.old }
     {
         match self.commit(rt, alloc, session, request, asked, stamp) {
@@ -321,6 +325,7 @@ impl<N: ViewName<CommittedEntry> + StoreName, D: Disk> Live<N, D> {
         asked: &Asked<'_>,
         stamp: Stamp,
     ) -> Option<Result<PlacedResponse, CommitFault>>
+        requires { IsTrue (is_change request.now.method) }
         ensures decided { IfSome result (λ r. IfOk r (λ done. Decided N.kept N.opened.next
             session.old request.now (asked_view asked.now) stamp done.response done.place
             done.moment.0 session.new)) }
@@ -328,6 +333,8 @@ impl<N: ViewName<CommittedEntry> + StoreName, D: Disk> Live<N, D> {
         ensures status { IfSome result (λ r. IfOk r (λ done. IsNoFailure done.response.status)) }
         ensures fault { IfSome result (λ r. IsErrOf r CommitFault.DiskFault
             → IsFaulted session.old session.new) }
+        ensures fault_at { IfSome result (λ r. IsErrOf r CommitFault.DiskFault
+            → FaultedAt N.kept session.old.seen request.now (asked_view asked.now) stamp) }
         ensures memory { IfSome result (λ r. IsErrOf r CommitFault.NoMemory
             → session.new ≡ session.old) }
         ensures none { IfNone result (session.new ≡ session.old) }

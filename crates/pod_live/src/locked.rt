@@ -1,15 +1,16 @@
 //! What the lock of a store protects.
 ghost use Rattle.std.specs.Prelude.{◌≡◌, ◌<◌, ◌+◌, ◌-◌, ◌^◌, ◌++◌, ◌∷◌, [], IsErrOf, IfOk, IfSome};
-ghost use Rattle.std.specs.Prelude.{OnOk, OnErr, length, sum_by};
+ghost use Rattle.std.specs.Prelude.{IsSome, IsTrue, OnOk, OnErr, length, sum_by};
 ghost use Rattle.std.specs.Option.{option_to_list};
 ghost use mathlib.Core.List.{IsPrefix};
 ghost use Rattle.pod_command.specs.Bare.{bare_entry};
 ghost use Rattle.pod_keeper.specs.Plans.{IsPlannedAt, planned_entry};
+ghost use Rattle.reply_laws.specs.Granted.{is_change};
 ghost use Rattle.reply_laws.specs.Laws.{IsNoFailure};
 ghost use Rattle.reply_laws.specs.Sent.{IsSent};
 ghost use Rattle.token_table.specs.Credentials.{asked_view};
 ghost use Rattle.pod_live.specs.Locks.{Decided, IsPlannedHere};
-ghost use Rattle.pod_live.specs.Visits.{IsFaulted};
+ghost use Rattle.pod_live.specs.Visits.{FaultedAt, IsFaulted};
 
 use crate::names::{Changes, Faults, StoreName};
 use crate::read::PlacedResponse;
@@ -130,6 +131,7 @@ impl<N: ViewName<CommittedEntry> + StoreName, D: Disk> Locked<N, D> {
           changes = session.old.changes + length (option_to_list (planned_entry next));
         }) }
         ensures fault { IsErrOf result CommitFault.DiskFault → IsFaulted session.old session.new }
+        ensures entry { IsErrOf result CommitFault.DiskFault → IsSome (planned_entry next) }
         ensures memory { IsErrOf result CommitFault.NoMemory → session.new ≡ session.old }
     {
         let Some(planned) = next else {
@@ -174,11 +176,14 @@ impl<N: ViewName<CommittedEntry> + StoreName, D: Disk> Locked<N, D> {
         stamp: Stamp,
     ) -> Result<PlacedResponse, CommitFault>
         requires seen { IsPrefix session.old.seen self.old.list }
+        requires change { IsTrue (is_change request.now.method) }
         ensures decided { IfOk result (λ done. Decided N.kept N.opened.next session.old request.now
             (asked_view asked.now) stamp done.response done.place done.moment.0 session.new) }
         ensures sent { IfOk result (λ done. IsSent done.response) }
         ensures status { IfOk result (λ done. IsNoFailure done.response.status) }
         ensures fault { IsErrOf result CommitFault.DiskFault → IsFaulted session.old session.new }
+        ensures fault_at { IsErrOf result CommitFault.DiskFault → FaultedAt N.kept session.old.seen
+            request.now (asked_view asked.now) stamp }
         ensures memory { IsErrOf result CommitFault.NoMemory → session.new ≡ session.old }
     {
         if session.changes == u64::MAX || session.faults == u64::MAX {
@@ -205,6 +210,7 @@ impl<N: ViewName<CommittedEntry> + StoreName, D: Disk> Locked<N, D> {
 
     /// What a change comes to here.
     fn plan(&self, alloc: Global, request: &Request, asked: &Asked<'_>, stamp: Stamp) -> Mem<Plan>
+        requires { IsTrue (is_change request.now.method) }
         ensures { IfOk result (λ plan. IsPlannedHere N.kept N.opened.next self.now.list
             self.now.keeper request.now (asked_view asked.now) stamp plan) }
     {

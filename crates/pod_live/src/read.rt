@@ -7,6 +7,7 @@ ghost use Rattle.reply_laws.specs.Sent.{IsSent};
 ghost use Rattle.token_table.specs.Credentials.{asked_view};
 ghost use Rattle.pod_live.specs.VersionReplies.{IsVersionReply};
 ghost use Rattle.pod_live.specs.Visits.{IsTurnedAway, Looked, ReadAt};
+ghost use Rattle.pod_live.specs.WorldEvents.{IsLook};
 
 use crate::names::StoreName;
 use crate::session::Session;
@@ -43,6 +44,8 @@ pub fn answer_read<N: ViewName<CommittedEntry> + StoreName>(
     ensures read { IfOk result (λ response. ReadAt N.kept session.new.seen request.now
         (asked_view asked.now) stamp response) }
     ensures given { IfOk result (λ response. session.new.seen ≡ session.new.given) }
+    ensures look { IfOk result (λ response. IsLook N.kept session.old.seen session.new.given
+        request.now (asked_view asked.now) stamp response) }
     ensures sent { IfOk result IsSent }
     ensures status { IfOk result (λ response. IsNoFailure response.status) }
     ensures looked { NotNoPlace result (Looked session.old session.new) }
@@ -97,6 +100,8 @@ impl<N: ViewName<CommittedEntry> + StoreName> Session<N> {
             (λ placed. placed.place ≡ N.opened.next + length self.new.seen) }
         ensures moment { IfOk result (λ placed. placed.moment ≡ stamp.moment) }
         ensures given { IfOk result (λ placed. self.new.seen ≡ self.new.given) }
+        ensures look { IfOk result (λ placed. IsLook N.kept self.old.seen self.new.given request.now
+            (asked_view asked.now) stamp placed.response) }
         ensures sent { IfOk result (λ placed. IsSent placed.response) }
         ensures status { IfOk result (λ placed. IsNoFailure placed.response.status) }
         ensures looked { NotNoPlace result (Looked self.old self.new) }

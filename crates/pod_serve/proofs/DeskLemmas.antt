@@ -1,5 +1,5 @@
 -- The connections of a desk, one more.
-use Rattle.std.proofs.Common.{◌≡◌, ◌≢◌, inl, inr, ℕ, Bool, true, false, ◌+◌, ◌≤◌, if◌then◌else◌, List, [], ◌∷◌, ◌++◌, length, length-append, map, Option, Some, None, refl, sym, ap, subst, append_assoc, ◌∙◌, arith}
+use Rattle.std.proofs.Common.{◌≡◌, ◌≢◌, ◌⊎◌, inl, inr, ℕ, Bool, true, false, ◌+◌, ◌≤◌, if◌then◌else◌, List, [], ◌∷◌, ◌++◌, length, length-append, map, Option, Some, None, refl, sym, ap, subst, append_assoc, ◌∙◌, arith}
 use Rattle.std.specs.List.{AllByRecursion}
 use Rattle.std.specs.Option.{option_map}
 use Rattle.std.proofs.lemmas.List.{append-nil}
@@ -8,8 +8,9 @@ use Rattle.pod_core.specs.History.{History}
 use Rattle.pod_io.specs.Counts.{next_count}
 use Rattle.pod_live.specs.Visits.{Visit}
 use Rattle.token_table.specs.Credentials.{AskedAgent}
-use Rattle.pod_serve.specs.Desks.{Conns, DeskServed, GateView, IsDeskEnd, NoneOutOfMemory, ServedLink}
-use Rattle.pod_serve.specs.Served.{ConnServed, LinkView}
+use Rattle.pod_serve.specs.Desks.{Conns, DeskServed, GateView, IsDeskEnd, IsGateLeft, NoneOutOfMemory, ServedLink, SomeOutOfMemory}
+use Rattle.pod_serve.specs.Connections.{ConnServed}
+use Rattle.pod_serve.specs.Served.{LinkView}
 use Rattle.pod_serve.specs.Turns.{IsOneServed, NextServed}
 use Rattle.pod_serve.specs.declared.conn_end.ConnEnd.{ConnEnd}
 use Rattle.pod_serve.specs.declared.conn_end.ConnEnd.TheVariants as ends
@@ -50,6 +51,15 @@ none_back : {X : Type 0} (o : Option (List X)) → o ≡ option_map (λ back. ba
 none_back None = refl
 none_back (Some back) = ap (λ b. Some b) (sym (append-nil back))
 
+some_more : {C : Type 0} (xs ys : List (ServedLink C)) → SomeOutOfMemory xs → SomeOutOfMemory (xs ++ ys)
+some_more [] ys h = absurd h
+some_more (x ∷ xs) ys (inl is) = inl is
+some_more (x ∷ xs) ys (inr more) = inr (some_more xs ys more)
+
+some_last : {C : Type 0} (xs : List (ServedLink C)) (x : ServedLink C) → x.end ≡ ends.NoMemory → SomeOutOfMemory (xs ++ x ∷ [])
+some_last [] x is = inl is
+some_last (y ∷ xs) x is = inr (some_last xs x is)
+
 -- What a desk has served so far: its connections, and whether one was out of memory.
 module _ (kept : History → Type 0) (first : ℕ) (may_give : ℕ → Type 0) (asking : Request → AskedAgent) {C : Type 0} (view : C → LinkView) (step begun : ℕ) where
   pub record IsSoFar (before : Visit) (old : GateView C) (count number : ℕ) (starved : Bool) (now : Visit) (gate : GateView C) : Type 0 where
@@ -60,6 +70,7 @@ module _ (kept : History → Type 0) (first : ℕ) (may_give : ℕ → Type 0) (
     pub count_is : length links ≡ count
     pub number_is : number ≡ number_after begun step links
     pub fine : starved ≡ false → NoneOutOfMemory links
+    pub poor : starved ≡ true → SomeOutOfMemory links
     pub ended : gate.ends ≡ old.ends
     pub faults : old.faults ≤ gate.faults
 
@@ -72,25 +83,27 @@ module _ (kept : History → Type 0) (first : ℕ) (may_give : ℕ → Type 0) (
     count_is = refl;
     number_is = refl;
     fine = λ e. tt;
+    poor = λ e. absurd (cc e);
     ended = refl;
     faults = omega arith;
   }
 
   conns_more : (number : ℕ) (before mid new : Visit) (links : List (ServedLink C)) (one : ServedLink C) → Conns kept first may_give asking view step number before links mid
-      → ConnServed kept first may_give asking (number_after number step links) one.end mid new (view one.given) (view one.back) → Conns kept first may_give asking view step number before (links ++ one ∷ []) new
-  conns_more number before mid new [] one is served = (new, subst (λ (v : Visit). ConnServed kept first may_give asking number one.end v new (view one.given) (view one.back)) is served, refl)
+      → ConnServed kept first may_give asking (number_after number step links) one.end mid new (view one.given) (view one.back) one.wires one.counted → Conns kept first may_give asking view step number before (links ++ one ∷ []) new
+  conns_more number before mid new [] one is served = (new, subst (λ (v : Visit). ConnServed kept first may_give asking number one.end v new (view one.given) (view one.back) one.wires one.counted) is served, refl)
   conns_more number before mid new (l ∷ links) one c served = (c.0, c.1, conns_more (number + step) c.0 mid new links one c.2 served)
 
   pub one_more : (before : Visit) (old : GateView C) (count number : ℕ) (starved : Bool) (mid : Visit) (gate : GateView C) (s : IsSoFar before old count number starved mid gate) (end : ConnEnd) (new : Visit) (next : GateView C)
-      → IsOneServed kept first may_give asking view number end mid new gate next → (now : Bool) → (now ≡ false → (starved ≡ false) × (end ≢ ends.NoMemory)) → IsSoFar before old (count + 1) (number + step) now new next
-  one_more before old count number starved mid gate s end new next o now fine = record {
+      → IsOneServed kept first may_give asking view number end mid new gate next → (now : Bool) → (now ≡ false → (starved ≡ false) × (end ≢ ends.NoMemory)) → (now ≡ true → (starved ≡ true) ⊎ (end ≡ ends.NoMemory)) → IsSoFar before old (count + 1) (number + step) now new next
+  one_more before old count number starved mid gate s end new next o now fine poor = record {
     links = s.links ++ o.one ∷ [];
-    conns = conns_more begun before mid new s.links o.one s.conns (subst (λ n. ConnServed kept first may_give asking n o.one.end mid new (view o.one.given) (view o.one.back)) s.number_is (subst (λ e. ConnServed kept first may_give asking number e mid new (view o.one.given) (view o.one.back)) (sym o.end_is) o.served));
+    conns = conns_more begun before mid new s.links o.one s.conns (subst (λ n. ConnServed kept first may_give asking n o.one.end mid new (view o.one.given) (view o.one.back) o.one.wires o.one.counted) s.number_is (subst (λ e. ConnServed kept first may_give asking number e mid new (view o.one.given) (view o.one.back) o.one.wires o.one.counted) (sym o.end_is) o.served));
     given = subst (λ (xs : List C). old.rest ≡ option_map (λ rest. xs ++ rest) next.rest) (sym (map_more (λ (one : ServedLink C). one.given) s.links o.one)) (given_more (map (λ (one : ServedLink C). one.given) s.links) o.one.given old.rest gate.rest next.rest s.given o.given);
     back = subst (λ (xs : List C). next.back ≡ option_map (λ back. back ++ xs) old.back) (sym (map_more (λ (one : ServedLink C). one.back) s.links o.one)) (back_more (map (λ (one : ServedLink C). one.back) s.links) o.one.back old.back gate.back next.back s.back o.back);
     count_is = length-append s.links (o.one ∷ []) ∙ ap (λ n. n + 1) s.count_is;
     number_is = ap (λ n. n + step) s.number_is ∙ sym (number_more begun step s.links o.one);
     fine = λ e. let f = fine e in all_more (λ (one : ServedLink C). one.end ≢ ends.NoMemory) s.links o.one (s.fine f.0) (λ is. f.1 (sym o.end_is ∙ is));
+    poor = λ e. elim (poor e) [ inl was ↦ some_more s.links (o.one ∷ []) (s.poor was) | inr is ↦ some_last s.links o.one (o.end_is ∙ is) ];
     ended = o.ended ∙ s.ended;
     faults = omega (arith, s.faults, o.faults);
   }
@@ -112,7 +125,7 @@ module _ (kept : History → Type 0) (first : ℕ) (may_give : ℕ → Type 0) (
         subst (λ (v : Visit). DeskServed kept first may_give asking view step begun told before v old next) (sym (same end o))
         (subst (λ e. DeskServed kept first may_give asking view step begun e before now old next) (sym is)
         (elim starved as (λ b. starved ≡ b → DeskServed kept first may_give asking view step begun (if b then NoMemory else end) before now old next) [
-          | true ↦ λ e. served_so NoMemory next (rest_of end o) (back_of end o) tt
+          | true ↦ λ e. served_so NoMemory next (rest_of end o) (back_of end o) (s.poor e, left_of end o)
           | false ↦ λ e. served_so end next (rest_of end o) (back_of end o) (ended_of end o e)
         ] refl))
       where
@@ -134,13 +147,18 @@ module _ (kept : History → Type 0) (first : ℕ) (may_give : ℕ → Type 0) (
         ended_of : (end : DeskEnd) → NextServed kept first may_give asking view number (Over end) now after gate next → starved ≡ false → IsDeskEnd end s.links old next
         ended_of GateEnded o e = (s.fine e, inl (o.1 ∙ ap next_count s.ended))
         ended_of GateFailed o e = (s.fine e, o.1 ∙ s.ended, λ below. omega (arith, s.faults, o.2 below))
-        ended_of NoMemory o e = tt
+        ended_of NoMemory o e = absurd o
+
+        left_of : (end : DeskEnd) → NextServed kept first may_give asking view number (Over end) now after gate next → IsGateLeft s.links old next
+        left_of GateEnded o = inl (o.1 ∙ ap next_count s.ended)
+        left_of GateFailed o = inr (inr (o.1 ∙ s.ended, λ below. omega (arith, s.faults, o.2 below)))
+        left_of NoMemory o = absurd o
 
     -- it gave as many as a desk may have
     pub all_given : (told : DeskEnd) → count ≡ CONNECTION_LIMIT → told ≡ (if starved then NoMemory else GateEnded) → DeskServed kept first may_give asking view step begun told before now old gate
     all_given told all is =
         subst (λ e. DeskServed kept first may_give asking view step begun e before now old gate) (sym is)
         (elim starved as (λ b. starved ≡ b → DeskServed kept first may_give asking view step begun (if b then NoMemory else GateEnded) before now old gate) [
-          | true ↦ λ e. served_so NoMemory gate refl refl tt
+          | true ↦ λ e. served_so NoMemory gate refl refl (s.poor e, inr (inl (s.count_is ∙ all, s.ended)))
           | false ↦ λ e. served_so GateEnded gate refl refl (s.fine e, inr (s.count_is ∙ all, s.ended))
         ] refl)

@@ -5,3 +5,4 @@ mod PieceLemmas
 mod PoddLemmas
 mod SeatedLemmas
 mod SentLemmas
+pub mod NoticeLemmas

@@ -25,9 +25,9 @@ use Rattle.pod_live.specs.Visits.{Visit}
 use Rattle.pod_pipe.specs.Statuses.{Hears}
 use Rattle.pod_pipe.specs.Streams.{AtEnd, Reads}
 use Rattle.pod_serve.specs.Served.{HasCause, IsAllWritten, IsWritten, Items, LinkView, MeetsEnd}
-use Rattle.pod_serve.specs.Serving.{AfterTurn, FinishesAs, IsAnswered, IsEnded, IsLinkServed, IsOpenLink, IsReadLink, IsWrittenTo, conn_end_of, taken_with, unsent_end}
-use Rattle.pod_serve.specs.declared.conn_end.ConnEnd.{ConnEnd}
-use Rattle.pod_serve.specs.declared.conn_end.ConnEnd.TheVariants as ends
+use Rattle.pod_serve.specs.Serving.{AfterTurn, FinishesAs, IsAnswered, IsEnded, IsLinkServed, IsOpenLink, IsReadLink, IsWrittenTo, requests_end_of, taken_with, unsent_end}
+use Rattle.pod_serve.specs.declared.requests_end.RequestsEnd.{RequestsEnd}
+use Rattle.pod_serve.specs.declared.requests_end.RequestsEnd.TheVariants as ends
 use Rattle.pod_serve.specs.declared.conn_end.TheConstants.{QUIET_LIMIT}
 use Rattle.pod_serve.proofs.PieceLemmas.{all_requests, has_items, is_whole}
 
@@ -214,7 +214,7 @@ module _ {A : Type 0} (rules : Rules A) (first : A) (start : LinkView) (stage : 
             }
 
       -- the input ended
-      pub at_its_end : (rest : ℕ) (end : ConnEnd) (next : LinkView) → rest ≡ rest_of stage → end ≡ (if rest == 0 then ends.PeerEnded else ends.CutShort rest) → Reads s.text start.rest next.rest → AtEnd next.rest → next.sent ≡ view.sent → next.counts.ends ≡ next_count view.counts.ends
+      pub at_its_end : (rest : ℕ) (end : RequestsEnd) (next : LinkView) → rest ≡ rest_of stage → end ≡ (if rest == 0 then ends.PeerEnded else ends.CutShort rest) → Reads s.text start.rest next.rest → AtEnd next.rest → next.sent ≡ view.sent → next.counts.ends ≡ next_count view.counts.ends
           → IsLinkServed rules end first now start next
       at_its_end rest end next left is reads over same_sent met =
           let told : Messages s.text t.events rest = subst (Messages s.text t.events) (sym left) (messages s.text s.written t) in
@@ -308,7 +308,7 @@ module _ {A : Type 0} (rules : Rules A) (first : A) (start : LinkView) (stage : 
     }
 
     -- The connection ended in it, and not all that was taken was sent.
-    fault_end : (end : ConnEnd) (e : IsEnded rules end first after (s.text ++ piece) (s.written ++ out)) → Hears (s.text ++ piece) e.events → (after ≡ e.mid) ⊎ ((request : Request) × rules.passes request e.mid after)
+    fault_end : (end : RequestsEnd) (e : IsEnded rules end first after (s.text ++ piece) (s.written ++ out)) → Hears (s.text ++ piece) e.events → (after ≡ e.mid) ⊎ ((request : Request) × rules.passes request e.mid after)
         → IsPrefix (s.written ++ out) (output_of e.events e.items.list e.items.refusal) → CountIncreased start.counts.write_faults next.counts.write_faults → IsLinkServed rules ends.LinkFault first after start next
     fault_end end e hears left part rose =
         let p = sent_prefix sent_since.0 (s.written ++ out) later start.sent next.sent sent_since.1 taken_since in record {
@@ -336,10 +336,10 @@ module _ {A : Type 0} (rules : Rules A) (first : A) (start : LinkView) (stage : 
     all_heard : (events : List Heard) (rest : ℕ) → Messages (s.text ++ piece) events rest → Hears (s.text ++ piece) events
     all_heard events rest m = (events, rest, m, ([], sym (append-nil events)))
 
-    unsent_so : (end : TalkEnd) → IsEnded rules (conn_end_of end) first after (s.text ++ piece) (s.written ++ out) → CountIncreased start.counts.write_faults next.counts.write_faults → IsLinkServed rules (unsent_end end) first after start next
+    unsent_so : (end : TalkEnd) → IsEnded rules (requests_end_of end) first after (s.text ++ piece) (s.written ++ out) → CountIncreased start.counts.write_faults next.counts.write_faults → IsLinkServed rules (unsent_end end) first after start next
     unsent_so talk.Closed e rose = let h = e.hears None in fault_end ends.Closed e (all_heard e.events 0 h.0) (inl e.left) (all_of (s.written ++ out) (output_of e.events e.items.list e.items.refusal) e.output.bytes) rose
     unsent_so talk.Limit e rose = let h = e.hears None in fault_end ends.LimitReached e (all_heard e.events 0 h.0) (inl e.left) (all_of (s.written ++ out) (output_of e.events e.items.list e.items.refusal) e.output.bytes) rose
-    unsent_so talk.Upgraded e rose = let h = e.hears None in fault_end ends.Noticed e (all_heard e.events h.0 h.1) (inl e.left) (all_of (s.written ++ out) (output_of e.events e.items.list e.items.refusal) e.output.bytes) rose
+    unsent_so talk.Upgraded e rose = let h = e.hears None in fault_end ends.Upgraded e (all_heard e.events h.0 h.1) (inl e.left) (all_of (s.written ++ out) (output_of e.events e.items.list e.items.refusal) e.output.bytes) rose
     unsent_so (talk.Bad status) e rose = let h = e.hears None in fault_end (ends.BadMessage status) e (all_heard e.events 0 h.0) (inl e.left) (all_of (s.written ++ out) (output_of e.events e.items.list e.items.refusal) e.output.bytes) rose
     unsent_so talk.WriteFault e rose = fault_end ends.LinkFault e (e.hears None) e.left e.output rose
     unsent_so talk.NoPlace e rose = let h = e.hears None in fault_end ends.NoPlace e (all_heard e.events h.0 h.1) (inr (e.left.0, e.left.1)) (all_of (s.written ++ out) (output_of e.events e.items.list e.items.refusal) e.output) rose
@@ -368,7 +368,7 @@ module _ {A : Type 0} (rules : Rules A) (first : A) (start : LinkView) (stage : 
       sent_now : ExtendsBy (s.written ++ out) start.sent next.sent
       sent_now = sym (none_waits later next.sent none) ∙ taken_since
 
-      sent_end : (end : ConnEnd) (e : IsEnded rules end first after (s.text ++ piece) (s.written ++ out))
+      sent_end : (end : RequestsEnd) (e : IsEnded rules end first after (s.text ++ piece) (s.written ++ out))
           → ((end ≡ ends.NoPlace → ⊥) → IsWritten end start.counts next.counts (s.text ++ piece) e.events e.items (s.written ++ out))
           → ((end ≡ ends.NoPlace → ⊥) → (before now_seen : Visit) → HasCause end start.counts next.counts before now_seen) → MeetsEnd end start.counts.ends next.counts.ends → IsLinkServed rules end first after start next
       sent_end end e serves cause met = record {
@@ -393,16 +393,16 @@ module _ {A : Type 0} (rules : Rules A) (first : A) (start : LinkView) (stage : 
       same_ends : next.counts.ends ≡ start.counts.ends
       same_ends = w.ended ∙ s.ended
 
-      sent_so : (end : TalkEnd) → (end ≡ talk.WriteFault → ⊥) → IsEnded rules (conn_end_of end) first after (s.text ++ piece) (s.written ++ out) → IsLinkServed rules (conn_end_of end) first after start next
+      sent_so : (end : TalkEnd) → (end ≡ talk.WriteFault → ⊥) → IsEnded rules (requests_end_of end) first after (s.text ++ piece) (s.written ++ out) → IsLinkServed rules (requests_end_of end) first after start next
       sent_so talk.Closed ok e = sent_end ends.Closed e (λ other. e.output) (λ other before now_seen. tt) same_ends
       sent_so talk.Limit ok e = sent_end ends.LimitReached e (λ other. e.output) (λ other before now_seen. tt) same_ends
-      sent_so talk.Upgraded ok e = sent_end ends.Noticed e (λ other. e.output) (λ other before now_seen. tt) same_ends
+      sent_so talk.Upgraded ok e = sent_end ends.Upgraded e (λ other. e.output) (λ other before now_seen. tt) same_ends
       sent_so (talk.Bad status) ok e = sent_end (ends.BadMessage status) e (λ other. e.output) (λ other before now_seen. tt) same_ends
       sent_so talk.WriteFault ok e = absurd (ok refl)
       sent_so talk.NoMemory ok e = sent_end ends.NoMemory e (λ other. e.output) (λ other before now_seen. tt) same_ends
       sent_so talk.NoPlace ok e = sent_end ends.NoPlace e (λ other. absurd (other refl)) (λ other before now_seen. absurd (other refl)) same_ends
 
-    pub finished : (end : TalkEnd) (result : ConnEnd) (middle : ℕ) → start.counts.write_faults ≤ middle → IsEnded rules (conn_end_of end) first after (s.text ++ piece) (s.written ++ out)
+    pub finished : (end : TalkEnd) (result : RequestsEnd) (middle : ℕ) → start.counts.write_faults ≤ middle → IsEnded rules (requests_end_of end) first after (s.text ++ piece) (s.written ++ out)
         → FinishesAs end result later middle next.counts.write_faults → (end ≡ talk.WriteFault → CountIncreased start.counts.write_faults next.counts.write_faults) → IsLinkServed rules result first after start next
     finished end result middle le e (inl so) rose = subst (λ r. IsLinkServed rules r first after start next) (sym so.0) (sent_so so.1 end so.2 e)
     finished end result middle le e (inr (is, inl fault)) rose = subst (λ r. IsLinkServed rules r first after start next) (sym is) (unsent_so end e (rose fault))
@@ -430,7 +430,7 @@ opens rules first start stage waiting represents none = record {
     nothing_read (Some bytes) = refl
 
 -- a quiet time, counted
-pub quiet_turn : {A : Type 0} (rules : Rules A) (first : A) (start : LinkView) (stage : ParserState) (now : A) (number quiet quiet_now : ℕ) (waiting later : List ℕ) (view next : LinkView) (result : Option ConnEnd) → IsOpenLink rules first start stage now number quiet waiting view → waiting ≡ []
+pub quiet_turn : {A : Type 0} (rules : Rules A) (first : A) (start : LinkView) (stage : ParserState) (now : A) (number quiet quiet_now : ℕ) (waiting later : List ℕ) (view next : LinkView) (result : Option RequestsEnd) → IsOpenLink rules first start stage now number quiet waiting view → waiting ≡ []
     → next.rest ≡ view.rest → next.sent ≡ view.sent → next.counts.quiet ≡ next_count view.counts.quiet → next.counts.quiet_row ≡ next_count view.counts.quiet_row → next.counts.ends ≡ view.counts.ends → view.counts.read_faults ≤ next.counts.read_faults → next.counts.write_faults ≡ view.counts.write_faults
     → quiet < QUIET_LIMIT → quiet_now ≡ quiet + 1 → later ≡ waiting → IfSome result (λ end. (end ≡ ends.Quiet) × (quiet_now ≡ QUIET_LIMIT)) → AfterTurn rules result first start stage now number quiet_now later next
 quiet_turn rules first start stage now number quiet quiet_now waiting later view next None s none same_rest same_sent quiet_is row_is same_ends reads writes few is same end =
@@ -440,7 +440,7 @@ quiet_turn rules first start stage now number quiet quiet_now waiting later view
     subst (λ e. IsLinkServed rules e first now start next) (sym end.0)
     (ends_quiet rules first start stage now number quiet waiting view s none next same_rest same_sent quiet_is row_is same_ends few (sym is ∙ end.1))
 
-pub quiet_read : {A : Type 0} (rules : Rules A) (first : A) (start : LinkView) (stage stage_now : ParserState) (now : A) (number number_now quiet quiet_now : ℕ) (waiting later : List ℕ) (view next : LinkView) (result : Option ConnEnd) → IsOpenLink rules first start stage now number quiet waiting view → waiting ≡ []
+pub quiet_read : {A : Type 0} (rules : Rules A) (first : A) (start : LinkView) (stage stage_now : ParserState) (now : A) (number number_now quiet quiet_now : ℕ) (waiting later : List ℕ) (view next : LinkView) (result : Option RequestsEnd) → IsOpenLink rules first start stage now number quiet waiting view → waiting ≡ []
     → next.rest ≡ view.rest → next.sent ≡ view.sent → next.counts.quiet ≡ next_count view.counts.quiet → next.counts.quiet_row ≡ next_count view.counts.quiet_row → next.counts.ends ≡ view.counts.ends → view.counts.read_faults ≤ next.counts.read_faults → next.counts.write_faults ≡ view.counts.write_faults
     → quiet < QUIET_LIMIT → quiet_now ≡ quiet + 1 → later ≡ waiting → IfSome result (λ end. (end ≡ ends.Quiet) × (quiet_now ≡ QUIET_LIMIT)) → stage_now ≡ stage → number_now ≡ number → AfterTurn rules result first start stage_now now number_now quiet_now later next
 quiet_read rules first start stage stage_now now number number_now quiet quiet_now waiting later view next result s none same_rest same_sent quiet_is row_is same_ends reads writes few is same end same_stage same_number =

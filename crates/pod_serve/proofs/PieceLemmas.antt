@@ -24,8 +24,8 @@ use Rattle.pod_core.specs.Output.{output_of}
 use Rattle.pod_core.specs.Session.{IsRefused, IsWhole, Item, ends_upgraded, has_bad, requests_of}
 use Rattle.pod_pipe.specs.Statuses.{HearsFirst}
 use Rattle.pod_serve.specs.Served.{IsAllWritten, Items}
-use Rattle.pod_serve.specs.Serving.{IsAnswered, IsEnded, conn_end_of}
-use Rattle.pod_serve.specs.declared.conn_end.ConnEnd.TheVariants as ends
+use Rattle.pod_serve.specs.Serving.{IsAnswered, IsEnded, requests_end_of}
+use Rattle.pod_serve.specs.declared.requests_end.RequestsEnd.TheVariants as ends
 
 -- the events of a prefix of a text come first in the whole
 first_heard : (text more : List ℕ) (events : List Heard) (rest : ℕ) → Messages text events rest → HearsFirst (text ++ more) events
@@ -178,7 +178,7 @@ module _ {A : Type 0} (rules : Rules A) (first : A) (stage : ParserState) (old :
       }
 
       -- nothing follows a switch of protocols, and nothing was refused
-      pub ended_upgraded : Ends rules Upgraded first new (s.events ++ front) (written ++ out) (s.trail ++ lines) → IsEnded rules ends.Noticed first new (text ++ piece) (written ++ out)
+      pub ended_upgraded : Ends rules Upgraded first new (s.events ++ front) (written ++ out) (s.trail ++ lines) → IsEnded rules ends.Upgraded first new (text ++ piece) (written ++ out)
       ended_upgraded e =
           let items : Items = record { list = e.items; refusal = e.refusal } in record {
             events = s.events ++ those;
@@ -260,7 +260,7 @@ module _ {A : Type 0} (rules : Rules A) (first : A) (stage : ParserState) (old :
             output = bytes;
           }
 
-    pub ended : (new : A) (number_now : ℕ) (end : TalkEnd) (out lines : List ℕ) → TurnsIn rules old number new number_now those out lines (Err end) → IsEnded rules (conn_end_of end) first new (text ++ piece) (written ++ out)
+    pub ended : (new : A) (number_now : ℕ) (end : TalkEnd) (out lines : List ℕ) → TurnsIn rules old number new number_now those out lines (Err end) → IsEnded rules (requests_end_of end) first new (text ++ piece) (written ++ out)
     ended new number_now Closed out lines t = ended_closed new number_now out lines t.front t.rest t.cut t.over (t.turns first s.events written s.trail s.talks)
     ended new number_now Limit out lines t = ended_limit new number_now out lines t.front t.rest t.cut t.over (t.turns first s.events written s.trail s.talks)
     ended new number_now Upgraded out lines t = ended_upgraded new number_now out lines t.front t.rest t.cut (t.turns first s.events written s.trail s.talks)

@@ -9,18 +9,23 @@ use Rattle.pod_core.specs.History.{History}
 use Rattle.pod_io.specs.Counts.{next_count}
 use Rattle.pod_live.specs.Visits.{Visit}
 use Rattle.token_table.specs.Credentials.{AskedAgent}
-use Rattle.pod_serve.specs.Served.{ConnServed, LinkView}
+use Rattle.socket_wire.specs.Counted.{WireCounts}
+use Rattle.pod_serve.specs.Connections.{ConnServed}
+use Rattle.pod_serve.specs.Served.{LinkView}
 use Rattle.pod_serve.specs.declared.conn_end.ConnEnd.{ConnEnd}
 use Rattle.pod_serve.specs.declared.conn_end.ConnEnd.TheVariants as ends
 use Rattle.pod_serve.specs.declared.desk.DeskEnd.{DeskEnd}
 use Rattle.pod_serve.specs.declared.desk.DeskEnd.TheVariants.{GateEnded, GateFailed, NoMemory}
 use Rattle.pod_serve.specs.declared.desk.TheConstants.{CONNECTION_LIMIT}
 
--- a connection that a gate gave: its link then, its link when it was given back, and how it ended
+-- a connection that a gate gave: its link then, its link when it was given back, how it ended, and
+-- the counts of its WebSocket before and after
 pub record ServedLink (C : Type 0) : Type 0 where
   pub given : C
   pub back : C
   pub end : ConnEnd
+  pub wires : WireCounts
+  pub counted : WireCounts
 
 -- What a gate shows: the connections that it is yet to give and those that were given back, where
 -- it shows them, how many calls failed, how many connections it gave, and how many calls found
@@ -46,8 +51,20 @@ gate_view_of rest back faults given ends gate = record {
 abbrev pub NoneOutOfMemory : {C : Type 0} → List (ServedLink C) → Type 0
 NoneOutOfMemory {C} links = AllByRecursion (λ (one : ServedLink C). one.end ≢ ends.NoMemory) links
 
+-- one of them was
+abbrev pub SomeOutOfMemory : {C : Type 0} → List (ServedLink C) → Type 0
+SomeOutOfMemory [] = ⊥
+SomeOutOfMemory (one ∷ others) = (one.end ≡ ends.NoMemory) ⊎ SomeOutOfMemory others
+
+-- Why a gate was asked for no more connections: it found none, or gave as many as a desk may have;
+-- or a call failed.
+abbrev pub IsGateLeft : {C : Type 0} → List (ServedLink C) → GateView C → GateView C → Type 0
+IsGateLeft links old new = (new.ends ≡ next_count old.ends)
+    ⊎ (((length links ≡ CONNECTION_LIMIT) × (new.ends ≡ old.ends))
+    ⊎ ((new.ends ≡ old.ends) × CountIncreased old.faults new.faults))
+
 -- How a desk ended: its gate found no more connections, or gave as many as a desk may have; or a
--- call of the gate failed; or a connection was out of memory.
+-- call of the gate failed; or so it was left, and a connection was out of memory.
 abbrev pub IsDeskEnd : {C : Type 0} → DeskEnd → List (ServedLink C) → GateView C → GateView C
     → Type 0
 IsDeskEnd GateEnded links old new = NoneOutOfMemory links
@@ -55,7 +72,7 @@ IsDeskEnd GateEnded links old new = NoneOutOfMemory links
     ⊎ ((length links ≡ CONNECTION_LIMIT) × (new.ends ≡ old.ends)))
 IsDeskEnd GateFailed links old new = NoneOutOfMemory links × (new.ends ≡ old.ends)
     × CountIncreased old.faults new.faults
-IsDeskEnd NoMemory links old new = Unit {0}
+IsDeskEnd NoMemory links old new = SomeOutOfMemory links × IsGateLeft links old new
 
 module _ (kept : History → Type 0) (first : ℕ) (may_give : ℕ → Type 0)
     (asking : Request → AskedAgent) {C : Type 0} (view : C → LinkView) (step : ℕ) where
@@ -65,7 +82,7 @@ module _ (kept : History → Type 0) (first : ℕ) (may_give : ℕ → Type 0)
   Conns number before [] after = after ≡ before
   Conns number before (one ∷ others) after = (mid : Visit)
       × ConnServed kept first may_give asking number one.end before mid (view one.given)
-      (view one.back)
+      (view one.back) one.wires one.counted
       × Conns (number + step) mid others after
 
   -- A desk: the gate gave these connections, each was served, and each was given back, in order.

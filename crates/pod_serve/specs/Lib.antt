@@ -1,6 +1,8 @@
 -- what public clauses cite: one connection of many, the connections of many gates, and a run of
 -- `podd`
+pub mod Upgrades
 pub mod Served
+pub mod Connections
 pub mod Desks
 pub mod PoddRuns
 -- internal: cited by private clauses alone

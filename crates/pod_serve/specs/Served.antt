@@ -23,8 +23,8 @@ use Rattle.pod_pipe.specs.Streams.{AtEnd, Reads}
 use Rattle.conn_talk.specs.Walks.{Walk}
 use Rattle.reply_laws.specs.Granted.{is_change}
 use Rattle.token_table.specs.Credentials.{AskedAgent}
-use Rattle.pod_serve.specs.declared.conn_end.ConnEnd.{ConnEnd}
-use Rattle.pod_serve.specs.declared.conn_end.ConnEnd.TheVariants as ends
+use Rattle.pod_serve.specs.declared.requests_end.RequestsEnd.{RequestsEnd}
+use Rattle.pod_serve.specs.declared.requests_end.RequestsEnd.TheVariants as ends
 use Rattle.pod_serve.specs.declared.conn_end.TheConstants.{QUIET_LIMIT}
 
 -- What a link shows: the bytes that are left to be read and those that it has sent, where it shows
@@ -70,7 +70,7 @@ faults_in (item ∷ items) = faults_on item.outcome + faults_in items
 
 -- The events of the bytes that were read, and the input that is left, by how the connection ended.
 -- Where a write failed, or out of memory, they may be the first of them alone.
-abbrev pub IsHeard : ConnEnd → List ℕ → List Heard → Option (List ℕ) → Type 0
+abbrev pub IsHeard : RequestsEnd → List ℕ → List Heard → Option (List ℕ) → Type 0
 IsHeard ends.PeerEnded read heard left = Messages read heard 0 × StaysOpen 0 heard × AtEnd left
 IsHeard (ends.CutShort rest) read heard left = Messages read heard rest × (0 < rest)
     × StaysOpen 0 heard × AtEnd left
@@ -78,7 +78,7 @@ IsHeard ends.Closed read heard left = Messages read heard 0 × IsLastHeard heard
     × (length (requests_of heard) < REQUEST_LIMIT)
 IsHeard ends.LimitReached read heard left = Messages read heard 0 × IsLastHeard heard
     × (length (requests_of heard) ≡ REQUEST_LIMIT)
-IsHeard ends.Noticed read heard left = (rest : ℕ) × Messages read heard rest
+IsHeard ends.Upgraded read heard left = (rest : ℕ) × Messages read heard rest
 IsHeard (ends.BadMessage status) read heard left = Messages read heard 0
     × (bad_status heard ≡ Some status)
 IsHeard ends.Quiet read heard left = (rest : ℕ) × Messages read heard rest × StaysOpen 0 heard
@@ -132,7 +132,7 @@ IsWrittenByFault old new read events items written =
     × ((rest : ℕ) × Messages read events rest) × IsAllWritten false events items written)
 
 -- What was written of the output of the items, by how the connection ended.
-abbrev pub IsWritten : ConnEnd → LinkCounts → LinkCounts → List ℕ → List Heard → Items → List ℕ
+abbrev pub IsWritten : RequestsEnd → LinkCounts → LinkCounts → List ℕ → List Heard → Items → List ℕ
     → Type 0
 IsWritten ends.LinkFault old new read events items written =
     IsWrittenByFault old new read events items written
@@ -140,7 +140,7 @@ IsWritten ends.NoMemory old new read events items written =
     IsPrefix written (output_of events items.list items.refusal)
 IsWritten ends.NoPlace old new read events items written =
     IsWrittenUpTo events items written
-IsWritten ends.Noticed old new read events items written =
+IsWritten ends.Upgraded old new read events items written =
     IsAllWritten true events items written
 IsWritten _ old new read events items written = IsAllWritten false events items written
 
@@ -153,7 +153,7 @@ pub record AreQuiet (many : ℕ) (old new : LinkCounts) : Type 0 where
   pub counted : new.quiet < 2 ^ 64 - 1 → old.quiet + many ≤ new.quiet
 
 -- Quiet times, faults and refused looks end a connection only where they were counted.
-abbrev pub HasCause : ConnEnd → LinkCounts → LinkCounts → Visit → Visit → Type 0
+abbrev pub HasCause : RequestsEnd → LinkCounts → LinkCounts → Visit → Visit → Type 0
 HasCause ends.Quiet old new before after = AreQuiet QUIET_LIMIT old new
 HasCause ends.LinkFault old new before after = CountIncreased old.read_faults new.read_faults
     ⊎ CountIncreased old.write_faults new.write_faults
@@ -162,7 +162,7 @@ HasCause _ old new before after = Unit {0}
 
 -- The reads that found the end: the last read of a connection that ended there, and no other. So
 -- nothing is read after the end.
-abbrev pub MeetsEnd : ConnEnd → ℕ → ℕ → Type 0
+abbrev pub MeetsEnd : RequestsEnd → ℕ → ℕ → Type 0
 MeetsEnd ends.PeerEnded old new = new ≡ next_count old
 MeetsEnd (ends.CutShort rest) old new = new ≡ next_count old
 MeetsEnd _ old new = new ≡ old
@@ -177,7 +177,7 @@ module _ (kept : History → Type 0) (first : ℕ) (may_give : ℕ → Type 0)
   -- written are the output of its items over the events of the bytes that were read, or a part of
   -- it. The items are a session over each history that was kept with any entries that continue
   -- those which the session has then seen, from what it had seen before on.
-  pub record ConnServed (conn : ℕ) (end : ConnEnd) (before after : Visit) (old new : LinkView)
+  pub record RequestsServed (conn : ℕ) (end : RequestsEnd) (before after : Visit) (old new : LinkView)
       : Type 0 where
     pub read : List ℕ
     pub events : List Heard

@@ -27,9 +27,11 @@ use Rattle.token_table.specs.Credentials.{AskedAgent}
 use Rattle.pod_serve.specs.Served.{HasCause, IsAllWritten, IsHeard, IsWritten, IsWrittenUpTo, Items}
 use Rattle.pod_serve.specs.Served.{LinkView, MeetsEnd, changes_in, faults_in, faults_on, looks_in}
 use Rattle.pod_serve.specs.Served.{looks_on}
-use Rattle.pod_serve.specs.declared.conn_end.ConnEnd.{ConnEnd}
-use Rattle.pod_serve.specs.declared.conn_end.ConnEnd.TheVariants as ends
+use Rattle.pod_serve.specs.declared.requests_end.RequestsEnd.{RequestsEnd}
+use Rattle.pod_serve.specs.declared.requests_end.RequestsEnd.TheVariants as ends
+use Rattle.pod_serve.specs.Upgrades.{Notes}
 use Rattle.pod_serve.specs.declared.link_output.LinkOutput.{LinkOutput}
+use Rattle.pod_serve.specs.declared.upgrade.Upgrade.{Upgrade}
 
 -- ---- a session
 
@@ -56,15 +58,18 @@ pub record SessionWalk (kept : History → Type 0) (first conn : ℕ) (may_give 
   pub faults : new.faults ≡ old.faults + faults_in items
   pub refused : old.refused ≤ new.refused
 
--- What holds a session by reference: its name, and what contracts see of it.
-module _ {A X : Type 0} (name : A → X) (visit : A → Visit) (kept : History → Type 0) (first : ℕ)
+-- What holds a session and a note by reference: their names, and what contracts see of them.
+module _ {A X Y : Type 0} (name : A → X) (mark : A → Y) (visit : A → Visit)
+    (noted : A → Option Upgrade) (base : List ℕ) (kept : History → Type 0) (first : ℕ)
   where
     abbrev pub SeatTurns : ℕ → ℕ → A → Item → A → Type 0
-    SeatTurns conn clock old item new = (name old ≡ name new)
+    SeatTurns conn clock old item new = (name old ≡ name new) × (mark old ≡ mark new)
         × SessionTurn kept first conn clock (visit old) item (visit new)
+        × Notes base item (noted new)
 
     abbrev pub SeatPasses : Request → A → A → Type 0
-    SeatPasses request old new = (name old ≡ name new) × IsPassed request (visit old) (visit new)
+    SeatPasses request old new = (name old ≡ name new) × (mark old ≡ mark new)
+        × IsPassed request (visit old) (visit new)
 
 -- ---- a link that holds bytes back
 
@@ -113,24 +118,24 @@ link_rules conn may_give asking turns passes = record {
 }
 
 -- the end of a connection whose events ended so
-abbrev pub conn_end_of : TalkEnd → ConnEnd
-conn_end_of talk.Closed = ends.Closed
-conn_end_of talk.Limit = ends.LimitReached
-conn_end_of talk.Upgraded = ends.Noticed
-conn_end_of (talk.Bad status) = ends.BadMessage status
-conn_end_of talk.WriteFault = ends.LinkFault
-conn_end_of talk.NoMemory = ends.NoMemory
-conn_end_of talk.NoPlace = ends.NoPlace
+abbrev pub requests_end_of : TalkEnd → RequestsEnd
+requests_end_of talk.Closed = ends.Closed
+requests_end_of talk.Limit = ends.LimitReached
+requests_end_of talk.Upgraded = ends.Upgraded
+requests_end_of (talk.Bad status) = ends.BadMessage status
+requests_end_of talk.WriteFault = ends.LinkFault
+requests_end_of talk.NoMemory = ends.NoMemory
+requests_end_of talk.NoPlace = ends.NoPlace
 
 -- what was written of the output of the items by an end that comes of an event
-abbrev pub IsOutput : ConnEnd → List Heard → Items → List ℕ → Type 0
+abbrev pub IsOutput : RequestsEnd → List Heard → Items → List ℕ → Type 0
 IsOutput ends.LinkFault events items written =
     IsPrefix written (output_of events items.list items.refusal)
 IsOutput ends.NoMemory events items written =
     IsPrefix written (output_of events items.list items.refusal)
 IsOutput ends.NoPlace events items written =
     written ≡ output_of events items.list items.refusal
-IsOutput ends.Noticed events items written = IsAllWritten true events items written
+IsOutput ends.Upgraded events items written = IsAllWritten true events items written
 IsOutput _ events items written = IsAllWritten false events items written
 
 module _ {A : Type 0} (rules : Rules A) where
@@ -143,7 +148,7 @@ module _ {A : Type 0} (rules : Rules A) where
     pub talks : Talks rules first now number events written trail
 
   -- What is left of what answers, after the last item: a request without a place may follow it.
-  abbrev pub IsLeft : ConnEnd → A → A → List Heard → Items → List ℕ → Type 0
+  abbrev pub IsLeft : RequestsEnd → A → A → List Heard → Items → List ℕ → Type 0
   IsLeft ends.NoPlace mid new events items written = (request : Request)
       × rules.passes request mid new
       × (is_change request.method ≡ false → IsWrittenUpTo events items written)
@@ -152,7 +157,7 @@ module _ {A : Type 0} (rules : Rules A) where
   IsLeft _ mid new events items written = new ≡ mid
 
   -- The connection ended in a text, and these bytes were written.
-  pub record IsEnded (end : ConnEnd) (first new : A) (read written : List ℕ) : Type 0 where
+  pub record IsEnded (end : RequestsEnd) (first new : A) (read written : List ℕ) : Type 0 where
     pub events : List Heard
     pub items : Items
     pub hears : (left : Option (List ℕ)) → IsHeard end read events left
@@ -170,7 +175,7 @@ module _ {A : Type 0} (rules : Rules A) where
   AfterPiece (Ok _) first stage now number text written =
       IsAnswered first stage now number text written
   AfterPiece (Err end) first stage now number text written =
-      IsEnded (conn_end_of end) first now text written
+      IsEnded (requests_end_of end) first now text written
 
   -- A piece was answered with these bytes, whatever was answered before it.
   abbrev pub AnswersPiece : ParserState → ParserState → A → ℕ → A → ℕ → List ℕ → List ℕ
@@ -213,7 +218,7 @@ module _ {A : Type 0} (rules : Rules A) where
     pub write_faults : start.counts.write_faults ≤ view.counts.write_faults
 
   -- A link was served, and its connection ended so.
-  pub record IsLinkServed (end : ConnEnd) (first new : A) (old now : LinkView) : Type 0 where
+  pub record IsLinkServed (end : RequestsEnd) (first new : A) (old now : LinkView) : Type 0 where
     pub read : List ℕ
     pub written : List ℕ
     pub reads : Reads read old.rest now.rest
@@ -234,7 +239,7 @@ module _ {A : Type 0} (rules : Rules A) where
     pub ended : MeetsEnd end old.counts.ends now.counts.ends
 
   -- what a turn of reading leads to
-  abbrev pub AfterTurn : Option ConnEnd → A → LinkView → ParserState → A → ℕ → ℕ → List ℕ → LinkView
+  abbrev pub AfterTurn : Option RequestsEnd → A → LinkView → ParserState → A → ℕ → ℕ → List ℕ → LinkView
       → Type 0
   AfterTurn None first start stage now number quiet waiting view =
       IsOpenLink first start stage now number quiet waiting view
@@ -242,13 +247,13 @@ module _ {A : Type 0} (rules : Rules A) where
       IsLinkServed end first now start view
 
 -- the end of a connection whose last bytes weren't sent
-abbrev pub unsent_end : TalkEnd → ConnEnd
+abbrev pub unsent_end : TalkEnd → RequestsEnd
 unsent_end talk.NoMemory = ends.NoMemory
 unsent_end _ = ends.LinkFault
 
 -- All that waited was sent, and the connection ends as its events did; or not all was, where the
 -- count of write faults increased since.
-abbrev pub FinishesAs : TalkEnd → ConnEnd → List ℕ → ℕ → ℕ → Type 0
+abbrev pub FinishesAs : TalkEnd → RequestsEnd → List ℕ → ℕ → ℕ → Type 0
 FinishesAs end result waiting old new =
-    ((result ≡ conn_end_of end) × (waiting ≡ []) × (end ≡ talk.WriteFault → ⊥))
+    ((result ≡ requests_end_of end) × (waiting ≡ []) × (end ≡ talk.WriteFault → ⊥))
     ⊎ ((result ≡ unsent_end end) × ((end ≡ talk.WriteFault) ⊎ CountIncreased old new))

@@ -3,20 +3,26 @@ ghost use Rattle.std.specs.Prelude.{◌≡◌, ◌==◌, ◌+◌, ◌<◌, [], d
 ghost use Rattle.std.specs.Prelude.{IfNone, IfSome};
 ghost use Rattle.conn_talk.specs.Agents.{asking_of};
 ghost use Rattle.http_conn.specs.declared.events.TheConstants.{REQUEST_LIMIT};
-ghost use Rattle.pod_serve.specs.Served.{ConnServed, LinkView, link_view_of};
+ghost use Rattle.pod_serve.specs.Connections.{ConnServed, IsPlainEnd, requests_end};
+ghost use Rattle.pod_serve.specs.Served.{LinkView, link_view_of};
+ghost use Rattle.pod_serve.specs.Turns.{IsNoted};
 ghost use Rattle.pod_serve.specs.Serving.{AfterTurn, FinishesAs, IsLinkServed, IsOpenLink};
-ghost use Rattle.pod_serve.specs.Serving.{IsReadLink, IsWrittenTo, conn_end_of, link_rules};
+ghost use Rattle.pod_serve.specs.Serving.{IsReadLink, IsWrittenTo, requests_end_of, link_rules};
 ghost use Rattle.pod_serve.specs.Serving.{taken_with, unsent_end};
 
 use crate::conn_end::{ConnEnd, QUIET_LIMIT};
 use crate::link_output::LinkOutput;
+use crate::notices::serve_notices;
 use crate::piece::answer_piece;
+use crate::requests_end::RequestsEnd;
 use crate::seated::Seated;
+use crate::upgrade::Upgrade;
 use conn_talk::{Agents, Answers, Connection, Output, TalkEnd};
 use http_conn::Conn;
 use pod_io::{Clock, Link, LinkFailed};
 use pod_live::{CommittedEntry, Rounds, Session, StoreName};
 use published_view::ViewName;
+use socket_wire::Wires;
 use std::alloc::Global;
 use std::sync::Wait;
 
@@ -24,43 +30,43 @@ use std::sync::Wait;
 const PIECE_LIMIT: usize = 16_384;
 
 /// The end where the input ended after so many bytes of an unfinished message.
-fn at_end(rest: usize) -> ConnEnd
-    ensures { result ≡ (if rest == 0 then ConnEnd.PeerEnded else ConnEnd.CutShort rest) }
+fn at_end(rest: usize) -> RequestsEnd
+    ensures { result ≡ (if rest == 0 then RequestsEnd.PeerEnded else RequestsEnd.CutShort rest) }
 {
     if rest == 0 {
-        ConnEnd::PeerEnded
+        RequestsEnd::PeerEnded
     } else {
-        ConnEnd::CutShort { rest }
+        RequestsEnd::CutShort { rest }
     }
 }
 
 /// The end of a connection whose events ended so.
-fn end_of(end: TalkEnd) -> ConnEnd
-    ensures { result ≡ conn_end_of end }
+fn end_of(end: TalkEnd) -> RequestsEnd
+    ensures { result ≡ requests_end_of end }
 {
     match end {
-        TalkEnd::Closed => ConnEnd::Closed,
-        TalkEnd::Limit => ConnEnd::LimitReached,
-        TalkEnd::Upgraded => ConnEnd::Noticed,
-        TalkEnd::Bad { status } => ConnEnd::BadMessage { status },
-        TalkEnd::WriteFault => ConnEnd::LinkFault,
-        TalkEnd::NoMemory => ConnEnd::NoMemory,
-        TalkEnd::NoPlace => ConnEnd::NoPlace,
+        TalkEnd::Closed => RequestsEnd::Closed,
+        TalkEnd::Limit => RequestsEnd::LimitReached,
+        TalkEnd::Upgraded => RequestsEnd::Upgraded,
+        TalkEnd::Bad { status } => RequestsEnd::BadMessage { status },
+        TalkEnd::WriteFault => RequestsEnd::LinkFault,
+        TalkEnd::NoMemory => RequestsEnd::NoMemory,
+        TalkEnd::NoPlace => RequestsEnd::NoPlace,
     }
 }
 
 /// The end of a connection whose last bytes weren't sent.
-fn unsent(end: TalkEnd) -> ConnEnd
+fn unsent(end: TalkEnd) -> RequestsEnd
     ensures { result ≡ unsent_end end }
 {
     match end {
-        TalkEnd::NoMemory => ConnEnd::NoMemory,
-        _ => ConnEnd::LinkFault,
+        TalkEnd::NoMemory => RequestsEnd::NoMemory,
+        _ => RequestsEnd::LinkFault,
     }
 }
 
 /// Sends what waits after the last event, unless a write failed.
-fn finish<'a, L: Link>(output: &mut LinkOutput<'a, L>, end: TalkEnd) -> ConnEnd
+fn finish<'a, L: Link>(output: &mut LinkOutput<'a, L>, end: TalkEnd) -> RequestsEnd
     ensures same { output.old.link.ghost_name ≡ output.new.link.ghost_name }
     ensures taken { taken_with (drop output.new.from output.new.held.now.items) (L.sent
         output.new.link.now) ≡ taken_with (drop output.old.from output.old.held.now.items) (L.sent
@@ -72,7 +78,7 @@ fn finish<'a, L: Link>(output: &mut LinkOutput<'a, L>, end: TalkEnd) -> ConnEnd
         (L.counts output.old.link.now).write_faults (L.counts output.new.link.now).write_faults }
 {
     if end == TalkEnd::WriteFault {
-        return ConnEnd::LinkFault;
+        return RequestsEnd::LinkFault;
     }
     match output.flush() {
         Ok(()) => end_of(end),
@@ -98,7 +104,7 @@ fn take_piece<'a, A: Answers, L: Link, C: Clock>(
     agents: &Agents,
     output: &mut LinkOutput<'a, L>,
     clock: &C,
-) -> Option<ConnEnd>
+) -> Option<RequestsEnd>
     requires ready { A.ready answers.old }
     requires few { reading.old.connection.number < REQUEST_LIMIT }
     requires empty { (drop output.old.from output.old.held.now.items) ≡ [] }
@@ -135,17 +141,17 @@ fn take_piece<'a, A: Answers, L: Link, C: Clock>(
 }
 
 /// Counts one more quiet time in a row.
-fn count_quiet(reading: &mut Reading) -> Option<ConnEnd>
+fn count_quiet(reading: &mut Reading) -> Option<RequestsEnd>
     requires { reading.old.quiet < QUIET_LIMIT }
     ensures parser { reading.new.parser ≡ reading.old.parser }
     ensures connection { reading.new.connection ≡ reading.old.connection }
     ensures quiet { reading.new.quiet ≡ reading.old.quiet + 1 }
     ensures more { IfNone result (reading.new.quiet < QUIET_LIMIT) }
-    ensures end { IfSome result (λ end. (end ≡ ConnEnd.Quiet) × (reading.new.quiet ≡ QUIET_LIMIT)) }
+    ensures end { IfSome result (λ end. (end ≡ RequestsEnd.Quiet) × (reading.new.quiet ≡ QUIET_LIMIT)) }
 {
     reading.quiet += 1;
     if reading.quiet == QUIET_LIMIT {
-        Some(ConnEnd::Quiet)
+        Some(RequestsEnd::Quiet)
     } else {
         None
     }
@@ -160,7 +166,7 @@ fn read_turn<'a, A: Answers, L: Link, C: Clock>(
     agents: &Agents,
     output: &mut LinkOutput<'a, L>,
     clock: &C,
-) -> Option<ConnEnd>
+) -> Option<RequestsEnd>
     requires ready { A.ready answers.old }
     requires few { reading.old.connection.number < REQUEST_LIMIT }
     requires some { 0 < length into.old }
@@ -201,7 +207,7 @@ fn read_turn<'a, A: Answers, L: Link, C: Clock>(
             }
         }
         Err(LinkFailed::Quiet) => count_quiet(reading),
-        Err(LinkFailed::Failed) => Some(ConnEnd::LinkFault),
+        Err(LinkFailed::Failed) => Some(RequestsEnd::LinkFault),
     }
 }
 
@@ -214,7 +220,7 @@ fn turn<'a, A: Answers, L: Link, C: Clock>(
     agents: &Agents,
     output: &mut LinkOutput<'a, L>,
     clock: &C,
-) -> Option<ConnEnd>
+) -> Option<RequestsEnd>
     requires ready { A.ready answers.old }
     requires few { reading.old.connection.number < REQUEST_LIMIT }
     requires some { 0 < length into.old }
@@ -240,7 +246,7 @@ fn turn<'a, A: Answers, L: Link, C: Clock>(
 {
     match output.flush() {
         Ok(()) => read_turn(alloc, reading, answers, into, agents, output, clock),
-        Err(_failed) => Some(ConnEnd::LinkFault),
+        Err(_failed) => Some(RequestsEnd::LinkFault),
     }
 }
 
@@ -253,7 +259,7 @@ fn serve_link<'a, A: Answers, L: Link, C: Clock, R: Wait>(
     agents: &Agents,
     output: &mut LinkOutput<'a, L>,
     clock: &C,
-) -> ConnEnd
+) -> RequestsEnd
     requires ready { A.ready answers.old }
     requires empty { (drop output.old.from output.old.held.now.items) ≡ [] }
     ensures same { output.old.link.ghost_name ≡ output.new.link.ghost_name }
@@ -283,12 +289,63 @@ fn serve_link<'a, A: Answers, L: Link, C: Clock, R: Wait>(
     unreachable!()
 }
 
-/// Serves a link as the connection of that number: requests are parsed and answered in order, reads
-/// of the pod from what is published when each is answered, changes under the store's lock.
+/// Serves the requests of a link, as the connection of that number, and notes what the last one
+/// switched to.
+fn serve_requests<
+    N: ViewName<CommittedEntry> + StoreName,
+    L: Rounds<N>,
+    K: Link,
+    C: Clock,
+    R: Wait,
+>(
+    rt: &R,
+    alloc: Global,
+    live: &L,
+    agents: &Agents,
+    session: &mut Session<N>,
+    upgrade: &mut Option<Upgrade>,
+    conn: u64,
+    link: &mut K,
+    clock: &C,
+) -> RequestsEnd
+    ensures { IsNoted N.kept N.opened.next (C.may_give clock.now) (asking_of agents.now)
+        N.opened.pod.base conn result session.old session.new (link_view_of K.rest K.sent K.counts
+        link.old) (link_view_of K.rest K.sent K.counts link.new) upgrade.new }
+{
+    let mut seated = Seated::new(rt, live, session, upgrade);
+    let mut held = Vec::new(alloc);
+    let mut output = LinkOutput::new(link, &mut held);
+    serve_link(rt, alloc, conn, &mut seated, agents, &mut output, clock)
+}
+
+/// How a connection ended whose requests did, without a switch of protocols.
+fn plain_end(end: RequestsEnd) -> Option<ConnEnd>
+    ensures some { IfSome result (λ told. requests_end told ≡ end) }
+    ensures plain { IfSome result IsPlainEnd }
+    ensures none { IfNone result (end ≡ RequestsEnd.Upgraded) }
+{
+    match end {
+        RequestsEnd::PeerEnded => Some(ConnEnd::PeerEnded),
+        RequestsEnd::CutShort { rest } => Some(ConnEnd::CutShort { rest }),
+        RequestsEnd::BadMessage { status } => Some(ConnEnd::BadMessage { status }),
+        RequestsEnd::Quiet => Some(ConnEnd::Quiet),
+        RequestsEnd::LinkFault => Some(ConnEnd::LinkFault),
+        RequestsEnd::LimitReached => Some(ConnEnd::LimitReached),
+        RequestsEnd::Closed => Some(ConnEnd::Closed),
+        RequestsEnd::Upgraded => None,
+        RequestsEnd::NoPlace => Some(ConnEnd::NoPlace),
+        RequestsEnd::NoMemory => Some(ConnEnd::NoMemory),
+    }
+}
+
+/// Serves one connection, as the one of that number: requests are parsed and answered in order,
+/// reads of the pod from what is published when each is answered, changes under the store's lock.
 ///
 /// Responses may wait in a buffer, which is written before each read of the link, before a change
-/// is answered, and at the end. A switch of protocols ends the connection after its response. It
-/// waits for bytes, and for the lock.
+/// is answered, and at the end. After a switch of protocols the connection goes on as a WebSocket,
+/// which sends the notices of the request's path ([`pod_feed::serve_feed`]) until its feed ends; the
+/// bytes that were read together with that request are dropped. It waits for bytes, and for the
+/// lock.
 pub fn serve_conn<
     N: ViewName<CommittedEntry> + StoreName,
     L: Rounds<N>,
@@ -301,16 +358,29 @@ pub fn serve_conn<
     live: &L,
     agents: &Agents,
     session: &mut Session<N>,
+    wires: &mut Wires,
     conn: u64,
     link: &mut K,
     clock: &C,
 ) -> ConnEnd
     ensures { ConnServed N.kept N.opened.next (C.may_give clock.now) (asking_of agents.now) conn
         result session.old session.new (link_view_of K.rest K.sent K.counts link.old) (link_view_of
-        K.rest K.sent K.counts link.new) }
+        K.rest K.sent K.counts link.new) wires.old wires.new }
 {
-    let mut seated = Seated::new(rt, live, session);
-    let mut held = Vec::new(alloc);
-    let mut output = LinkOutput::new(link, &mut held);
-    serve_link(rt, alloc, conn, &mut seated, agents, &mut output, clock)
+    let mut upgrade = None;
+    let requests = serve_requests(
+        rt,
+        alloc,
+        live,
+        agents,
+        session,
+        &mut upgrade,
+        conn,
+        link,
+        clock,
+    );
+    match plain_end(requests) {
+        Some(end) => end,
+        None => ConnEnd::Noticed(serve_notices(rt, alloc, session, wires, link, &upgrade)),
+    }
 }

@@ -1,5 +1,7 @@
 //! [`ConnEnd`]: how a connection ended.
 
+use pod_feed::FeedEnd;
+
 /// So many quiet times in a row end a connection.
 pub const QUIET_LIMIT: u64 = 30;
 
@@ -20,8 +22,8 @@ pub enum ConnEnd {
     LimitReached,
     /// A request asked to close the connection, or has a version whose connections don't persist.
     Closed,
-    /// A request was answered by a switch of protocols.
-    Noticed,
+    /// A request was answered by a switch of protocols, and the feed after it ended so.
+    Noticed(FeedEnd),
     /// `left_right` refused a look, and the request got no response.
     NoPlace,
     /// Out of memory for parsing a message or for refusing one.

@@ -1,6 +1,6 @@
 //! [`serve`]: the connections of many gates, beside each other.
-ghost use Rattle.std.specs.Prelude.{◌≡◌, ◌+◌, ◌≢◌, ◌<◌, false, if◌then◌else◌, length, sum_by, ℕ};
-ghost use Rattle.std.specs.Prelude.{slice_index_or, List as ListOf};
+ghost use Rattle.std.specs.Prelude.{◌≡◌, ◌+◌, ◌≢◌, ◌⊎◌, ◌<◌, false, true, if◌then◌else◌, length};
+ghost use Rattle.std.specs.Prelude.{slice_index_or, sum_by, ℕ, List as ListOf};
 ghost use mathlib.Core.List.{IsPrefix};
 ghost use Rattle.conn_talk.specs.Agents.{asking_of};
 ghost use Rattle.pod_base.specs.EachTo.{EachTo};
@@ -16,6 +16,7 @@ use conn_talk::Agents;
 use pod_io::{Clock, Failed, Gate};
 use pod_live::{CommittedEntry, Rounds, Seat, Session, StoreName};
 use published_view::ViewName;
+use socket_wire::Wires;
 use std::alloc::Global;
 use std::sync::Wait;
 use std::thread::{self, Threads};
@@ -46,7 +47,8 @@ pub type Desk<G, N> = Seat<Post<G>, N>;
 
 /// Whether a connection has been out of memory, where the last one ended so.
 fn has_starved(before: bool, end: ConnEnd) -> bool
-    ensures { result ≡ false → (before ≡ false) × (end ≢ ConnEnd.NoMemory) }
+    ensures none { result ≡ false → (before ≡ false) × (end ≢ ConnEnd.NoMemory) }
+    ensures some { result ≡ true → (before ≡ true) ⊎ (end ≡ ConnEnd.NoMemory) }
 {
     match end {
         ConnEnd::NoMemory => true,
@@ -90,7 +92,10 @@ fn serve_next<N: ViewName<CommittedEntry> + StoreName, L: Rounds<N>, G: Gate, C:
     match gate.next() {
         Ok(Some(link)) => {
             let mut link = link;
-            let end = serve_conn(rt, alloc, live, agents, session, number, &mut link, clock);
+            let mut wires = Wires::new();
+            let end = serve_conn(
+                rt, alloc, live, agents, session, &mut wires, number, &mut link, clock,
+            );
             gate.done(link);
             Next::Served(end)
         }

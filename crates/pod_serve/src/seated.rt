@@ -6,6 +6,7 @@ ghost use Rattle.reply_laws.specs.Sent.{IsSent};
 ghost use Rattle.token_table.specs.Credentials.{asked_view};
 ghost use Rattle.pod_serve.specs.Serving.{IsPassed, SessionTurn};
 
+use crate::upgrade::{Upgrade, upgrade_in};
 use conn_talk::{Answer, AnswerFault, Answers};
 use pod_base::{Request, Stamp};
 use pod_core::is_change;
@@ -103,21 +104,34 @@ fn answer_request<N: ViewName<CommittedEntry> + StoreName, L: Rounds<N>, R: Wait
     }
 }
 
-/// A session of a store, by reference, as what answers the requests of one connection.
+/// A session of a store, by reference, as what answers the requests of one connection. It notes what
+/// its last answer switched to.
 #[derive(Drop)]
 pub(crate) struct Seated<'a, N: ViewName<CommittedEntry> + StoreName, L, R> {
     rt: &'a R,
     live: &'a L,
     session: &'a mut Session<N>,
+    upgrade: &'a mut Option<Upgrade>,
 }
 
 impl<'a, N: ViewName<CommittedEntry> + StoreName, L: Rounds<N>, R: Wait> Seated<'a, N, L, R> {
-    /// That session.
-    pub(crate) fn new(rt: &'a R, live: &'a L, session: &'a mut Session<N>) -> Seated<'a, N, L, R>
+    /// That session. What the last answer switched to is noted in `upgrade`.
+    pub(crate) fn new(
+        rt: &'a R,
+        live: &'a L,
+        session: &'a mut Session<N>,
+        upgrade: &'a mut Option<Upgrade>,
+    ) -> Seated<'a, N, L, R>
         ensures same { result.session.ghost_name ≡ session.entry.ghost_name }
         ensures session { result.session.now ≡ session.entry.now }
+        ensures marked { result.upgrade.ghost_name ≡ upgrade.entry.ghost_name }
     {
-        Seated { rt, live, session }
+        Seated {
+            rt,
+            live,
+            session,
+            upgrade,
+        }
     }
 }
 
@@ -125,14 +139,18 @@ impl<'a, N: ViewName<CommittedEntry> + StoreName, L: Rounds<N>, R: Wait> Answers
     for Seated<'a, N, L, R> {
     ghost use Rattle.std.specs.Prelude.{◌≡◌};
     ghost use Rattle.pod_serve.specs.Serving.{IsPassed, SessionTurn};
+    ghost use Rattle.pod_serve.specs.Upgrades.{Notes};
 
     ghost ready = { λ seated. Unit {0} };
 
     ghost turns = { λ conn clock old item new.
         (old.session.ghost_name ≡ new.session.ghost_name)
-        × SessionTurn N.kept N.opened.next conn clock old.session.now item new.session.now };
+        × (old.upgrade.ghost_name ≡ new.upgrade.ghost_name)
+        × SessionTurn N.kept N.opened.next conn clock old.session.now item new.session.now
+        × Notes N.opened.pod.base item new.upgrade.now };
 
     ghost passes = { λ request old new. (old.session.ghost_name ≡ new.session.ghost_name)
+        × (old.upgrade.ghost_name ≡ new.upgrade.ghost_name)
         × IsPassed request old.session.now new.session.now };
 
     fn answer(
@@ -142,7 +160,7 @@ impl<'a, N: ViewName<CommittedEntry> + StoreName, L: Rounds<N>, R: Wait> Answers
         asked: &Asked<'_>,
         stamp: Stamp,
     ) -> Result<Answer, AnswerFault> {
-        answer_request(
+        let answer = answer_request(
             self.rt,
             alloc,
             self.live,
@@ -150,6 +168,8 @@ impl<'a, N: ViewName<CommittedEntry> + StoreName, L: Rounds<N>, R: Wait> Answers
             request,
             asked,
             stamp,
-        )
+        );
+        *self.upgrade = upgrade_in(alloc, self.session.base(), request, asked, &answer);
+        answer
     }
 }

@@ -1,23 +1,19 @@
-use Rattle.std.proofs.Common.{◌≡◌, refl, subst, rules}
 use Rattle.conn_talk.specs.Agents.{asking_of}
-use Rattle.pod_serve.specs.Served.{ConnServed, link_view_of}
-use Rattle.pod_serve.proofs.ConnLemmas.{conn_served}
+use Rattle.pod_serve.specs.Served.{link_view_of}
+use Rattle.pod_serve.proofs.NoticeLemmas.{noticed_served, plain_served}
 use Rattle.pod_serve.proofs.conn.serve_conn.Goals as goal
+
+pub returns-in-Some : goal.returns-in-Some
+returns-in-Some g c =
+    let view = link_view_of g.K.Link.rest g.K.Link.sent g.K.Link.counts in
+    let served = c.serve_requests-requests in
+    plain_served g.N.StoreName.kept g.N.StoreName.opened.next (g.C.Clock.may_give c.args.clock.now) (asking_of c.args.agents.now) g.N.StoreName.opened c.args.conn c.in-Some.end served.result c.args.session.now served.new.session (view c.args.link.now) (view served.new.link) served.new.upgrade c.args.wires.now
+    c.in-Some.ensures.some c.in-Some.ensures.plain served.ensures
 
 pub returns : goal.returns
 returns g c =
     let view = link_view_of g.K.Link.rest g.K.Link.sent g.K.Link.counts in
-    let may_give = g.C.Clock.may_give c.args.clock.now in
-    let asking = asking_of c.args.agents.now in
-    let old = c.new-seated.result in
-    let new = c.serve_link.new.answers in
-    let before = c.new-output.result.link.now in
-    let after = c.serve_link.new.output.link.now in
-    let all = conn_served (λ seated. seated.session.ghost_name) (λ seated. seated.session.now) g.N.StoreName.kept g.N.StoreName.opened.next c.args.conn may_give asking g.N.StoreName.opened g.N.StoreName.ends refl c.serve_link.result old new (view before) (view after) c.serve_link.ensures.served in
-    let same_name : old.session.ghost_name ≡ new.session.ghost_name = all.0 in
-    let session : new.session.now ≡ c.session-1.given.0 = search rules in
-    let link : after ≡ c.link-1.given.0 = search rules in
-    subst (λ v. ConnServed g.N.StoreName.kept g.N.StoreName.opened.next may_give asking c.args.conn c.serve_link.result v c.session-1.given.0 (view c.args.link.now) (view c.link-1.given.0)) c.new-seated.ensures.session
-    (subst (λ v. ConnServed g.N.StoreName.kept g.N.StoreName.opened.next may_give asking c.args.conn c.serve_link.result old.session.now v (view c.args.link.now) (view c.link-1.given.0)) session
-    (subst (λ l. ConnServed g.N.StoreName.kept g.N.StoreName.opened.next may_give asking c.args.conn c.serve_link.result old.session.now new.session.now (view l) (view c.link-1.given.0)) c.new-output.ensures.link
-    (subst (λ l. ConnServed g.N.StoreName.kept g.N.StoreName.opened.next may_give asking c.args.conn c.serve_link.result old.session.now new.session.now (view before) (view l)) link all.1)))
+    let served = c.serve_requests-requests in
+    let noticed = c.serve_notices in
+    noticed_served g.N.StoreName.kept g.N.StoreName.opened.next (g.C.Clock.may_give c.args.clock.now) (asking_of c.args.agents.now) g.N.StoreName.opened c.args.conn g.N.StoreName.ends served.result noticed.result c.args.session.now served.new.session noticed.new.session (view c.args.link.now) (view served.new.link) (view noticed.new.link) served.new.upgrade c.args.wires.now noticed.new.wires
+    c.in-None.ensures.none served.ensures noticed.ensures

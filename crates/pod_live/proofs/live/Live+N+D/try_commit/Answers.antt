@@ -12,4 +12,4 @@ decide-done-requires g c =
     let seen = subst (λ (entries : List Entry). IsPrefix entries published) c.seen.ensures prefix in
     let visited = subst (λ (visit : Visit). IsPrefix visit.seen published) c.session.view_is seen in
     let listed = subst (λ (entries : List Entry). IsPrefix c.args.session.now.seen entries) c.tell.ensures.list visited in
-    record { seen = subst (λ (state : LockState g.row.D.Denot). IsPrefix c.args.session.now.seen state.list) c.locked.view_is listed }
+    record { seen = subst (λ (state : LockState g.row.D.Denot). IsPrefix c.args.session.now.seen state.list) c.locked.view_is listed; change = c.requires }
