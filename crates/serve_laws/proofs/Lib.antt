@@ -1,0 +1,3 @@
+-- internal
+mod Counting
+mod EachOnceLemmas
