@@ -1,0 +1,5 @@
+-- internal
+mod Granted
+mod Owners
+mod NewPods
+mod Words

@@ -1,0 +1,2 @@
+-- what holds of access in every pod
+pub mod Laws

@@ -1,0 +1,37 @@
+//! What holds of a store that is opened after a crash, as laws over the clauses of its keeper.
+//!
+//! ```ignore
+//! crash_laws::openings_give_what_stands(&disk);    // the opened records hold what the images hold
+//! crash_laws::opens_after(&keeper);                // a crash between calls, and one while it opens
+//! ```
+//!
+//! The clauses of a keeper say what a crash leaves at each moment of its calls and between them.
+//! [`openings_give_what_stands`] goes on from there: whatever the moment was, the records that the
+//! next opening takes hold the history that the images represent, or that with the one entry.
+//! [`opens_after`] is of the moments of that opening, after a keeper that was closed or stopped
+//! between two calls.
+//!
+//! The functions do nothing: their contracts are the laws.
+#![tactic(auto)]
+
+ghost use Rattle.crash_laws.specs.Reopened.{OpeningsGiveWhatStands, OpensAfter};
+
+use pod_disk::Disk;
+use pod_keeper::Keeper;
+
+/// Where a crash left disks that represent a history, or it with one of some entries, the records
+/// that an opening takes hold just that.
+pub fn openings_give_what_stands<D: Disk>(disk: &D)
+    ensures { OpeningsGiveWhatStands D.image }
+{
+    let _disk = disk;
+    journal_pair::store_stands_once();
+}
+
+/// While the disks of a keeper that was closed or stopped between two calls are opened, each pair
+/// of crash images represents its history, or that with the entry in doubt.
+pub fn opens_after<D: Disk>(keeper: &Keeper<D>)
+    ensures { OpensAfter D.image D.moment D.left_since D.faults keeper.now }
+{
+    keeper.crash_images_stand();
+}

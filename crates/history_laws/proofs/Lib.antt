@@ -1,0 +1,7 @@
+-- internal
+mod Items
+mod Sessions
+mod Makers
+mod Histories
+mod Acknowledged
+mod Progress

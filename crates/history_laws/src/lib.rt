@@ -1,0 +1,80 @@
+//! What holds of every history and of the sessions over it: laws for the crates above.
+//!
+//! ```ignore
+//! history_laws::one_session(&clock);   // the same requests at the same moments have the same answers
+//! ```
+//!
+//! Proved of histories and sessions (`pod_core`): two sessions that make the same requests with the
+//! same agents at the same moments, each from the end of one history on and with its own entries
+//! alone, have the same items and write the same bytes, unless memory or a disk failed in one of
+//! them; and so it is over two histories that end alike for the agent who makes all requests
+//! ([`one_session`]). An entry of a history is that of one item of one connection at most
+//! ([`one_item`]). The history of a world is one whose entries apply, one after the other, and the
+//! pod at each of its places is well-formed ([`well_formed_histories`]). Whatever the events of a
+//! world, each entry that is published was acknowledged by the response of its item, once, and all
+//! entries but the last at most are published ([`each_change_once`]). A world at rest has each step
+//! of a change that has a reply with an entry, up to its publication ([`changes_may_complete`]).
+//!
+//! The functions do nothing: their contracts are the laws. They depend on `pod_core` for the
+//! definitions, on `session_laws` and `reply_laws` for what follows of one agent and of one reply.
+#![tactic(auto)]
+
+ghost use Rattle.history_laws.specs.Acknowledged.{EntriesAreAcknowledged, EntriesArePublishedOnce};
+ghost use Rattle.history_laws.specs.Entries.{EachPodIsWellFormed, EntryHasOneItem};
+ghost use Rattle.history_laws.specs.Entries.{WorldsHaveHistories};
+ghost use Rattle.history_laws.specs.Progress.{ChangesMayComplete, GatesMayFail, RepairsMayComplete};
+ghost use Rattle.history_laws.specs.SameRequests.{SameItems, SameSessions, SameSessionsOverAlike};
+
+use pod_io::Clock;
+
+/// What the same requests of the same agents are answered at the same moments is the same, byte for
+/// byte, where neither memory nor a disk failed.
+pub fn one_session<C: Clock>(clock: &C)
+    ensures items { SameItems (C.may_give clock.now) }
+    ensures sessions { SameSessions (C.may_give clock.now) }
+
+    // So it is over two histories that end alike for the agent, while no entry opens to the agent
+    // what differs.
+    ensures alike { SameSessionsOverAlike (C.may_give clock.now) }
+{
+    let _clock = clock;
+    pod_reply::laws::one_reply();
+    session_laws::sessions_are_isolated(clock);
+}
+
+/// No entry of a history belongs to two items.
+pub fn one_item<C: Clock>(clock: &C)
+    ensures { EntryHasOneItem (C.may_give clock.now) }
+{
+    let _clock = clock;
+    reply_laws::bases();
+}
+
+/// Each entry of a world's history but the last at most was acknowledged by the response of its
+/// item, and published once.
+pub fn each_change_once<C: Clock>(clock: &C)
+    ensures acknowledged { EntriesAreAcknowledged (C.may_give clock.now) }
+    ensures once { EntriesArePublishedOnce (C.may_give clock.now) }
+{
+    let _clock = clock;
+}
+
+/// A world at rest has the steps of a change that is next and has a reply with an entry: it can be
+/// completed, after a repair where an entry is in doubt, and its gate may fail.
+pub fn changes_may_complete<C: Clock>(clock: &C)
+    ensures completes { ChangesMayComplete (C.may_give clock.now) }
+    ensures repaired { RepairsMayComplete (C.may_give clock.now) }
+    ensures fails { GatesMayFail (C.may_give clock.now) }
+{
+    let _clock = clock;
+}
+
+/// The entries of a world's history apply, one after the other, and the pod at each place of a
+/// history is well-formed.
+pub fn well_formed_histories<C: Clock>(clock: &C)
+    ensures worlds { WorldsHaveHistories (C.may_give clock.now) }
+    ensures pods { EachPodIsWellFormed }
+{
+    let _clock = clock;
+    reply_laws::applies();
+}

@@ -1,0 +1,41 @@
+//! The order of refusals and the existence of replies, as laws: what is refused by target, token and
+//! method is so whatever the body is, a body that is refused is so whatever access is granted, and
+//! a request without access is refused whatever the pod holds.
+//!
+//! ```ignore
+//! refusal_laws::refusals_in_order();   // nothing of the pod is revealed before access is decided
+//! ```
+//!
+//! Proved of `IsReply` of `pod_reply`, for each pod and request: where target, token or method is
+//! refused, each reply is that refusal (`admission`); where they are admitted and the body is at
+//! fault, each reply is the refusal of that fault (`body`); where the body has a meaning and a need
+//! isn't granted, each reply is the refusal of access (`access`). So no refusal of a later rank
+//! is the reply where an earlier condition holds.
+//!
+//! Every request of a method that takes no body has a reply, on every pod, and so has a PUT whose
+//! body is a content or has a fault ([`some_reply`]).
+//!
+//! The functions do nothing: their contracts are the laws. They depend on `pod_reply` for the
+//! definition of a reply, and on `request_target` and `request_body` for the first ranks.
+#![tactic(auto)]
+
+ghost use Rattle.refusal_laws.specs.Order.{AccessComesThird, AdmissionComesFirst};
+ghost use Rattle.refusal_laws.specs.Order.{BodyComesSecond};
+ghost use Rattle.refusal_laws.specs.SomeReplies.{BodilessHaveReplies, PutsHaveReplies};
+
+/// Refusals come in the order target, token, method, body, access, and only then what depends on
+/// the pod.
+pub fn refusals_in_order()
+    ensures admission { AdmissionComesFirst }
+    ensures body { BodyComesSecond }
+    ensures access { AccessComesThird }
+{
+    pod_reply::laws::one_reply();
+}
+
+/// Requests have replies: every one of a method that takes no body, and every PUT whose body is a
+/// content or has a fault. Each has one at most, too.
+pub fn some_reply()
+    ensures bodiless { BodilessHaveReplies }
+    ensures puts { PutsHaveReplies }
+{}
