@@ -1,0 +1,3 @@
+-- what a follower takes, and how far it comes
+pub mod Followed
+pub mod Prefixes

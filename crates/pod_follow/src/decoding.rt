@@ -1,0 +1,76 @@
+//! Entries in either format, and the version after one.
+ghost use Rattle.std.specs.Prelude.{◌≡◌, ◌+◌, None, IfOk, IfSome};
+ghost use Rattle.pod_command.specs.declared.entry.Entry.{Entry as EntryValue};
+ghost use Rattle.pod_records.specs.Readings.{IsEntryOf, IsEntryRead};
+ghost use Rattle.pod_rows.specs.Apply.{Applies, applied};
+ghost use Rattle.pod_follow.specs.Followed.{IsEntryText, IsTheEntry};
+
+use entry_fits::fits;
+use pod_base::{Mem, NoMemory};
+use pod_command::laws::one_form;
+use pod_command::{Entry, ReadBack, decode_entry, decode_entry_1};
+use pod_pages::Version;
+use pod_rows::PodState;
+use std::alloc::Global;
+
+/// The entry of a text in format 1; none where it is the text of none.
+fn read_old(alloc: Global, text: &[u8]) -> Mem<Option<Entry>>
+    ensures some { IfOk result (λ found. IfSome found (IsEntryRead 1 text.now)) }
+    ensures none { IfOk result (λ found. found ≡ None
+        → (entry : EntryValue) → IsEntryOf 1 text.now entry → ⊥) }
+{
+    match decode_entry_1(alloc, text) {
+        Ok(entry) => Ok(Some(entry)),
+        Err(ReadBack::NotCanonical) => Ok(None),
+        Err(ReadBack::NoMemory) => Err(NoMemory),
+    }
+}
+
+/// The entry of a text in format 2; none where it is the text of none.
+fn read_new(alloc: Global, text: &[u8]) -> Mem<Option<Entry>>
+    ensures some { IfOk result (λ found. IfSome found (IsEntryRead 2 text.now)) }
+    ensures none { IfOk result (λ found. found ≡ None
+        → (entry : EntryValue) → IsEntryOf 2 text.now entry → ⊥) }
+{
+    match decode_entry(alloc, text) {
+        Ok(entry) => Ok(Some(entry)),
+        Err(ReadBack::NotCanonical) => Ok(None),
+        Err(ReadBack::NoMemory) => Err(NoMemory),
+    }
+}
+
+/// The entry of a text in either format; none where it is the text of none.
+pub(crate) fn read_entry(alloc: Global, text: &[u8]) -> Mem<Option<Entry>>
+    ensures some { IfOk result (λ found. IfSome found (IsTheEntry text.now)) }
+    ensures none { IfOk result (λ found. found ≡ None
+        → (entry : EntryValue) → IsEntryText text.now entry → ⊥) }
+{
+    one_form();
+    let new = read_new(alloc, text)?;
+    match new {
+        Some(entry) => Ok(Some(entry)),
+        None => {
+            let old = read_old(alloc, text)?;
+            Ok(old)
+        }
+    }
+}
+
+/// The version after an entry; none where the entry doesn't apply.
+pub(crate) fn version_after(alloc: Global, version: &Version, entry: &Entry) -> Mem<Option<Version>>
+    ensures applies { IfOk result (λ found. IfSome found
+        (λ _. Applies version.now.pod version.now.next entry.now)) }
+    ensures pod { IfOk result (λ found. IfSome found
+        (λ after. after.pod ≡ applied version.now.pod entry.now)) }
+    ensures next { IfOk result (λ found. IfSome found
+        (λ after. after.next ≡ version.now.next + 1)) }
+    ensures none { IfOk result (λ found. found ≡ None
+        → Applies version.now.pod version.now.next entry.now → ⊥) }
+{
+    if fits(alloc, version, entry)? {
+        let after = version.after(alloc, entry)?;
+        Ok(Some(after))
+    } else {
+        Ok(None)
+    }
+}

@@ -1,0 +1,39 @@
+//! Frames: a length and a body.
+ghost use Rattle.std.specs.Prelude.{◌≡◌};
+ghost use Rattle.std.specs.Option.{option_map};
+ghost use Rattle.pod_command.specs.Readers.{number_at, piece_at};
+ghost use Rattle.pod_command.specs.StoredForms.{number_bytes};
+
+/// The length of a body, as its frame begins: eight bytes, the greatest first.
+#[tactic(auto, unfolding(pod_command::specs::StoredForms::number_bytes))]
+pub fn frame_head(len: u64) -> [u8; 8]
+    ensures { result ≡ number_bytes len }
+{
+    len.to_be_bytes()
+}
+
+/// A number with which bytes begin, and what follows it.
+#[tactic(auto, unfolding(pod_command::specs::Readers::number_at))]
+fn split_number(bytes: &[u8]) -> Option<(u64, &[u8])>
+    ensures { option_map (λ r. (r.0, r.1.now)) result ≡ number_at bytes.entry.now }
+{
+    if bytes.len() < 8 {
+        return None;
+    }
+    let (n, rest) = bytes.split_at(8);
+    let number = u64::from_be_bytes([n[0], n[1], n[2], n[3], n[4], n[5], n[6], n[7]]);
+    Some((number, rest))
+}
+
+/// The body of the frame with which bytes begin, and what follows the frame; none where they don't
+/// begin with a whole frame. It takes no memory, whatever length the frame claims.
+#[tactic(auto, unfolding(pod_command::specs::Readers::piece_at))]
+pub fn split_frame(bytes: &[u8]) -> Option<(&[u8], &[u8])>
+    ensures { option_map (λ r. (r.0.now, r.1.now)) result ≡ piece_at bytes.entry.now }
+{
+    let (len, rest) = split_number(bytes)?;
+    if (rest.len() as u64) < len {
+        return None;
+    }
+    Some(rest.split_at(len as usize))
+}
