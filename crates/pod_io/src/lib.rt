@@ -18,7 +18,7 @@
 //! | [`Link`]: one connection, both at once | [`MemLink`] | [`TcpLink`] |
 //! | [`Gate`]: the connections of one worker | [`MemGate`] | [`TcpGate`] |
 //! | [`Listen`]: the gates of all workers | [`MemListen`] | [`TcpListen`] |
-//! | [`Wire`]: texts to a peer | [`MemWire`] | in `notify_ws` |
+//! | [`Wire`]: texts to a peer | [`MemWire`] | in `socket_wire` |
 //! | [`Clock`]: the time | [`SetClock`] | [`HostClock`] |
 //!
 //! Each trait counts its faults, and a source its reads. A call fails only where the count of
