@@ -8,3 +8,4 @@ pub mod UniqueSplits
 pub mod Splits
 pub mod Dots
 pub mod Resolving
+pub mod Written

@@ -44,7 +44,7 @@ first_scheme : (text : List ℕ) (s : Option (List ℕ)) (base : List ℕ) → I
 first_scheme text None base h hb = (base, refl, hb)
 first_scheme text (Some s) base h hb = (s, refl, h)
 
-begins : (text scheme : List ℕ) (c : Components) → IsTrue (is_scheme scheme) → c.scheme ≡ Some scheme → text ≡ recomposed c
+pub begins : (text scheme : List ℕ) (c : Components) → IsTrue (is_scheme scheme) → c.scheme ≡ Some scheme → text ≡ recomposed c
     → (rest : List ℕ) × BeginsWithScheme text scheme rest
 begins text scheme c is e whole =
     let rest = authority_text c.authority ++ (c.path ++ (query_text c.query ++ fragment_text c.fragment)) in

@@ -9,6 +9,7 @@ ghost use Rattle.std.specs.Ordering.{nat_cmp};
 ghost use Rattle.iri_ref.specs.Characters.{AllAllowed};
 ghost use Rattle.iri_ref.specs.Components.{IsAbsolute};
 ghost use Rattle.iri_ref.specs.Resolution.{IsResolved, StaysResolved, TakesScheme};
+ghost use Rattle.iri_ref.specs.Written.{IsIriOfReference};
 ghost use Rattle.iri_ref.specs.declared.iri.IriFault.TheVariants.{NoMemory};
 
 use crate::characters::all_allowed;
@@ -190,4 +191,17 @@ pub fn resolve(alloc: Global, base: &Iri, reference: &str) -> Result<Iri, IriFau
     }
     let text = resolve_text(alloc, base.as_str(), reference)?;
     Ok(Iri { text })
+}
+
+/// The IRI that a reference in a document stands for: the reference itself, as it is written, where
+/// it has a scheme, and what it resolves to against the base where it is relative (RDF 1.1 Turtle,
+/// section 6.3). It fails with `BadReference` exactly where the reference has a forbidden character.
+pub fn iri_of_reference(alloc: Global, base: &Iri, reference: &str) -> Result<Iri, IriFault>
+    ensures iri { IfOk result (λ iri. IsIriOfReference base.now reference.now iri) }
+    ensures bad_reference { IsErrOf result IriFault.BadReference ↔ (AllAllowed reference.now → ⊥) }
+{
+    if is_absolute(reference) {
+        return Iri::read(alloc, reference);
+    }
+    resolve(alloc, base, reference)
 }

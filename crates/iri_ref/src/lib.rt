@@ -3,13 +3,16 @@
 //! ```text
 //! let base = Iri::read(alloc, "http://a.example/b/c?q")?;
 //! let iri = resolve(alloc, &base, "../d#e")?;   // http://a.example/d#e
+//! let same = iri_of_reference(alloc, &base, "http://b.example/x/../y")?; // as it is written
 //! let term = base.appended(alloc, "#me")?;      // http://a.example/b/c?q#me
 //! let copy = term.copy(alloc)?;                 // shares the memory of term
 //! ```
 //!
-//! `resolve` returns the one text that the standard defines (clauses `resolved`, `only`). Its fault
-//! is exact (`bad_reference`), and so is that of `Iri::read` and `Iri::appended`. `laws` says that
-//! each text has its components in exactly one way. The crate uses std and `thiserror` alone.
+//! `resolve` returns the one text that the standard defines (clauses `resolved`, `only`).
+//! `iri_of_reference` is for references in documents: one with a scheme stays as it is written, and
+//! a relative one is resolved (`iri`). The faults are exact (`bad_reference`), and so are those of
+//! `Iri::read` and `Iri::appended`. `laws` says that each text has its components in exactly one
+//! way, and that a reference stands for one IRI. The crate uses std and `thiserror` alone.
 #![tactic(auto)]
 
 mod characters;
@@ -20,4 +23,4 @@ pub mod laws;
 mod target;
 
 pub use dot_segments::is_dot_segment;
-pub use iri::{Iri, IriFault, resolve};
+pub use iri::{Iri, IriFault, iri_of_reference, resolve};

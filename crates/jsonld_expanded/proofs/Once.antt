@@ -6,7 +6,7 @@ use Rattle.rdf_graph.specs.declared.term.Term.{Term}
 use Rattle.rdf_graph.specs.declared.term.Term.TheVariants.{Iri, Blank, Literal, Tagged}
 use Rattle.serde_json.specs.Data.{Data, null, boolean, number, string, array, object, Items, no_items, item, Members, no_members, member}
 use Rattle.serde_json.specs.Find.{get_member}
-use Rattle.iri_ref.proofs.Resolving.{references_resolve_uniquely}
+use Rattle.iri_ref.proofs.Written.{one_iri as one_iri_of_reference}
 use Rattle.jsonld_expanded.specs.Literals.{IsPlain, IsPlainObject, IsTypedObject, IsTaggedObject, IsLiteralOf, text_at}
 use Rattle.jsonld_expanded.specs.Nodes.{IsNamed, IsLabelled, IsNextFree, unnamed_label}
 use Rattle.jsonld_expanded.specs.Expands.{State, Scope, Then, Choose, Says, IsUnnamed, IsNodeBy, IsNodeOf, NodeWith, ObjectWith, MemberWith, WalksType, WalksEachType, WalksTypes, WalksLiteral, WalksValue, WalksList, WalksArray, WalksCells, WalksMembers, WalksMember, WalksValues, WalksEachValue, WalksNodeObject, WalksEachNodeObject, WalksDocument, has, saying}
@@ -48,7 +48,7 @@ pub one_label : (text l m : List ℕ) → IsLabelled text l → IsLabelled text 
 one_label text l m x y = append_cancel_left (codes "_:") l m (sym x.0 ∙ y.0)
 
 pub one_name : (base text : List ℕ) (t u : Term) → IsNamed base text t → IsNamed base text u → t ≡ u
-one_name base text (Iri i) (Iri j) x y = ap (λ k. Iri k) (references_resolve_uniquely base text i j x.resolved y.resolved)
+one_name base text (Iri i) (Iri j) x y = ap (λ k. Iri k) (one_iri_of_reference base text i j x.stands_for y.stands_for)
 one_name base text (Iri i) (Blank m) x y = absurd (x.no_label m y)
 one_name base text (Iri i) (Literal l d) x y = absurd y
 one_name base text (Iri i) (Tagged l d) x y = absurd y

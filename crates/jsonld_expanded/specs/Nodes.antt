@@ -4,7 +4,7 @@ use Rattle.std.specs.Prelude.{true, false, if◌then◌else◌, take, drop}
 use Rattle.std.specs.List.{list_any}
 use Rattle.std.specs.Str.{bytes_eq}
 use Rattle.iri_ref.specs.Characters.{AllAllowed}
-use Rattle.iri_ref.specs.Resolution.{IsResolved}
+use Rattle.iri_ref.specs.Written.{IsIriOfReference}
 use Rattle.turtle_lex.specs.Laws.{IsTextOf}
 use Rattle.turtle_lex.specs.Terminals.{label}
 use Rattle.rdf_graph.specs.declared.term.Term.{Term}
@@ -16,11 +16,11 @@ use Rattle.serde_json.specs.Data.{Items, no_items, item, Members, no_members, me
 abbrev pub IsLabelled : List ℕ → List ℕ → Type 0
 IsLabelled text l = (text ≡ codes "_:" ++ l) × IsTextOf label l
 
--- the text is a reference, which is resolved against the base
+-- the text is a reference, and the IRI is what it stands for
 pub record IsReference (base text iri : List ℕ) : Type 0 where
   pub no_label : (l : List ℕ) → IsLabelled text l → ⊥
   pub allowed : AllAllowed text
-  pub resolved : IsResolved base text iri
+  pub stands_for : IsIriOfReference base text iri
 
 -- the node that an `@id` or a `@type` names
 abbrev pub IsNamed : List ℕ → List ℕ → Term → Type 0

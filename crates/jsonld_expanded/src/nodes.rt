@@ -16,7 +16,7 @@ use crate::fault::{Refusal, refusal_of};
 use crate::labels::after_mark;
 use crate::scope::Scope;
 use crate::walk::Walk;
-use iri_ref::resolve;
+use iri_ref::iri_of_reference;
 use pod_base::{Mem, NoMemory, Text};
 use rdf_graph::Term;
 use serde_json::Value;
@@ -53,7 +53,7 @@ impl<'a> Scope<'a> {
                 let label = Text::of(self.alloc, label)?;
                 Ok(Term::Blank(label))
             }
-            None => match resolve(self.alloc, self.base, text) {
+            None => match iri_of_reference(self.alloc, self.base, text) {
                 Ok(iri) => Ok(Term::Iri(iri)),
                 Err(fault) => Err(refusal_of(fault)),
             },

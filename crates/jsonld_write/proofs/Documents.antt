@@ -131,11 +131,11 @@ properties_flat (run ∷ rs) = property_flat run (properties rs) (properties_fla
 
 module _ (base : List ℕ) where
   -- `@id` comes before all keys
-  key_after_id : (t : Triple) (b : Bool) → is_type t ≡ b → IsGood base t → bytes_cmp (codes "@id") (key_of t) ≡ Less
+  key_after_id : (t : Triple) (b : Bool) → is_type t ≡ b → IsGood t → bytes_cmp (codes "@id") (key_of t) ≡ Less
   key_after_id t true e g = ap (bytes_cmp (codes "@id")) (ap (λ b. cond b (codes "@type") (iri_of t.p)) e)
-  key_after_id t false e g = ap (bytes_cmp (codes "@id")) (ap (λ b. cond b (codes "@type") (iri_of t.p)) e) ∙ at_below (codes "id") (iri_of t.p) (predicate base t g)
+  key_after_id t false e g = ap (bytes_cmp (codes "@id")) (ap (λ b. cond b (codes "@type") (iri_of t.p)) e) ∙ at_below (codes "id") (iri_of t.p) (predicate t g)
 
-  id_first : (ts : List Triple) → Each (IsGood base) ts → IsBelowFirst (codes "@id") (properties (runs same_key ts))
+  id_first : (ts : List Triple) → Each IsGood ts → IsBelowFirst (codes "@id") (properties (runs same_key ts))
   unfolding runs
   id_first [] h = tt
   id_first (t ∷ ts) h = begins_with t (runs same_key (t ∷ ts)) (first_run same_key t ts) (codes "@id") (key_after_id t (is_type t) refl h.0)
@@ -144,7 +144,7 @@ module _ (base : List ℕ) where
 
 -- a triple of the subject that is read back
 record IsOf (base : List ℕ) (s : Term) (t : Triple) : Type 0 where
-  pub good : IsGood base t
+  pub good : IsGood t
   pub subject : t.s ≡ s
 
 each_from_all : (P : Triple → Type 0) (ts : List Triple) → All P ts → Each P ts
@@ -209,7 +209,7 @@ module _ (scope : Scope) where
   runs_under s ([] ∷ rs) k h = absurd k.0
   runs_under s ((t ∷ ts) ∷ rs) k h = (each_under s t (t ∷ ts) k.0 h.0, runs_under s rs k.1 h.1)
 
-  each_of : (t : Triple) (us : List Triple) → FromSubject t us → Each (IsGood scope.base) us → Each (IsOf scope.base t.s) us
+  each_of : (t : Triple) (us : List Triple) → FromSubject t us → Each IsGood us → Each (IsOf scope.base t.s) us
   each_of t [] k h = tt
   each_of t (u ∷ us) k h = (record { good = h.0; subject = k.0 }, each_of t us k.1 h.1)
 
@@ -228,7 +228,7 @@ module _ (scope : Scope) where
       let name = named scope.base t.s (subject_named t.s good.rdf.0) good.absolute.s good.back.subject in
       (t.s, (a, (name, refl), (a, refl, walks_properties t.s (sorted key_below (t ∷ ts)) a (each_sorted (IsOf scope.base t.s) (t ∷ ts) h))))
 
-  walks_nodes : (rs : List (List Triple)) (a : State) → SubjectsAlike rs → EachRun (Each (IsGood scope.base)) rs → WalksEachNodeObject scope (items_of (map node_object rs)) a (after a (flat_map (sorted key_below) rs))
+  walks_nodes : (rs : List (List Triple)) (a : State) → SubjectsAlike rs → EachRun (Each IsGood) rs → WalksEachNodeObject scope (items_of (map node_object rs)) a (after a (flat_map (sorted key_below) rs))
   walks_nodes [] a k h = after_none a
   walks_nodes ([] ∷ rs) a k h = absurd k.0
   walks_nodes ((t ∷ ts) ∷ rs) a k h =
@@ -260,35 +260,35 @@ same_set g = λ x. (Contains-permutation g (walked g) x (walked_moves g), Contai
 -- ---- the document is regular
 
 module _ (base : List ℕ) where
-  node_flat : (run : List Triple) → Each (IsGood base) run → IsFlat 3 (node_object run)
+  node_flat : (run : List Triple) → Each IsGood run → IsFlat 3 (node_object run)
   node_flat [] h = record { regular = tt; within = omega arith }
   node_flat (t ∷ ts) h =
       let us = sorted key_below (t ∷ ts) in
       let flat = properties_flat (runs same_key us) in
       record {
-        regular = ((id_first base us (each_sorted (IsGood base) (t ∷ ts) h), keys_ascend us (sorted_ascends key_below key_order (t ∷ ts))), (tt, flat.regular));
+        regular = ((id_first base us (each_sorted IsGood (t ∷ ts) h), keys_ascend us (sorted_ascends key_below key_order (t ∷ ts))), (tt, flat.regular));
         within = omega (arith, flat.within);
       }
 
-  nodes_flat : (rs : List (List Triple)) → EachRun (Each (IsGood base)) rs → AreFlat 3 (items_of (map node_object rs))
+  nodes_flat : (rs : List (List Triple)) → EachRun (Each IsGood) rs → AreFlat 3 (items_of (map node_object rs))
   nodes_flat [] h = record { regular = tt; within = omega arith }
   nodes_flat (r ∷ rs) h =
       let one = node_flat r h.0 in
       let more = nodes_flat rs h.1 in
       record { regular = (one.regular, more.regular); within = omega (arith, one.within, more.within) }
 
-  all_good : (g : List Triple) → All IsRdf g → All HasAbsoluteIris g → GraphReadsBack base g → All (IsGood base) g
+  all_good : (g : List Triple) → All IsRdf g → All HasAbsoluteIris g → GraphReadsBack g → All IsGood g
   all_good g r a b = λ k d l. record { rdf = r k d l; absolute = a k d l; back = b k d l }
 
-  runs_good : (g : List Triple) → All (IsGood base) g → EachRun (Each (IsGood base)) (runs same_subject g)
-  runs_good g h = each_run (IsGood base) (runs same_subject g) (subst (Each (IsGood base)) (sym (run_elements same_subject g)) (each_from_all (IsGood base) g h))
+  runs_good : (g : List Triple) → All IsGood g → EachRun (Each IsGood) (runs same_subject g)
+  runs_good g h = each_run IsGood (runs same_subject g) (subst (Each IsGood) (sym (run_elements same_subject g)) (each_from_all IsGood g h))
 
-  document_flat : (g : List Triple) → All (IsGood base) g → IsFlat 4 (document g)
+  document_flat : (g : List Triple) → All IsGood g → IsFlat 4 (document g)
   document_flat g h = let flat = nodes_flat (runs same_subject g) (runs_good g h) in record { regular = flat.regular; within = omega (arith, flat.within) }
 
   -- ---- the document stands for the graph
 
-  pub expands_walked : (g : List Triple) → All (IsGood base) g → ExpandsTo base (document g) (walked g)
+  pub expands_walked : (g : List Triple) → All IsGood g → ExpandsTo base (document g) (walked g)
   unfolding walked
   expands_walked g h = record {
     end = after start (walked g);
@@ -300,7 +300,7 @@ module _ (base : List ℕ) where
   unfolding tokens_of
   tokens_are g bytes t = t.tokens
 
-  pub is_document : (g : List Triple) (bytes : List ℕ) → IsGraph g → All HasAbsoluteIris g → IsDocumentText g bytes → GraphReadsBack base g → triples_size g ≤ TRIPLES_LIMIT → IsDocumentOf base bytes g
+  pub is_document : (g : List Triple) (bytes : List ℕ) → IsGraph g → All HasAbsoluteIris g → IsDocumentText g bytes → GraphReadsBack g → triples_size g ≤ TRIPLES_LIMIT → IsDocumentOf base bytes g
   is_document g bytes graph absolute text back small =
       let good = all_good g graph.rdf absolute back in
       let flat = document_flat g good in

@@ -4,6 +4,7 @@ use Rattle.std.proofs.lemmas.Bool.{and_parts, false≢true}
 use Rattle.std.specs.List.{flat_map}
 use Rattle.std.specs.Str.{bytes_eq}
 use Rattle.iri_ref.specs.Components.{IsAbsolute}
+use Rattle.iri_ref.proofs.Written.{absolute_itself}
 use Rattle.rdf_graph.specs.Term.{IsIri, IsLiteral}
 use Rattle.rdf_graph.specs.Triple.{IsRdf}
 use Rattle.rdf_graph.specs.declared.term.Term.{Term}
@@ -22,8 +23,8 @@ use lib.Pointwise.{bytes_decides}
 
 -- ---- names
 
-pub named : (base : List ℕ) (x : Term) → is_named x ≡ true → HasAbsolute x → ReadsBack base x → IsNamed base (name_of x) x
-named base (Iri iri) n a r = record { no_label = λ l h. no_label iri l a h; allowed = a.allowed; resolved = r }
+pub named : (base : List ℕ) (x : Term) → is_named x ≡ true → HasAbsolute x → ReadsBack x → IsNamed base (name_of x) x
+named base (Iri iri) n a r = record { no_label = λ l h. no_label iri l a h; allowed = a.allowed; stands_for = absolute_itself base iri a }
 named base (Blank label) n a r = (refl, r)
 named base (Literal lexical datatype) n a r = absurd (false≢true n)
 named base (Tagged lexical lang) n a r = absurd (false≢true n)
@@ -47,13 +48,13 @@ iri_absolute (Literal lexical datatype) h a = absurd h
 iri_absolute (Tagged lexical lang) h a = absurd h
 
 -- a triple of RDF that is read back
-pub record IsGood (base : List ℕ) (t : Triple) : Type 0 where
+pub record IsGood (t : Triple) : Type 0 where
   pub rdf : IsRdf t
   pub absolute : HasAbsoluteIris t
-  pub back : TripleReadsBack base t
+  pub back : TripleReadsBack t
 
-pub predicate : (base : List ℕ) (t : Triple) → IsGood base t → IsAbsolute (iri_of t.p)
-predicate base t g = iri_absolute t.p g.rdf.1 g.absolute.p
+pub predicate : (t : Triple) → IsGood t → IsAbsolute (iri_of t.p)
+predicate t g = iri_absolute t.p g.rdf.1 g.absolute.p
 
 -- ---- states
 
@@ -117,7 +118,7 @@ module _ (scope : Scope) where
     walks_typed lexical datatype a h =
         (Literal lexical datatype, inr (inl (record { lexical = lexical; datatype = datatype; count = refl; has_value = refl; has_type = refl; absolute = h; literal = refl })), refl)
 
-    walks_tagged : (lexical lang : List ℕ) (a : State) → ReadsBack scope.base (Tagged lexical lang) → WalksValue scope s p (tagged_value lexical lang) a (saying s p (Tagged lexical lang) a)
+    walks_tagged : (lexical lang : List ℕ) (a : State) → ReadsBack (Tagged lexical lang) → WalksValue scope s p (tagged_value lexical lang) a (saying s p (Tagged lexical lang) a)
     walks_tagged lexical lang a h =
         (Tagged lexical lang, inr (inr (record { lexical = lexical; lang = lang; count = refl; has_value = refl; no_type = refl; has_language = refl; is_tag = h.0; literal = ap (Tagged lexical) (sym h.1) })), refl)
 
@@ -127,7 +128,7 @@ module _ (scope : Scope) where
         subst (λ (d : List ℕ). WalksValue scope s p (string_value lexical) a (saying s p (Literal lexical d) a)) (sym ((bytes_decides datatype xsd_string).0 e)) (walks_string lexical a)
     walks_literal lexical datatype a false e h = walks_typed lexical datatype a h
 
-    pub walks_value : (x : Term) (a : State) → HasAbsolute x → ReadsBack scope.base x → WalksValue scope s p (value_of x) a (saying s p x a)
+    pub walks_value : (x : Term) (a : State) → HasAbsolute x → ReadsBack x → WalksValue scope s p (value_of x) a (saying s p x a)
     walks_value (Iri iri) a h r = walks_name (Iri iri) a (named scope.base (Iri iri) refl h r)
     walks_value (Blank label) a h r = walks_name (Blank label) a (named scope.base (Blank label) refl h r)
     walks_value (Literal lexical datatype) a h r = walks_literal lexical datatype a (bytes_eq datatype xsd_string) refl h
@@ -137,13 +138,13 @@ module _ (scope : Scope) where
 
   -- the triple has this subject, and this key, which is no keyword
   pub record IsUnder (s : Term) (p : List ℕ) (t : Triple) : Type 0 where
-    pub good : IsGood scope.base t
+    pub good : IsGood t
     pub subject : t.s ≡ s
     pub key : key_of t ≡ p
 
-  type_under : (t : Triple) (b : Bool) → is_type t ≡ b → IsGood scope.base t → key_of t ≡ codes "@type" → is_type t ≡ true
+  type_under : (t : Triple) (b : Bool) → is_type t ≡ b → IsGood t → key_of t ≡ codes "@type" → is_type t ≡ true
   type_under t true e g k = e
-  type_under t false e g k = absurd (not_keyword (iri_of t.p) (codes "type") (predicate scope.base t g) (sym (key_as_iri t e) ∙ k))
+  type_under t false e g k = absurd (not_keyword (iri_of t.p) (codes "type") (predicate t g) (sym (key_as_iri t e) ∙ k))
 
   value_under : (p : List ℕ) (t : Triple) (b : Bool) → is_type t ≡ b → IsAbsolute p → key_of t ≡ p → is_type t ≡ false
   value_under p t true e h k = absurd (not_keyword p (codes "type") h (sym k ∙ key_as_type t e))
@@ -190,7 +191,7 @@ module _ (scope : Scope) where
       (walks_types s (t ∷ ts) a (subst (λ (k : List ℕ). Each (IsUnder s k) (t ∷ ts)) (key_as_type t e) h))
   walks_key s t ts a false e h =
       let p = iri_of t.p in
-      let absolute = predicate scope.base t h.0.good in
+      let absolute = predicate t h.0.good in
       let under = subst (λ (k : List ℕ). Each (IsUnder s k) (t ∷ ts)) (key_as_iri t e) h in
       let items = items_of (map object_of (t ∷ ts)) in
       let Predicate : Type 0 = IsAbsolute p × WalksEachValue scope s p items a (after a (t ∷ ts)) in

@@ -44,7 +44,7 @@ pub fn write(alloc: Global, graph: &Graph) -> Mem<Bytes>
     ensures text { IfOk result (λ bytes. bytes ≡ document_text graph.now) }
 
     // The text is read as the graph, for every base.
-    ensures reads_back { IfOk result (λ bytes. (base : List ℕ) → GraphReadsBack base graph.now
+    ensures reads_back { IfOk result (λ bytes. (base : List ℕ) → GraphReadsBack graph.now
         → triples_size graph.now ≤ TRIPLES_LIMIT → IsDocumentOf base bytes graph.now) }
 {
     let triples = graph.as_slice();

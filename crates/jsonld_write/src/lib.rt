@@ -7,9 +7,8 @@
 //!
 //! Proved: [`write()`] returns `document_text` (`specs/Document.antt`), the compact text of an
 //! array with a node object for each subject (clause `text`), and `jsonld_expanded` reads that text
-//! as the graph for every base (clause `reads_back`), where each IRI is its own resolution, each
-//! label is one of Turtle, each language tag is in lower case, and the triples are within the
-//! limit. [`laws`] says that each subject has one node object.
+//! as the graph for every base (clause `reads_back`), where each label is one of Turtle, each
+//! language tag is in lower case, and the triples are within the limit. [`laws`] says that each subject has one node object.
 //!
 //! The length of the text is known before it is written, so it takes one block of memory.
 //!

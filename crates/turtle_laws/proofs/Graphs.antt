@@ -63,7 +63,7 @@ pieces_are blanks (t ∷ ts) =
 
 -- ---- each is a token
 
-triple_written : (base blanks : List ℕ) (t : Triple) (ps : List Piece) (r : List ℕ) → IsTextOf gap blanks → TripleHasTexts t → TripleIsReadBack base t
+triple_written : (base blanks : List ℕ) (t : Triple) (ps : List Piece) (r : List ℕ) → IsTextOf gap blanks → TripleHasTexts t → TripleIsReadBack t
     → EndsTerm (pieces_text ps r) → AreWrittenAlways ps r → AreWrittenAlways (triple_pieces blanks t ps) r
 triple_written base blanks t ps r x h k ends rest =
     let fourth : List Piece = dot_piece ∷ ps in
@@ -83,15 +83,15 @@ line_is_gap : IsTextOf gap (codes "\n")
 unfolding gap is_blank encode_utf8
 line_is_gap = (1, ([], inl (10, refl, refl, refl), refl))
 
-pub graph_written : (base blanks : List ℕ) (ts : List Triple) → IsTextOf gap blanks → GraphHasTexts ts → GraphIsReadBack base ts
+pub graph_written : (base blanks : List ℕ) (ts : List Triple) → IsTextOf gap blanks → GraphHasTexts ts → GraphIsReadBack ts
     → AreWrittenAlways (graph_pieces blanks ts) (graph_end blanks ts)
 graph_written base blanks [] x h k a = tt
 graph_written base blanks (t ∷ ts) x h k a =
     let ps : List Piece = graph_pieces (codes "\n") ts in
     let r : List ℕ = graph_end (codes "\n") ts in
-    triple_written base blanks t ps r x (All-head TripleHasTexts t ts h) (All-head (TripleIsReadBack base) t ts k)
+    triple_written base blanks t ps r x (All-head TripleHasTexts t ts h) (All-head TripleIsReadBack t ts k)
     (line_ends (pieces_text ps r) (graph_text ts) (pieces_are (codes "\n") ts))
-    (graph_written base (codes "\n") ts line_is_gap (All-tail TripleHasTexts t ts h) (All-tail (TripleIsReadBack base) t ts k)) a
+    (graph_written base (codes "\n") ts line_is_gap (All-tail TripleHasTexts t ts h) (All-tail TripleIsReadBack t ts k)) a
 
 -- ---- what follows the last token
 

@@ -8,3 +8,6 @@ mod Productions
 mod Spelled
 mod Cuts
 mod Limits
+mod Lowered
+mod Generated
+mod ReadTerms

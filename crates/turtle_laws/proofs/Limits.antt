@@ -153,7 +153,7 @@ low_high limit size whole le low high = omega (arith, le, low, high)
 
 -- ---- the limits
 
-module _ (base : List ℕ) (graph : List RdfTriple) (is_graph : IsGraph graph) (texts : GraphHasTexts graph) (read_back : GraphIsReadBack base graph) where
+module _ (base : List ℕ) (graph : List RdfTriple) (is_graph : IsGraph graph) (texts : GraphHasTexts graph) (read_back : GraphIsReadBack graph) where
   abbrev all : List Production
   all = (document_end (document_of graph) start_point).produced
 

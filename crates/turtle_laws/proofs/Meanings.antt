@@ -5,7 +5,9 @@ use Rattle.std.specs.Char.{to_ascii_lowercase}
 use Rattle.std.specs.FinMap as map_of
 use lib.Pointwise.{pointwise}
 use Rattle.iri_ref.specs.Characters.{AllAllowed}
-use Rattle.iri_ref.specs.Resolution.{IsResolved}
+use Rattle.iri_ref.specs.Components.{IsAbsolute}
+use Rattle.iri_ref.specs.Written.{IsIriOfReference}
+use Rattle.iri_ref.proofs.Written.{absolute_itself}
 use Rattle.rdf_graph.specs.Term.{xsd_string}
 use Rattle.rdf_graph.specs.declared.term.Term.{Term}
 use Rattle.rdf_graph.specs.declared.term.Term.TheVariants.{Iri, Blank, Literal, Tagged}
@@ -80,13 +82,13 @@ meanings_are (p ∷ ps) base bytes n r at (one, more) =
 
 -- ---- the pieces of a graph
 
-iri_meant : (base blanks iri : List ℕ) → IsResolved base iri iri → AllAllowed iri → IsMeant base (iri_piece blanks iri)
-iri_meant base blanks iri own allowed =
-    let value : reference_value (codes "<" ++ (iri ++ codes ">")) ≡ iri = reference_is_read iri allowed in
+iri_meant : (base blanks iri : List ℕ) → IsAbsolute iri → IsMeant base (iri_piece blanks iri)
+iri_meant base blanks iri absolute =
+    let value : reference_value (codes "<" ++ (iri ++ codes ">")) ≡ iri = reference_is_read iri absolute.allowed in
     record {
       plain = record { allowed = refl; braces = refl; depth = refl };
       opens = refl;
-      means = (Some (Iri iri), subst (λ (x : List ℕ). AllAllowed x × IsResolved base x iri) (sym value) (allowed, own), refl);
+      means = (Some (Iri iri), subst (λ (x : List ℕ). AllAllowed x × IsIriOfReference base x iri) (sym value) (absolute.allowed, absolute_itself base iri absolute), refl);
     }
 
 label_meant : (base blanks label : List ℕ) → IsMeant base (label_piece blanks label)
@@ -116,24 +118,24 @@ carets_meant base = record { plain = record { allowed = refl; braces = refl; dep
 dot_meant : (base : List ℕ) → IsMeant base dot_piece
 dot_meant base = record { plain = record { allowed = refl; braces = refl; depth = refl }; opens = refl; means = (None, refl, refl) }
 
-datatype_meant : (b : Bool) (base datatype : List ℕ) (ps : List Piece) → IsResolved base datatype datatype → AllAllowed datatype → AreMeant base ps
+datatype_meant : (b : Bool) (base datatype : List ℕ) (ps : List Piece) → IsAbsolute datatype → AreMeant base ps
     → AreMeant base (datatype_pieces b datatype ps)
-datatype_meant true base datatype ps own allowed rest = rest
-datatype_meant false base datatype ps own allowed rest = (carets_meant base, (iri_meant base [] datatype own allowed, rest))
+datatype_meant true base datatype ps absolute rest = rest
+datatype_meant false base datatype ps absolute rest = (carets_meant base, (iri_meant base [] datatype absolute, rest))
 
-term_meant : (base blanks : List ℕ) (t : Term) (ps : List Piece) → HasTexts t → IsReadBack base t → AreMeant base ps → AreMeant base (term_pieces blanks t ps)
-term_meant base blanks (Iri iri) ps h k rest = (iri_meant base blanks iri k h.allowed, rest)
+term_meant : (base blanks : List ℕ) (t : Term) (ps : List Piece) → HasTexts t → IsReadBack t → AreMeant base ps → AreMeant base (term_pieces blanks t ps)
+term_meant base blanks (Iri iri) ps h k rest = (iri_meant base blanks iri h.absolute, rest)
 term_meant base blanks (Blank label) ps h k rest = (label_meant base blanks label, rest)
 term_meant base blanks (Literal lexical datatype) ps h k rest =
-    (string_meant base blanks lexical, datatype_meant (pointwise nat_eq datatype xsd_string) base datatype ps k h.1.allowed rest)
+    (string_meant base blanks lexical, datatype_meant (pointwise nat_eq datatype xsd_string) base datatype ps h.1.absolute rest)
 term_meant base blanks (Tagged lexical lang) ps h k rest = (string_meant base blanks lexical, (tag_meant base lang k.1, rest))
 
-pub graph_meant : (base blanks : List ℕ) (ts : List Triple) → GraphHasTexts ts → GraphIsReadBack base ts → AreMeant base (graph_pieces blanks ts)
+pub graph_meant : (base blanks : List ℕ) (ts : List Triple) → GraphHasTexts ts → GraphIsReadBack ts → AreMeant base (graph_pieces blanks ts)
 graph_meant base blanks [] h k = tt
 graph_meant base blanks (t ∷ ts) h k =
     let texts = All-head TripleHasTexts t ts h in
-    let one = All-head (TripleIsReadBack base) t ts k in
-    let rest = graph_meant base (codes "\n") ts (All-tail TripleHasTexts t ts h) (All-tail (TripleIsReadBack base) t ts k) in
+    let one = All-head TripleIsReadBack t ts k in
+    let rest = graph_meant base (codes "\n") ts (All-tail TripleHasTexts t ts h) (All-tail TripleIsReadBack t ts k) in
     let ps : List Piece = dot_piece ∷ graph_pieces (codes "\n") ts in
     let third : List Piece = term_pieces (codes " ") t.o ps in
     term_meant base blanks t.s (term_pieces (codes " ") t.p third) texts.subject one.subject

@@ -30,13 +30,13 @@ graph_tokens graph = tokens_of 0 (graph_pieces [] graph)
 starts : (graph : List RdfTriple) → IsAt (graph_text graph) 0 (pieces_text (graph_pieces [] graph) (graph_end [] graph))
 starts graph = record { before = []; bytes_are = sym (pieces_are [] graph); len = refl }
 
-pub are_tokens : (base : List ℕ) (graph : List RdfTriple) → GraphHasTexts graph → GraphIsReadBack base graph → AreTokens (graph_text graph) (graph_tokens graph)
+pub are_tokens : (base : List ℕ) (graph : List RdfTriple) → GraphHasTexts graph → GraphIsReadBack graph → AreTokens (graph_text graph) (graph_tokens graph)
 are_tokens base graph h k =
     let t = has_tokens (graph_pieces [] graph) (graph_text graph) 0 false (graph_end [] graph) (starts graph)
     (graph_written base [] graph nothing_is_gap h k false) in
     (t.end, t.string, t.tokens, subst (λ (xs : List ℕ). Matches last_gap xs []) (sym t.left) (gap_left graph))
 
-pub derives : (base : List ℕ) (graph : List RdfTriple) → IsGraph graph → GraphHasTexts graph → GraphIsReadBack base graph
+pub derives : (base : List ℕ) (graph : List RdfTriple) → IsGraph graph → GraphHasTexts graph → GraphIsReadBack graph
     → Derives Document (symbols_of (lexemes_of (graph_tokens graph))) (document_end (document_of graph) start_point).produced
 derives base graph is_graph h k =
     let ps : List Piece = graph_pieces [] graph in
@@ -48,7 +48,7 @@ derives base graph is_graph h k =
       allowed = subst (λ (xs : List Symbol). AreAllowed Document 0 xs) (sym same) (are_allowed (kinds_of ps) (are_plain base ps (graph_meant base [] graph h k)));
     }
 
-pub are_meanings : (base : List ℕ) (graph : List RdfTriple) → GraphHasTexts graph → GraphIsReadBack base graph
+pub are_meanings : (base : List ℕ) (graph : List RdfTriple) → GraphHasTexts graph → GraphIsReadBack graph
     → AreMeanings (graph_text graph) (at_start base) (lexemes_of (graph_tokens graph)) (meanings_of (graph_pieces [] graph))
 are_meanings base graph h k =
     meanings_are (graph_pieces [] graph) base (graph_text graph) 0 (graph_end [] graph) (starts graph) (graph_meant base [] graph h k)
@@ -58,7 +58,7 @@ pub are_triples : (graph : List RdfTriple) → IsGraph graph
 are_triples graph is_graph =
     graph_done (graph_text graph) (meanings_of (graph_pieces [] graph)) [] graph start_point [] is_graph.rdf (record { triples = refl; left = refl })
 
-spells_triples : (base : List ℕ) (graph : List RdfTriple) → IsGraph graph → GraphHasTexts graph → GraphIsReadBack base graph → SpellsTriples base (graph_text graph) graph
+spells_triples : (base : List ℕ) (graph : List RdfTriple) → IsGraph graph → GraphHasTexts graph → GraphIsReadBack graph → SpellsTriples base (graph_text graph) graph
 spells_triples base graph is_graph h k = record {
   tokens = graph_tokens graph;
   productions = (document_end (document_of graph) start_point).produced;

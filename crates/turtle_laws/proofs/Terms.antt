@@ -168,7 +168,7 @@ iri_written : (a : Bool) (blanks iri r : List ℕ) → IsTextOf gap blanks → I
 iri_written a blanks iri r x h = record {
   kind = Kind.IriRef;
   gap = x;
-  token = written_iri (codes "<" ++ (iri ++ codes ">")) r (iri_text iri h.utf8 h.allowed);
+  token = written_iri (codes "<" ++ (iri ++ codes ">")) r (iri_text iri h.utf8 h.absolute.allowed);
   listed = iri_listed a;
 }
 
@@ -219,7 +219,7 @@ datatype_written false datatype ps r h ends rest =
     let i = iri_written (is_string c.kind) [] datatype (pieces_text ps r) nothing_is_gap h in
     (other_no_quote 94 (94 ∷ after) (omega arith), (c, (i, rest (is_string i.kind))))
 
-pub term_written : (base blanks : List ℕ) (t : Term) (ps : List Piece) (r : List ℕ) → IsTextOf gap blanks → HasTexts t → IsReadBack base t
+pub term_written : (base blanks : List ℕ) (t : Term) (ps : List Piece) (r : List ℕ) → IsTextOf gap blanks → HasTexts t → IsReadBack t
     → EndsTerm (pieces_text ps r) → AreWrittenAlways ps r → AreWrittenAlways (term_pieces blanks t ps) r
 term_written base blanks (Iri iri) ps r x h k ends rest a =
     let i = iri_written a blanks iri (pieces_text ps r) x h in

@@ -2,20 +2,19 @@
 use Rattle.std.specs.Prelude.{◌≡◌, ℕ, List, ◌++◌, All, map, codes}
 use Rattle.std.specs.Char.{to_ascii_lowercase}
 use Rattle.std.specs.Str.{IsUtf8}
-use Rattle.iri_ref.specs.Characters.{AllAllowed}
-use Rattle.iri_ref.specs.Resolution.{IsResolved}
+use Rattle.iri_ref.specs.Components.{IsAbsolute}
 use Rattle.turtle_lex.specs.Laws.{IsTextOf}
 use Rattle.turtle_lex.specs.Terminals.{label as blank_label, lang_tag}
 use Rattle.rdf_graph.specs.declared.term.Term.{Term}
 use Rattle.rdf_graph.specs.declared.term.Term.TheVariants.{Iri, Blank, Literal, Tagged}
 use Rattle.rdf_graph.specs.declared.triple.Triple.{Triple}
 
--- UTF-8 without a character that IRIREF forbids
+-- UTF-8 with a scheme and without a character that IRIREF forbids
 pub record IsIriText (iri : List ℕ) : Type 0 where
   pub utf8 : IsUtf8 iri
-  pub allowed : AllAllowed iri
+  pub absolute : IsAbsolute iri
 
--- The texts of the term are UTF-8, and its IRIs have no forbidden character. It is so for each term
+-- The texts of the term are UTF-8, and its IRIs are absolute. It is so for each term
 -- of a `Graph`, by its types.
 abbrev pub HasTexts : Term → Type 0
 HasTexts (Iri iri) = IsIriText iri
@@ -31,19 +30,19 @@ pub record TripleHasTexts (t : Triple) : Type 0 where
 abbrev pub GraphHasTexts : List Triple → Type 0
 GraphHasTexts graph = All TripleHasTexts graph
 
--- Under the base each IRI of the term is its own resolution. A label is what follows `_:` in a
--- BLANK_NODE_LABEL, and a tag is a LANGTAG without its `@`, in lower case.
-abbrev pub IsReadBack : List ℕ → Term → Type 0
-IsReadBack base (Iri iri) = IsResolved base iri iri
-IsReadBack base (Blank label) = IsTextOf blank_label label
-IsReadBack base (Literal lexical datatype) = IsResolved base datatype datatype
-IsReadBack base (Tagged lexical lang) =
+-- A label is what follows `_:` in a BLANK_NODE_LABEL, and a tag is a LANGTAG without its `@`, in
+-- lower case.
+abbrev pub IsReadBack : Term → Type 0
+IsReadBack (Iri iri) = Unit {0}
+IsReadBack (Blank label) = IsTextOf blank_label label
+IsReadBack (Literal lexical datatype) = Unit {0}
+IsReadBack (Tagged lexical lang) =
     IsTextOf lang_tag (codes "@" ++ lang) × (map to_ascii_lowercase lang ≡ lang)
 
-pub record TripleIsReadBack (base : List ℕ) (t : Triple) : Type 0 where
-  pub subject : IsReadBack base t.s
-  pub predicate : IsReadBack base t.p
-  pub object : IsReadBack base t.o
+pub record TripleIsReadBack (t : Triple) : Type 0 where
+  pub subject : IsReadBack t.s
+  pub predicate : IsReadBack t.p
+  pub object : IsReadBack t.o
 
-abbrev pub GraphIsReadBack : List ℕ → List Triple → Type 0
-GraphIsReadBack base graph = All (TripleIsReadBack base) graph
+abbrev pub GraphIsReadBack : List Triple → Type 0
+GraphIsReadBack graph = All TripleIsReadBack graph

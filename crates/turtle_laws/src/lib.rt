@@ -7,9 +7,9 @@
 //! turtle_text::read(alloc, &base, bytes.as_slice())  // the same graph, or out of memory
 //! ```
 //!
-//! Proved of `graph_text`, for every base and every graph whose terms are read back under it
-//! (`specs/ReadBack.antt`: each IRI is its own resolution, each label is one of Turtle, each tag is
-//! a LANGTAG in lower case): the text spells the graph (clause `spell`). Where the encoded triples
+//! Proved of `graph_text`, for every base and every graph whose terms are read back
+//! (`specs/ReadBack.antt`: each label is one of Turtle, each tag is a LANGTAG in lower case): the
+//! text spells the graph (clause `spell`). Where the encoded triples
 //! are at most `TRIPLES_LIMIT` bytes, the text is within the limits of a document
 //! (`within_limits`), so that `turtle_text::read` returns the graph or is out of memory (`read`).
 //! The terms of a [`Graph`] have the texts that the laws ask for by their types
@@ -28,7 +28,7 @@ ghost use Rattle.rdf_graph.specs.declared.size.TheConstants.{TRIPLES_LIMIT};
 ghost use Rattle.turtle_text.specs.Faults.{IsWithinLimits};
 ghost use Rattle.turtle_text.specs.Spells.{Spells};
 ghost use Rattle.turtle_laws.specs.Laws.{WrittenGraphsSpell, WrittenGraphsAreWithinLimits};
-ghost use Rattle.turtle_laws.specs.Laws.{WrittenGraphsAreRead};
+ghost use Rattle.turtle_laws.specs.Laws.{WrittenGraphsAreRead, SpelledGraphsAreReadBack};
 ghost use Rattle.turtle_laws.specs.ReadBack.{GraphIsReadBack};
 
 mod texts;
@@ -36,18 +36,24 @@ mod texts;
 use rdf_graph::Graph;
 use texts::graph_texts;
 
-/// The text of a graph spells the graph, for every base under which its terms are read back.
+/// The text of a graph whose terms are read back spells the graph, for every base.
 pub fn written_graphs()
     ensures spell { WrittenGraphsSpell }
     ensures within_limits { WrittenGraphsAreWithinLimits }
     ensures read { WrittenGraphsAreRead }
 {}
 
-/// The text of this graph spells it, for every base under which its terms are read back.
+/// A graph that was read of a text is read back: its labels are those of Turtle, and its tags are in
+/// lower case. So what [`written_graphs`] says holds of it, whatever the text was.
+pub fn spelled_graphs()
+    ensures { SpelledGraphsAreReadBack }
+{}
+
+/// The text of this graph spells it for every base, where its terms are read back.
 pub fn written_graph(graph: &Graph)
-    ensures spells { (base : List ℕ) → GraphIsReadBack base graph.now
+    ensures spells { (base : List ℕ) → GraphIsReadBack graph.now
         → Spells base (graph_text graph.now) graph.now }
-    ensures within_limits { (base : List ℕ) → GraphIsReadBack base graph.now
+    ensures within_limits { (base : List ℕ) → GraphIsReadBack graph.now
         → triples_size graph.now ≤ TRIPLES_LIMIT → IsWithinLimits base (graph_text graph.now) }
 {
     graph_texts(graph)

@@ -2,7 +2,7 @@
 use Rattle.std.proofs.Common.{◌≡◌, ℕ, List, Option, Some, None, Result, Ok, Err, refl, sym, ap, ◌∙◌}
 use Rattle.std.specs.FinMap as map
 use Rattle.iri_ref.specs.Characters.{AllAllowed}
-use Rattle.iri_ref.proofs.Resolving.{references_resolve_uniquely}
+use Rattle.iri_ref.proofs.Written.{one_iri as one_iri_of_reference}
 use Rattle.rdf_graph.specs.declared.term.Term.{Term}
 use Rattle.rdf_graph.specs.declared.term.Term.TheVariants.{Iri, Blank, Literal, Tagged}
 use Rattle.turtle_lex.specs.declared.token.TokenKind.{TokenKind}
@@ -26,7 +26,7 @@ bad_reference base reference BadIri h = (refl, h)
 bad_reference base reference kind h = absurd h
 
 one_reference : (base reference : List ℕ) → IsOne (IsReferenceMeaning base reference)
-one_reference base reference (Ok i) (Ok j) (x, r) (y, s) = ap Ok (references_resolve_uniquely base reference i j r s)
+one_reference base reference (Ok i) (Ok j) (x, r) (y, s) = ap Ok (one_iri_of_reference base reference i j r s)
 one_reference base reference (Ok i) (Err k) (x, r) h = absurd ((bad_reference base reference k h).1 x)
 one_reference base reference (Err k) (Ok j) h (y, s) = absurd ((bad_reference base reference k h).1 y)
 one_reference base reference (Err k) (Err l) h g = ap Err ((bad_reference base reference k h).0 ∙ sym (bad_reference base reference l g).0)

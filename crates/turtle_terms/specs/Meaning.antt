@@ -4,7 +4,7 @@ use Rattle.std.specs.Prelude.{Err}
 use Rattle.std.specs.Option.{option_map}
 use Rattle.std.specs.FinMap as map
 use Rattle.iri_ref.specs.Characters.{AllAllowed}
-use Rattle.iri_ref.specs.Resolution.{IsResolved}
+use Rattle.iri_ref.specs.Written.{IsIriOfReference}
 use Rattle.rdf_graph.specs.declared.term.Term.{Term}
 use Rattle.rdf_graph.specs.declared.term.Term.TheVariants.{Iri, Blank, Literal}
 use Rattle.turtle_lex.specs.declared.token.TokenKind.{TokenKind}
@@ -21,9 +21,10 @@ use Rattle.turtle_terms.specs.Values.{string_value, reference_value, prefix_valu
 use Rattle.turtle_terms.specs.Values.{label_value}
 use Rattle.turtle_terms.specs.Vocabulary.{word_text}
 
--- A reference means what it resolves to, or nothing where it has a forbidden character.
+-- A reference means the IRI that it stands for: itself where it has a scheme, and what it resolves
+-- to where it is relative. It means nothing where it has a forbidden character.
 abbrev pub IsReferenceMeaning : List ℕ → List ℕ → Result (List ℕ) TurtleKind → Type 0
-IsReferenceMeaning base reference (Ok iri) = AllAllowed reference × IsResolved base reference iri
+IsReferenceMeaning base reference (Ok iri) = AllAllowed reference × IsIriOfReference base reference iri
 IsReferenceMeaning base reference (Err Why.BadIri) = AllAllowed reference → ⊥
 IsReferenceMeaning base reference (Err kind) = ⊥
 

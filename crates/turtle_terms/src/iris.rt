@@ -18,7 +18,7 @@ use crate::fault::{TurtleFault, TurtleKind};
 use crate::scope::Scope;
 use crate::token_text::{iri_content, split_name, text_of};
 use crate::vocabulary::{Vocabulary, Word, word_iri};
-use iri_ref::{Iri, IriFault, resolve};
+use iri_ref::{Iri, IriFault, iri_of_reference};
 use pod_base::Mem;
 use std::alloc::Global;
 use turtle_lex::{Token, TokenKind};
@@ -36,30 +36,30 @@ fn fault_at(at: usize, fault: IriFault) -> TurtleFault
     }
 }
 
-/// The IRI that a reference resolves to.
-fn resolve_at(alloc: Global, base: &Iri, at: usize, reference: &str) -> Result<Iri, TurtleFault>
+/// The IRI that a reference stands for.
+fn iri_at(alloc: Global, base: &Iri, at: usize, reference: &str) -> Result<Iri, TurtleFault>
     ensures iri { IfOk result (λ iri. IsReferenceMeaning base.now reference.now (Ok iri)) }
     ensures fault { IfErr result (λ fault. fault ≢ NoMemory → IsFault at
         (λ kind. IsReferenceMeaning base.now reference.now (Err kind)) fault) }
 {
-    match resolve(alloc, base, reference) {
+    match iri_of_reference(alloc, base, reference) {
         Ok(iri) => Ok(iri),
         Err(fault) => Err(fault_at(at, fault)),
     }
 }
 
-/// The IRI that what stands between the brackets of an IRIREF resolves to.
-fn resolve_content(alloc: Global, base: &Iri, at: usize, content: &str) -> Result<Iri, TurtleFault>
+/// The IRI that what stands between the brackets of an IRIREF stands for.
+fn content_iri(alloc: Global, base: &Iri, at: usize, content: &str) -> Result<Iri, TurtleFault>
     requires { IsUtf8 (decoded content.now) }
     ensures iri { IfOk result (λ iri. IsReferenceMeaning base.now (decoded content.now) (Ok iri)) }
     ensures fault { IfErr result (λ fault. fault ≢ NoMemory → IsFault at
         (λ kind. IsReferenceMeaning base.now (decoded content.now) (Err kind)) fault) }
 {
     if !has_backslash(content) {
-        return resolve_at(alloc, base, at, content);
+        return iri_at(alloc, base, at, content);
     }
     let reference = decode(alloc, content)?;
-    resolve_at(alloc, base, at, reference.as_str())
+    iri_at(alloc, base, at, reference.as_str())
 }
 
 /// A text without its backslashes.
@@ -156,7 +156,7 @@ pub(crate) fn iri_of(
 {
     let text = text_of(bytes, token);
     match token.kind {
-        TokenKind::IriRef => resolve_content(alloc, base, token.from, iri_content(text)),
+        TokenKind::IriRef => content_iri(alloc, base, token.from, iri_content(text)),
         TokenKind::PnameNs => name_iri(alloc, scope, token.from, text),
         TokenKind::PnameLn => name_iri(alloc, scope, token.from, text),
         TokenKind::A => Ok(word_iri(alloc, shared, Word::RdfType)?),

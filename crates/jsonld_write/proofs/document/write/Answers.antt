@@ -21,7 +21,7 @@ returns-clause-reads_back c =
     let ts = c.as_slice-triples.result.now in
     let g = c.args.graph.now in
     let same : ts ≡ g = c.as_slice-triples.ensures.triples in
-    IfOk-weaker c.write_triples.result (IsDocumentText ts) (λ bytes. (base : List ℕ) → GraphReadsBack base g → triples_size g ≤ TRIPLES_LIMIT → IsDocumentOf base bytes g)
+    IfOk-weaker c.write_triples.result (IsDocumentText ts) (λ bytes. (base : List ℕ) → GraphReadsBack g → triples_size g ≤ TRIPLES_LIMIT → IsDocumentOf base bytes g)
     (λ bytes text base back small. subst (IsDocumentOf base bytes) same
     (is_document base ts bytes c.as_slice-triples.ensures.graph c.in_ok-len.ensures.absolute text
-    (subst (GraphReadsBack base) (sym same) back) (subst (λ (us : List Triple). triples_size us ≤ TRIPLES_LIMIT) (sym same) small))) c.write_triples.ensures
+    (subst GraphReadsBack (sym same) back) (subst (λ (us : List Triple). triples_size us ≤ TRIPLES_LIMIT) (sym same) small))) c.write_triples.ensures

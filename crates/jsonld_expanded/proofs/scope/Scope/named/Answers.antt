@@ -20,7 +20,7 @@ pub returns-in-Ok-clause-named : goal.returns-in-Ok-clause-named
 returns-in-Ok-clause-named c = record {
   no_label = c.in-None.ensures.none;
   allowed = stable _ (λ bad. absurd (let e = c.in-Ok.ensures.bad_reference.1 bad in cc));
-  resolved = c.in-Ok.ensures.resolved;
+  stands_for = c.in-Ok.ensures.iri;
 }
 
 pub returns-in-Err-clause-out : goal.returns-in-Err-clause-out
