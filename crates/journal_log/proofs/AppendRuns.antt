@@ -1,13 +1,14 @@
 -- What an image stands for at each moment of an append and of a repair.
-use Rattle.std.proofs.Common.{◌≤◌, ◌+◌, length, arith, ◌≡◌, inl, List, ℕ}
+use Rattle.std.proofs.Common.{◌≤◌, ◌+◌, ◌++◌, length, arith, ◌≡◌, inl, inr, subst, List, ℕ}
 use Rattle.pod_disk.specs.Disk.{EachImage, LeavesOnly}
 use Rattle.pod_disk.proofs.Moments.{both, weaker}
-use Rattle.journal_log.specs.Frames.{framed_of}
+use Rattle.journal_log.specs.Frames.{framed_of, opened}
 use Rattle.journal_log.specs.Gates.{IsClosed, IsOpening}
 use Rattle.journal_log.specs.Writes.{IsTornFrom}
 use Rattle.journal_log.specs.Images.{IsEither}
 use Rattle.journal_log.specs.JournalState.{JournalState}
-use Rattle.journal_log.specs.CleanJournal.{IsShort, IsJournalPrefix}
+use Rattle.journal_log.specs.CleanJournal.{IsShort, IsJournalPrefix, IsWhileAppended}
+use Rattle.journal_log.specs.Heads.{encoded_head}
 use Rattle.journal_log.proofs.GateWrites.{closed_behind, torn_opening}
 use Rattle.journal_log.proofs.WriteRuns.{torn_run}
 use Rattle.journal_log.proofs.Records.{stands_closed, stands_opening}
@@ -41,6 +42,25 @@ module _ {D : Type 0} (moment : D → ℕ) (image : D → List ℕ → Type 0) (
       (λ c closed. inl (stands_closed journal bodies prefix is c closed))
       (λ c opening. stands_opening journal bodies prefix is body c short opening)
       first second
+
+  -- The same by the bytes before that gate.
+  placed_gates_at : (c : List ℕ) → IsClosed prefix c → IsWhileAppended journal.format journal.epoch bodies body c
+  placed_gates_at c closed = inl (subst (λ (p : List ℕ). IsClosed p c) is.spells closed)
+
+  opened_gate_at : (c : List ℕ) → IsOpening prefix (framed_of body) c → IsOpening (encoded_head journal.format journal.epoch ++ opened bodies) (framed_of body) c
+  opened_gate_at c opening = subst (λ (p : List ℕ). IsOpening p (framed_of body) c) is.spells opening
+
+  pub placed_gates : (old mid : D) → LeavesOnly moment left_since old mid (IsClosed prefix) → LeavesOnly moment left_since old mid (IsWhileAppended journal.format journal.epoch bodies body)
+  placed_gates old mid first = weaker image moment left_since old mid (IsClosed prefix) _ placed_gates_at first
+
+  pub opened_gates : (old mid new : D) → LeavesOnly moment left_since old mid (IsClosed prefix) → LeavesOnly moment left_since mid new (IsOpening prefix (framed_of body))
+      → LeavesOnly moment left_since old new (IsWhileAppended journal.format journal.epoch bodies body)
+  opened_gates old mid new first second =
+      both image moment left_since old mid new (IsClosed prefix) (IsOpening prefix (framed_of body)) _ placed_gates_at (λ c opening. inr (opened_gate_at c opening)) first second
+
+  pub doubtful_gates : (old new : D) → LeavesOnly moment left_since old new (IsOpening prefix (framed_of body))
+      → LeavesOnly moment left_since old new (IsOpening (encoded_head journal.format journal.epoch ++ opened bodies) (framed_of body))
+  doubtful_gates old new run = weaker image moment left_since old new (IsOpening prefix (framed_of body)) _ opened_gate_at run
 
   -- while the gate is in doubt
   pub gate_run : (old new : D) → IsShort body → LeavesOnly moment left_since old new (IsOpening prefix (framed_of body)) → LeavesOnly moment left_since old new (IsEither journal.format journal.epoch bodies body)

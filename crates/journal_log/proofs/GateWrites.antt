@@ -42,13 +42,18 @@ one [] is = absurd (omega arith)
 one (gate ∷ []) is = (gate, refl)
 one (gate ∷ a ∷ any) is = absurd (omega arith)
 
--- a write of the gate leaves any gate before the same bytes
-pub torn_opening : (prefix framed d c : List ℕ) (at : ℕ) → length prefix ≡ at → Torn at 1 d c → IsOpening prefix framed d → IsOpening prefix framed c
-torn_opening prefix framed d c at is torn (old, gated) =
+-- a write of the gate leaves any byte before the same bytes
+pub torn_gate : (prefix framed d c : List ℕ) (at old : ℕ) → length prefix ≡ at → Torn at 1 d c → (gated : IsGated prefix old framed d) → (byte : ℕ) × (c ≡ prefix ++ (byte ∷ framed ++ gated.0))
+torn_gate prefix framed d c at old is torn gated =
     let there : Torn (length prefix) 1 (prefix ++ ((old ∷ []) ++ (framed ++ gated.0))) c = subst (λ (n : ℕ). Torn n 1 (prefix ++ ((old ∷ []) ++ (framed ++ gated.0))) c) (sym is) (subst (λ (l : List ℕ). Torn at 1 l c) gated.1 torn) in
     let inside = torn_inside prefix (old ∷ []) (framed ++ gated.0) c there in
     let gate = one inside.0 inside.1 in
-    (gate.0, (gated.0, inside.2 ∙ ap (λ (l : List ℕ). prefix ++ (l ++ (framed ++ gated.0))) gate.1))
+    (gate.0, inside.2 ∙ ap (λ (l : List ℕ). prefix ++ (l ++ (framed ++ gated.0))) gate.1)
+
+pub torn_opening : (prefix framed d c : List ℕ) (at : ℕ) → length prefix ≡ at → Torn at 1 d c → IsOpening prefix framed d → IsOpening prefix framed c
+torn_opening prefix framed d c at is torn (old, gated) =
+    let gate = torn_gate prefix framed d c at old is torn gated in
+    (gate.0, (gated.0, gate.1))
 
 -- and that gate where it is done
 pub written_gate : (prefix framed d : List ℕ) (at gate : ℕ) → length prefix ≡ at → IsOpening prefix framed d → IsGated prefix gate framed (overwritten at (gate ∷ []) d)

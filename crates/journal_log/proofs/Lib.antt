@@ -5,6 +5,7 @@ pub mod Once
 pub mod Records
 pub mod AppendRuns
 pub mod Classifying
+pub mod Mending
 -- internal
 mod Writing
 mod GateWrites

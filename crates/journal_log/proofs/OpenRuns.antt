@@ -14,7 +14,7 @@ use Rattle.journal_log.specs.CleanJournal.{IsClean}
 use Rattle.journal_log.specs.Walking.{state_at, prefix_of, IsReadToEnd, HasTornGate, IsFound}
 use Rattle.journal_log.specs.declared.head.Head.{Head}
 use Rattle.journal_log.specs.declared.walk.Found.{Found}
-use Rattle.journal_log.proofs.GateWrites.{torn_opening}
+use Rattle.journal_log.proofs.GateWrites.{torn_gate, torn_opening}
 use Rattle.journal_log.proofs.Records.{stands_closed, stands_gated, stands_opening, clean_behind}
 
 -- what follows from what holds of a value
@@ -81,6 +81,7 @@ module _ {D : Type 0} (image : D → List ℕ → Type 0) (moment : D → ℕ) (
         torn = (found.other, found.not_1);
         gated = here;
         stood = stands_gated (state_at head at) found.before (prefix_of head found.before) found.is_prefix found.last from found.gate found.short found.other here;
+        changed = torn_gate (prefix_of head found.before) (framed_of found.last) from c at found.gate found.is_prefix.ends step here;
         stands = stands_opening (state_at head at) found.before (prefix_of head found.before) found.is_prefix found.last c found.short
             (torn_opening (prefix_of head found.before) (framed_of found.last) from c at found.is_prefix.ends step (found.gate, here));
       })) torn
@@ -111,6 +112,7 @@ module _ {D : Type 0} (image : D → List ℕ → Type 0) (moment : D → ℕ) (
         torn = found.torn;
         gated = found.gated;
         stood = found.stood;
+        changed = found.changed;
         stands = found.stands;
       })) either)
       (reads_run old mid only_now only_reads) run

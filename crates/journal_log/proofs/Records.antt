@@ -31,7 +31,7 @@ frames_behind Last (body ∷ bodies) others next rest short leads =
     starts [] next rest = (next, rest, refl)
     starts (b ∷ bodies) next rest = (1, (sized b ++ opened bodies) ++ next ∷ rest, refl)
 
-opened-push : (bodies : List (List ℕ)) (body : List ℕ) → opened (bodies ++ body ∷ []) ≡ opened bodies ++ (1 ∷ sized body)
+pub opened-push : (bodies : List (List ℕ)) (body : List ℕ) → opened (bodies ++ body ∷ []) ≡ opened bodies ++ (1 ∷ sized body)
 opened-push [] body = append-nil (1 ∷ sized body)
 opened-push (b ∷ bodies) body = ap (λ (l : List ℕ). (1 ∷ sized b) ++ l) (opened-push bodies body) ∙ sym (append_assoc (1 ∷ sized b) (opened bodies) (1 ∷ sized body))
 

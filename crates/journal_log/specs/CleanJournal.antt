@@ -43,6 +43,13 @@ pub record IsInDoubt (images : List ℕ
   pub short : IsShort body
   pub doubtful : journal.doubt ≡ true
 
+-- While a record is added: these records stand before a closed gate, or before any gate that the
+-- new record follows, whole and with a closed gate after it.
+abbrev pub IsWhileAppended : ℕ → ℕ → List (List ℕ) → List ℕ → List ℕ → Type 0
+IsWhileAppended format epoch bodies body image =
+    IsClosed (encoded_head format epoch ++ opened bodies) image
+    ⊎ IsOpening (encoded_head format epoch ++ opened bodies) (framed_of body) image
+
 -- it is clean with these records, or its last gate is in doubt before this one
 abbrev pub IsCleanOrInDoubt : (List ℕ → Type 0) → JournalState → List (List ℕ) → List ℕ → Type 0
 IsCleanOrInDoubt images journal bodies body = IsClean images journal bodies

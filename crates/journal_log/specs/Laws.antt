@@ -1,6 +1,7 @@
 -- That an image is read in one way.
 use Rattle.std.specs.Prelude.{◌≡◌, ◌⊎◌, ◌<◌, ◌≤◌, ◌^◌, ℕ, List, [], ◌∷◌, length}
 use Rattle.journal_log.specs.Classes.{HasClass}
+use Rattle.journal_log.specs.Opening.{IsWhileOpened}
 use Rattle.journal_log.specs.Renewing.{IsNewJournal}
 use Rattle.journal_log.specs.declared.class.DiskClass.{DiskClass}
 use Rattle.journal_log.specs.declared.class.DiskClass.TheVariants.{Closed, Open}
@@ -28,6 +29,12 @@ OneClass = (a b : DiskClass) (image : List ℕ) → HasClass a image → HasClas
 -- and one at least
 abbrev pub HasSomeClass : Type 0
 HasSomeClass = (image : List ℕ) → (class : DiskClass) × HasClass class image
+
+-- what a crash leaves while an image is opened that one left while another was: a crash while that
+-- other one was opened may leave it
+abbrev pub OpenedAgain : Type 0
+OpenedAgain = (first next last : List ℕ) → IsWhileOpened (λ image. image ≡ first) next
+    → IsWhileOpened (λ image. image ≡ next) last → IsWhileOpened (λ image. image ≡ first) last
 
 -- A new head and the new record after any first gate: the disk is closed, or open with that epoch,
 -- and stands for that record alone.

@@ -1,13 +1,13 @@
 -- What a crash leaves while a journal is opened.
-use Rattle.std.specs.Prelude.{◌≢◌, ◌⊎◌, ℕ, List, [], ◌∷◌, ◌++◌}
+use Rattle.std.specs.Prelude.{◌≡◌, ◌≢◌, ◌⊎◌, ℕ, List, [], ◌∷◌, ◌++◌}
 use Rattle.journal_log.specs.Frames.{framed_of, opened}
 use Rattle.journal_log.specs.Heads.{encoded_head}
 use Rattle.journal_log.specs.Gates.{IsGated}
 use Rattle.journal_log.specs.Images.{Stands, IsEither}
 
 -- One of these crash images stands for some records and one more, whose gate is torn: neither 0 nor
--- 1. This image stands for the same, with that record or without: the torn gate is being written.
--- No other gate is.
+-- 1. This image has the same bytes with any byte at that gate, which is being written, and stands
+-- for the same records, with that one or without.
 pub record IsNormalizing (images : List ℕ → Type 0) (image : List ℕ) : Type 0 where
   pub from : List ℕ
   pub was : images from
@@ -19,6 +19,8 @@ pub record IsNormalizing (images : List ℕ → Type 0) (image : List ℕ) : Typ
   pub torn : (gate ≢ 0) × (gate ≢ 1)
   pub gated : IsGated (encoded_head format epoch ++ opened bodies) gate (framed_of body) from
   pub stood : Stands format epoch (bodies ++ body ∷ []) from
+  pub changed : (byte : ℕ) × (image
+      ≡ (encoded_head format epoch ++ opened bodies) ++ (byte ∷ framed_of body ++ gated.0))
   pub stands : IsEither format epoch bodies body image
 
 -- it is one of these images, or one whose last gate is being written

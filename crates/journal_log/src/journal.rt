@@ -4,10 +4,13 @@ ghost use Rattle.std.specs.Prelude.{◌≡◌, ◌≢◌, ◌⊎◌, ◌+◌, �
 ghost use Rattle.std.specs.Prelude.{length, OnOk, OnErr, true, false};
 ghost use Rattle.pod_io.specs.Counts.{CountsFaults};
 ghost use Rattle.pod_disk.specs.Disk.{LeavesOnly};
-ghost use Rattle.journal_log.specs.Heads.{IsKnownHead};
+ghost use Rattle.journal_log.specs.Heads.{encoded_head, IsKnownHead};
 ghost use Rattle.journal_log.specs.Walking.{state_at};
 ghost use Rattle.journal_log.specs.Images.{IsEither};
 ghost use Rattle.journal_log.specs.CleanJournal.{IsClean, IsInDoubt, IsCleanOrInDoubt};
+ghost use Rattle.journal_log.specs.CleanJournal.{IsWhileAppended};
+ghost use Rattle.journal_log.specs.Frames.{framed_of, opened};
+ghost use Rattle.journal_log.specs.Gates.{IsOpening};
 
 use crate::fault::DiskFault;
 use crate::framed::Framed;
@@ -101,6 +104,9 @@ impl Journal {
         ensures moments { (bodies : List (List ℕ)) → IsClean (D.image disk.old) self.old bodies
             → LeavesOnly D.moment D.left_since disk.old disk.new
             (IsEither self.old.format self.old.epoch bodies framed.now) }
+        ensures gates { (bodies : List (List ℕ)) → IsClean (D.image disk.old) self.old bodies
+            → LeavesOnly D.moment D.left_since disk.old disk.new
+            (IsWhileAppended self.old.format self.old.epoch bodies framed.now) }
         ensures kept { (self.new.format ≡ self.old.format) × (self.new.epoch ≡ self.old.epoch) }
         ensures appended { OnOk result ((bodies : List (List ℕ))
             → IsClean (D.image disk.old) self.old bodies
@@ -128,6 +134,11 @@ impl Journal {
             → IsInDoubt (D.image disk.old) self.old bodies body
             → LeavesOnly D.moment D.left_since disk.old disk.new
             (IsEither self.old.format self.old.epoch bodies body) }
+        ensures gates { (bodies : List (List ℕ)) (body : List ℕ)
+            → IsInDoubt (D.image disk.old) self.old bodies body
+            → LeavesOnly D.moment D.left_since disk.old disk.new
+            (IsOpening (encoded_head self.old.format self.old.epoch ++ opened bodies)
+            (framed_of body)) }
         ensures kept { (self.new.format ≡ self.old.format) × (self.new.epoch ≡ self.old.epoch) }
         ensures repaired { OnOk result ((bodies : List (List ℕ)) (body : List ℕ)
             → IsInDoubt (D.image disk.old) self.old bodies body

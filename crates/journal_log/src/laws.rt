@@ -5,7 +5,7 @@ ghost use Rattle.pod_disk.specs.Disk.{EachImage};
 ghost use Rattle.journal_log.specs.Images.{Stands, IsEither};
 ghost use Rattle.journal_log.specs.CleanJournal.{IsClean, IsInDoubt};
 ghost use Rattle.journal_log.specs.Laws.{StandsOnce, DamagedOnce, StandsOrDamaged, OneClass};
-ghost use Rattle.journal_log.specs.Laws.{HasSomeClass, NewIsClosedOrOpen};
+ghost use Rattle.journal_log.specs.Laws.{HasSomeClass, NewIsClosedOrOpen, OpenedAgain};
 
 use crate::journal::Journal;
 use pod_disk::Disk;
@@ -39,6 +39,12 @@ pub fn some_class()
 /// and that record alone.
 pub fn new_is_closed_or_open()
     ensures { NewIsClosedOrOpen }
+{}
+
+/// An image that a crash left while a journal was opened is opened again: whatever a crash leaves
+/// then, one might have left the first time.
+pub fn opened_again()
+    ensures { OpenedAgain }
 {}
 
 impl Journal {

@@ -26,5 +26,6 @@ pub use framed::{Framed, frame};
 pub use head::EPOCH_LIMIT;
 pub use journal::Journal;
 pub use laws::{
-    damaged_once, new_is_closed_or_open, one_class, some_class, stands_once, stands_or_damaged,
+    damaged_once, new_is_closed_or_open, one_class, opened_again, some_class, stands_once,
+    stands_or_damaged,
 };

@@ -30,9 +30,9 @@ impl Journal {
     /// written. `Empty` comes where the disk holds nothing, `Damaged` at 0 where it holds no right
     /// head, and else at the first gate whose frame isn't whole, with the side that is handed in.
     ///
-    /// At each moment every crash image of the disk is one from before the call, or stands for the
-    /// records of one from before, with the last or without. At `Ok` the journal is clean with the
-    /// records that were read.
+    /// At each moment every crash image of the disk is one from before the call, or one from before
+    /// with any byte at its torn gate, and stands for the same records, with the last or without.
+    /// At `Ok` the journal is clean with the records that were read.
     pub fn open<D: Disk>(
         alloc: Global,
         disk: &mut D,

@@ -6,5 +6,6 @@ pub mod PairRuns
 pub mod Pairing
 pub mod Checkpointing
 pub mod Repairing
+pub mod Reopening
 -- internal
 mod PairOpening

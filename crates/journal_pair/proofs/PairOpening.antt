@@ -127,6 +127,7 @@ module _ {D : Type 0} (image : D → List ℕ → Type 0) (moment : D → ℕ) (
         torn = found.torn;
         gated = found.gated;
         stood = found.stood;
+        changed = found.changed;
         stands = found.stands;
       })) either) first second
 

@@ -1,5 +1,5 @@
 -- What a crash at any moment leaves of two disks.
-use Rattle.std.specs.Prelude.{◌⊎◌, ◌+◌, ◌≤◌, ℕ, List, length}
+use Rattle.std.specs.Prelude.{◌≡◌, ◌⊎◌, ◌+◌, ◌≤◌, ℕ, List, length}
 use Rattle.journal_log.specs.Opening.{IsWhileOpened}
 use Rattle.journal_log.specs.Renewing.{IsNewJournal}
 use Rattle.journal_log.specs.declared.fault.Side.{Side}
@@ -31,3 +31,14 @@ abbrev pub IsWhileStoreOpened : {D : Type 0} → (D → List ℕ → Type 0) →
 IsWhileStoreOpened image first second c d = (side : Side)
     × IsWhileOpened (image (active_of side first second)) (active_of side c d)
     × image (other_of side first second) (other_of side c d)
+
+-- The image has P, and so has whatever a crash leaves of it while its journal is opened. Openings
+-- that are cut short one after the other leave no more than one of them (`opened_again`).
+abbrev pub ThroughMending : (List ℕ → Type 0) → List ℕ → Type 0
+ThroughMending P image = (c : List ℕ) → IsWhileOpened (λ from. from ≡ image) c → P c
+
+-- Two images have P, and so have those that crashes leave of them while they are opened, however
+-- often.
+abbrev pub ThroughOpenings : (List ℕ → List ℕ → Type 0) → List ℕ → List ℕ → Type 0
+ThroughOpenings P first second = (c d : List ℕ) → IsWhileOpened (λ from. from ≡ first) c
+    → IsWhileOpened (λ from. from ≡ second) d → P c d

@@ -4,9 +4,12 @@ ghost use Rattle.std.specs.Prelude.{◌≡◌, ◌≤◌, ◌<◌, ◌+◌, ◌^
 ghost use Rattle.std.specs.Prelude.{OnOk, OnErr, IsErrOf};
 ghost use Rattle.pod_io.specs.Visible.{IfVisible};
 ghost use Rattle.pod_disk.specs.Disk.{EachImage, LeavesOnly};
-ghost use Rattle.journal_log.specs.Gates.{IsFirstGateClosed};
+ghost use Rattle.journal_log.specs.Frames.{framed_of, opened};
+ghost use Rattle.journal_log.specs.Gates.{IsFirstGateClosed, IsOpening};
+ghost use Rattle.journal_log.specs.Heads.{encoded_head};
 ghost use Rattle.journal_log.specs.Images.{IsEither};
 ghost use Rattle.journal_log.specs.CleanJournal.{IsClean, IsInDoubt, IsCleanOrInDoubt};
+ghost use Rattle.journal_log.specs.CleanJournal.{IsWhileAppended};
 ghost use Rattle.journal_log.specs.Renewing.{IsBeforeOpening, IsNewJournal, IsWhileRenewed};
 ghost use Rattle.journal_pair.specs.Sides.{active_of, other_of, opposite_of};
 ghost use Rattle.journal_pair.specs.Causes.{PairCounts};
@@ -39,6 +42,11 @@ pub fn append_on<D: Disk>(
         → LeavesOnly D.moment D.left_since
         (active_of side first.old second.old) (active_of side first.new second.new)
         (IsEither journal.old.format journal.old.epoch bodies framed.now) }
+    ensures gates { (bodies : List (List ℕ))
+        → IsClean (D.image (active_of side first.old second.old)) journal.old bodies
+        → LeavesOnly D.moment D.left_since
+        (active_of side first.old second.old) (active_of side first.new second.new)
+        (IsWhileAppended journal.old.format journal.old.epoch bodies framed.now) }
     ensures other { other_of side first.new second.new ≡ other_of side first.old second.old }
     ensures kept { (journal.new.format ≡ journal.old.format)
         × (journal.new.epoch ≡ journal.old.epoch) }
@@ -73,6 +81,12 @@ pub fn repair_on<D: Disk>(
         → LeavesOnly D.moment D.left_since
         (active_of side first.old second.old) (active_of side first.new second.new)
         (IsEither journal.old.format journal.old.epoch bodies body) }
+    ensures gates { (bodies : List (List ℕ)) (body : List ℕ)
+        → IsInDoubt (D.image (active_of side first.old second.old)) journal.old bodies body
+        → LeavesOnly D.moment D.left_since
+        (active_of side first.old second.old) (active_of side first.new second.new)
+        (IsOpening (encoded_head journal.old.format journal.old.epoch ++ opened bodies)
+        (framed_of body)) }
     ensures other { other_of side first.new second.new ≡ other_of side first.old second.old }
     ensures kept { (journal.new.format ≡ journal.old.format)
         × (journal.new.epoch ≡ journal.old.epoch) }

@@ -4,7 +4,10 @@ ghost use Rattle.std.specs.Prelude.{◌≡◌, ◌⊎◌, ◌+◌, ◌≤◌, �
 ghost use Rattle.std.specs.Prelude.{IfOk, OnOk, OnErr, IsTrue, true, false};
 ghost use Rattle.pod_io.specs.Visible.{IfVisible};
 ghost use Rattle.pod_disk.specs.Disk.{EachImage, LeavesOnly};
-ghost use Rattle.journal_log.specs.Heads.{IsClosedHead};
+ghost use Rattle.journal_log.specs.CleanJournal.{IsWhileAppended};
+ghost use Rattle.journal_log.specs.Frames.{framed_of, opened};
+ghost use Rattle.journal_log.specs.Gates.{IsOpening};
+ghost use Rattle.journal_log.specs.Heads.{encoded_head, IsClosedHead};
 ghost use Rattle.journal_log.specs.Images.{IsEither};
 ghost use Rattle.journal_log.specs.Renewing.{IsNewJournal};
 ghost use Rattle.journal_pair.specs.Sides.{active_of, other_of};
@@ -160,6 +163,12 @@ impl Pair {
             (active_of self.old.active first.old second.old)
             (active_of self.old.active first.new second.new)
             (IsEither self.old.journal.format self.old.journal.epoch bodies framed.now) }
+        ensures gates { (bodies : List (List ℕ))
+            → IsPairClean D.image first.old second.old self.old bodies
+            → LeavesOnly D.moment D.left_since
+            (active_of self.old.active first.old second.old)
+            (active_of self.old.active first.new second.new)
+            (IsWhileAppended self.old.journal.format self.old.journal.epoch bodies framed.now) }
         ensures pairs { (bodies : List (List ℕ))
             → IsPairClean D.image first.old second.old self.old bodies
             → IsPassedBeside D.image first.old second.old self.old
@@ -201,6 +210,13 @@ impl Pair {
             (active_of self.old.active first.old second.old)
             (active_of self.old.active first.new second.new)
             (IsEither self.old.journal.format self.old.journal.epoch bodies body) }
+        ensures append_gates { (bodies : List (List ℕ)) (body : List ℕ)
+            → IsAppendInDoubt D.image first.old second.old self.old bodies body
+            → LeavesOnly D.moment D.left_since
+            (active_of self.old.active first.old second.old)
+            (active_of self.old.active first.new second.new)
+            (IsOpening (encoded_head self.old.journal.format self.old.journal.epoch
+            ++ opened bodies) (framed_of body)) }
         ensures checkpoint_moments { (bodies : List (List ℕ)) (body : List ℕ)
             → IsCheckpointInDoubt D.image first.old second.old self.old bodies body
             → LeavesOnly D.moment D.left_since

@@ -4,13 +4,16 @@ use Rattle.std.proofs.lemmas.List.Elements.{Contains-append_left, Contains-push}
 use Rattle.std.proofs.lemmas.Result.{on_ok_weaker, on_err_weaker}
 use Rattle.pod_disk.specs.Disk.{LeavesOnly}
 use Rattle.pod_disk.proofs.Moments.{weaker, joined, holds_now}
+use Rattle.journal_log.specs.CleanJournal.{IsShort, IsWhileAppended}
 use Rattle.journal_log.specs.Images.{IsEither}
 use Rattle.journal_log.specs.declared.fault.Side.{Side}
 use Rattle.journal_pair.specs.PairJournal.{HasSnapshot, IsPairClean, IsAppendInDoubt, IsPassedBeside, IsLongBeside}
+use Rattle.journal_pair.specs.PairMoments.{ThroughMending}
 use Rattle.journal_pair.specs.PairState.{PairState}
 use Rattle.journal_pair.specs.Sides.{active_of, other_of, opposite_of}
 use Rattle.journal_pair.proofs.Beside.{stands_open, opposite_active, opposite_other}
 use Rattle.journal_pair.proofs.PairRuns.{kept_run}
+use Rattle.journal_pair.proofs.Reopening.{appended_through, openings_of, through_weaker}
 use Rattle.pair_writes.specs.Doubts.{RecordDoubt, certain, entered, checkpointed, HasRecords, tails_in, news_in}
 use Rattle.pair_writes.specs.Writes.{records_before, alone, with_record, tail_of, Moves, IsActiveImage, IsOtherImage, Runs, Readies, Writes, IsLeftByWrite}
 use Rattle.pair_writes.proofs.Renewals.{more_news, other_news}
@@ -52,10 +55,10 @@ module _ {D : Type 0} (image : D → List ℕ → Type 0) (moment : D → ℕ) (
         let tails = tails_in doubt ++ tail_of snapshot body in
         let news = news_in doubt ++ (alone snapshot ++ with_record snapshot body) in
         together_of image moment left_since old.active first second first_mid second_mid
-        (IsActiveImage old.journal.format old.journal.epoch bodies tails) (IsOtherImage old.active old.journal.epoch news) _
-        (written_pair old.active old.journal.format old.journal.epoch old.snapshot bodies tails news (snapshot_in image first second old bodies doubt was))
-        (weaker image moment left_since _ _ _ _ (more_tails old.journal.format old.journal.epoch bodies (tails_in doubt) (tail_of snapshot body)) run.active)
-        (weaker image moment left_since _ _ _ _ (λ d is. subst (λ l. IsOtherImage old.active old.journal.epoch l d) (append_assoc (news_in doubt) (alone snapshot) (with_record snapshot body)) (more_news old.active old.journal.epoch (news_in doubt ++ alone snapshot) (with_record snapshot body) d is)) run.other);
+        (ThroughMending (IsActiveImage old.journal.format old.journal.epoch bodies tails)) (ThroughMending (IsOtherImage old.active old.journal.epoch news)) _
+        (openings_of old.active _ _ _ (written_pair old.active old.journal.format old.journal.epoch old.snapshot bodies tails news (snapshot_in image first second old bodies doubt was)))
+        (weaker image moment left_since _ _ _ _ (through_weaker _ _ (more_tails old.journal.format old.journal.epoch bodies (tails_in doubt) (tail_of snapshot body))) run.active)
+        (weaker image moment left_since _ _ _ _ (through_weaker _ _ (λ d is. subst (λ l. IsOtherImage old.active old.journal.epoch l d) (append_assoc (news_in doubt) (alone snapshot) (with_record snapshot body)) (more_news old.active old.journal.epoch (news_in doubt ++ alone snapshot) (with_record snapshot body) d is))) run.other);
     sure = h.sure;
     long = h.long;
   }
@@ -63,7 +66,7 @@ module _ {D : Type 0} (image : D → List ℕ → Type 0) (moment : D → ℕ) (
   module _ (first_new second_new : D) (new : PairState) {T E : Type 0} (result : Result T E) where
     -- what `Pair::append` promises
     pub record Appended : Type 0 where
-      pub moments : (bodies : List (List ℕ)) → IsPairClean image first_mid second_mid mid bodies → LeavesOnly moment left_since (active_of mid.active first_mid second_mid) (active_of mid.active first_new second_new) (IsEither mid.journal.format mid.journal.epoch bodies body)
+      pub moments : (bodies : List (List ℕ)) → IsPairClean image first_mid second_mid mid bodies → LeavesOnly moment left_since (active_of mid.active first_mid second_mid) (active_of mid.active first_new second_new) (ThroughMending (IsEither mid.journal.format mid.journal.epoch bodies body))
       pub other : other_of mid.active first_new second_new ≡ other_of mid.active first_mid second_mid
       pub active : new.active ≡ mid.active
       pub format : new.journal.format ≡ mid.journal.format
@@ -72,6 +75,13 @@ module _ {D : Type 0} (image : D → List ℕ → Type 0) (moment : D → ℕ) (
       pub fault : OnErr result ((bodies : List (List ℕ)) → IsPairClean image first_mid second_mid mid bodies → IsPairClean image first_new second_new new bodies ⊎ IsAppendInDoubt image first_new second_new new bodies body)
       pub passed : IsPassedBeside image first_mid second_mid mid → IsPassedBeside image first_new second_new new
       pub long : IsLongBeside image first_mid second_mid mid → IsLongBeside image first_new second_new new
+
+  -- what it leaves at each moment, by the gates
+  pub appends_through : (first_new second_new : D) → IsShort body
+      → ((bodies : List (List ℕ)) → IsPairClean image first_mid second_mid mid bodies → LeavesOnly moment left_since (active_of mid.active first_mid second_mid) (active_of mid.active first_new second_new) (IsWhileAppended mid.journal.format mid.journal.epoch bodies body))
+      → (bodies : List (List ℕ)) → IsPairClean image first_mid second_mid mid bodies → LeavesOnly moment left_since (active_of mid.active first_mid second_mid) (active_of mid.active first_new second_new) (ThroughMending (IsEither mid.journal.format mid.journal.epoch bodies body))
+  appends_through first_new second_new short gates bodies clean =
+      weaker image moment left_since _ _ _ _ (λ c is. appended_through mid.journal bodies clean.journal.prefix clean.journal.is_prefix body c short is) (gates bodies clean)
 
   moves_on : (s : Option (List ℕ)) (new : PairState) → Moves s old mid → new.active ≡ mid.active → new.journal.format ≡ mid.journal.format → new.journal.epoch ≡ mid.journal.epoch → Moves s old new
   moves_on None new m a f e = (a ∙ m.0, f ∙ m.1, e ∙ m.2)
@@ -96,29 +106,29 @@ module _ {D : Type 0} (image : D → List ℕ → Type 0) (moment : D → ℕ) (
           → Runs image moment left_since first second first_new second_new old new bodies (tails_in doubt ++ tail_of s body) (news_in doubt ++ (alone s ++ with_record s body))
       run None bodies doubt moved clean before =
           let kept = subst (λ s. other_of s first_new second_new ≡ other_of s first_mid second_mid) moved.0 h.other in
-          let during = subst (λ s. LeavesOnly moment left_since (active_of s first_mid second_mid) (active_of s first_new second_new) (IsEither mid.journal.format mid.journal.epoch bodies body)) moved.0 (h.moments bodies clean) in
-          let in_format = subst (λ f. LeavesOnly moment left_since (active_of old.active first_mid second_mid) (active_of old.active first_new second_new) (IsEither f mid.journal.epoch bodies body)) moved.1 during in
-          let in_epoch = subst (λ e. LeavesOnly moment left_since (active_of old.active first_mid second_mid) (active_of old.active first_new second_new) (IsEither old.journal.format e bodies body)) moved.2 in_format in record {
+          let during = subst (λ s. LeavesOnly moment left_since (active_of s first_mid second_mid) (active_of s first_new second_new) (ThroughMending (IsEither mid.journal.format mid.journal.epoch bodies body))) moved.0 (h.moments bodies clean) in
+          let in_format = subst (λ f. LeavesOnly moment left_since (active_of old.active first_mid second_mid) (active_of old.active first_new second_new) (ThroughMending (IsEither f mid.journal.epoch bodies body))) moved.1 during in
+          let in_epoch = subst (λ e. LeavesOnly moment left_since (active_of old.active first_mid second_mid) (active_of old.active first_new second_new) (ThroughMending (IsEither old.journal.format e bodies body))) moved.2 in_format in record {
             active = joined image moment left_since _ _ _ _
-                (weaker image moment left_since _ _ _ _ (more_tails old.journal.format old.journal.epoch bodies (tails_in doubt) (body ∷ [])) before.active)
-                (weaker image moment left_since _ _ _ _ (of_append old.journal.format old.journal.epoch bodies (tails_in doubt) body) in_epoch);
+                (weaker image moment left_since _ _ _ _ (through_weaker _ _ (more_tails old.journal.format old.journal.epoch bodies (tails_in doubt) (body ∷ []))) before.active)
+                (weaker image moment left_since _ _ _ _ (through_weaker _ _ (of_append old.journal.format old.journal.epoch bodies (tails_in doubt) body)) in_epoch);
             other = joined image moment left_since _ _ _ _ before.other
                 (kept_run image moment left_since _ _ _ (only_now _) kept (holds_now image moment left_since _ _ _ (counts_now _) before.other));
           }
       run (Some s) bodies doubt moved clean before =
           let kept = subst (λ x. other_of x first_new second_new ≡ other_of x first_mid second_mid) moved.0 h.other in
-          let during = subst (λ x. LeavesOnly moment left_since (active_of x first_mid second_mid) (active_of x first_new second_new) (IsEither mid.journal.format mid.journal.epoch (s ∷ []) body)) moved.0 (h.moments (s ∷ []) clean) in
-          let in_format = subst (λ f. LeavesOnly moment left_since (active_of (opposite_of old.active) first_mid second_mid) (active_of (opposite_of old.active) first_new second_new) (IsEither f mid.journal.epoch (s ∷ []) body)) moved.1 during in
-          let in_epoch = subst (λ e. LeavesOnly moment left_since (active_of (opposite_of old.active) first_mid second_mid) (active_of (opposite_of old.active) first_new second_new) (IsEither 2 e (s ∷ []) body)) moved.2 in_format in
-          let on_first = subst (λ x. LeavesOnly moment left_since x (active_of (opposite_of old.active) first_new second_new) (IsEither 2 (old.journal.epoch + 1) (s ∷ []) body)) (sym (opposite_active old.active first_mid second_mid)) in_epoch in
-          let on_other = subst (λ x. LeavesOnly moment left_since (other_of old.active first_mid second_mid) x (IsEither 2 (old.journal.epoch + 1) (s ∷ []) body)) (sym (opposite_active old.active first_new second_new)) on_first in
+          let during = subst (λ x. LeavesOnly moment left_since (active_of x first_mid second_mid) (active_of x first_new second_new) (ThroughMending (IsEither mid.journal.format mid.journal.epoch (s ∷ []) body))) moved.0 (h.moments (s ∷ []) clean) in
+          let in_format = subst (λ f. LeavesOnly moment left_since (active_of (opposite_of old.active) first_mid second_mid) (active_of (opposite_of old.active) first_new second_new) (ThroughMending (IsEither f mid.journal.epoch (s ∷ []) body))) moved.1 during in
+          let in_epoch = subst (λ e. LeavesOnly moment left_since (active_of (opposite_of old.active) first_mid second_mid) (active_of (opposite_of old.active) first_new second_new) (ThroughMending (IsEither 2 e (s ∷ []) body))) moved.2 in_format in
+          let on_first = subst (λ x. LeavesOnly moment left_since x (active_of (opposite_of old.active) first_new second_new) (ThroughMending (IsEither 2 (old.journal.epoch + 1) (s ∷ []) body))) (sym (opposite_active old.active first_mid second_mid)) in_epoch in
+          let on_other = subst (λ x. LeavesOnly moment left_since (other_of old.active first_mid second_mid) x (ThroughMending (IsEither 2 (old.journal.epoch + 1) (s ∷ []) body))) (sym (opposite_active old.active first_new second_new)) on_first in
           let still = opposite_other old.active first_new second_new ∙ (kept ∙ sym (opposite_other old.active first_mid second_mid)) in record {
             active = joined image moment left_since _ _ _ _
-                (weaker image moment left_since _ _ _ _ (more_tails old.journal.format old.journal.epoch bodies (tails_in doubt) []) before.active)
-                (kept_run image moment left_since _ _ _ (only_now _) still (λ c here. more_tails old.journal.format old.journal.epoch bodies (tails_in doubt) [] c (holds_now image moment left_since _ _ _ (counts_now _) before.active c here)));
+                (weaker image moment left_since _ _ _ _ (through_weaker _ _ (more_tails old.journal.format old.journal.epoch bodies (tails_in doubt) [])) before.active)
+                (kept_run image moment left_since _ _ _ (only_now _) still (λ c here. through_weaker _ _ (more_tails old.journal.format old.journal.epoch bodies (tails_in doubt) []) c (holds_now image moment left_since _ _ _ (counts_now _) before.active c here)));
             other = joined image moment left_since _ _ _ _
-                (weaker image moment left_since _ _ _ _ (λ d is. subst (λ l. IsOtherImage old.active old.journal.epoch l d) (append_assoc (news_in doubt) ((s ∷ []) ∷ []) ((s ∷ body ∷ []) ∷ [])) (more_news old.active old.journal.epoch (news_in doubt ++ (s ∷ []) ∷ []) ((s ∷ body ∷ []) ∷ []) d is)) before.other)
-                (weaker image moment left_since _ _ _ _ (λ d is. other_news old.active old.journal.epoch (news_in doubt) ((s ∷ []) ∷ (s ∷ body ∷ []) ∷ []) d (of_new_append old.active old.journal.epoch s body d is)) on_other);
+                (weaker image moment left_since _ _ _ _ (through_weaker _ _ (λ d is. subst (λ l. IsOtherImage old.active old.journal.epoch l d) (append_assoc (news_in doubt) ((s ∷ []) ∷ []) ((s ∷ body ∷ []) ∷ [])) (more_news old.active old.journal.epoch (news_in doubt ++ (s ∷ []) ∷ []) ((s ∷ body ∷ []) ∷ []) d is))) before.other)
+                (weaker image moment left_since _ _ _ _ (through_weaker _ _ (λ d is. other_news old.active old.journal.epoch (news_in doubt) ((s ∷ []) ∷ (s ∷ body ∷ []) ∷ []) d (of_new_append old.active old.journal.epoch s body d is))) on_other);
           }
 
       pub written : Writes image moment left_since first second first_new second_new old new result snapshot body
@@ -132,8 +142,8 @@ module _ {D : Type 0} (image : D → List ℕ → Type 0) (moment : D → ℕ) (
             let tails = tails_in doubt ++ tail_of snapshot body in
             let news = news_in doubt ++ (alone snapshot ++ with_record snapshot body) in
             together_of image moment left_since old.active first second first_new second_new
-            (IsActiveImage old.journal.format old.journal.epoch bodies tails) (IsOtherImage old.active old.journal.epoch news) _
-            (written_pair old.active old.journal.format old.journal.epoch old.snapshot bodies tails news (snapshot_in image first second old bodies doubt was))
+            (ThroughMending (IsActiveImage old.journal.format old.journal.epoch bodies tails)) (ThroughMending (IsOtherImage old.active old.journal.epoch news)) _
+            (openings_of old.active _ _ _ (written_pair old.active old.journal.format old.journal.epoch old.snapshot bodies tails news (snapshot_in image first second old bodies doubt was)))
             runs.active runs.other;
         sure = λ sure long off. h.passed (ready.sure sure long mid_off);
         long = λ sure long off. h.long (ready.long sure long mid_off);

@@ -11,13 +11,14 @@ use Rattle.journal_log.specs.JournalState.{JournalState}
 use Rattle.journal_log.specs.declared.fault.Side.{Side}
 use Rattle.journal_pair.specs.Checkpointed.{IsCheckpointed}
 use Rattle.journal_pair.specs.PairJournal.{IsPairClean, IsCheckpointInDoubt, IsPassedBeside, IsLongBeside}
-use Rattle.journal_pair.specs.PairMoments.{IsWhileCheckpointed}
+use Rattle.journal_pair.specs.PairMoments.{IsWhileCheckpointed, ThroughMending}
 use Rattle.journal_pair.specs.PairState.{PairState}
 use Rattle.journal_pair.specs.Sides.{active_of, other_of, opposite_of}
 use Rattle.journal_pair.proofs.PairRuns.{kept_run}
+use Rattle.journal_pair.proofs.Reopening.{through_weaker}
 use Rattle.pair_writes.specs.Doubts.{RecordDoubt, certain, checkpointed, HasRecords, IsSure, IsLong, tails_in, news_in}
 use Rattle.pair_writes.specs.Writes.{IsOtherImage, Runs, Readies, Moves}
-use Rattle.pair_writes.proofs.Repairs.{of_new}
+use Rattle.pair_writes.proofs.Repairs.{of_new, of_passed}
 
 -- more lists of records may be new
 pub more_news : (side : Side) (epoch : ℕ) (news more : List (List (List ℕ))) (d : List ℕ) → IsOtherImage side epoch news d → IsOtherImage side epoch (news ++ more) d
@@ -28,8 +29,8 @@ pub other_news : (side : Side) (epoch : ℕ) (news more : List (List (List ℕ))
 other_news side epoch news more d (inl passed) = inl passed
 other_news side epoch news more d (inr (new, is, is_open, stands)) = inr (new, Contains-append_right news more new is, is_open, stands)
 
-of_while : (side : Side) (epoch : ℕ) (snapshot d : List ℕ) → epoch < 2 ^ 63 → IsShort snapshot → IsWhileCheckpointed side epoch snapshot d → IsOtherImage side epoch ((snapshot ∷ []) ∷ []) d
-of_while side epoch snapshot d most short (inl passed) = inl passed.0
+of_while : (side : Side) (epoch : ℕ) (snapshot d : List ℕ) → epoch < 2 ^ 63 → IsShort snapshot → IsWhileCheckpointed side epoch snapshot d → ThroughMending (IsOtherImage side epoch ((snapshot ∷ []) ∷ [])) d
+of_while side epoch snapshot d most short (inl passed) = of_passed side epoch ((snapshot ∷ []) ∷ []) d passed.0
 of_while side epoch snapshot d most short (inr new) = of_new side epoch snapshot d most short new
 
 module _ {D : Type 0} (image : D → List ℕ → Type 0) (moment : D → ℕ) (left_since : D → ℕ → List ℕ → Type 0)
@@ -46,7 +47,7 @@ module _ {D : Type 0} (image : D → List ℕ → Type 0) (moment : D → ℕ) (
     stayed = h.stayed;
     runs = λ bodies doubt was sure long. let run = h.runs bodies doubt was sure (λ none. absurd (false≢true none)) in record {
       active = run.active;
-      other = weaker image moment left_since _ _ _ _ (λ d is. more_news old.active old.journal.epoch (news_in doubt) ((snapshot ∷ []) ∷ []) d (subst (λ l. IsOtherImage old.active old.journal.epoch l d) (append-nil (news_in doubt)) is)) run.other;
+      other = weaker image moment left_since _ _ _ _ (through_weaker _ _ (λ d is. more_news old.active old.journal.epoch (news_in doubt) ((snapshot ∷ []) ∷ []) d (subst (λ l. IsOtherImage old.active old.journal.epoch l d) (append-nil (news_in doubt)) is))) run.other;
     };
     sure = λ sure long. h.sure sure (λ none. absurd (false≢true none));
     long = h.long;
@@ -117,6 +118,6 @@ module _ {D : Type 0} (image : D → List ℕ → Type 0) (moment : D → ℕ) (
               active = joined image moment left_since _ _ _ _ before.active
                   (kept_run image moment left_since _ _ _ (only_now _) kept (holds_now image moment left_since _ _ _ (counts_now _) before.active));
               other = joined image moment left_since _ _ _ _
-                  (weaker image moment left_since _ _ _ _ (λ d is. more_news old.active old.journal.epoch (news_in doubt) ((snapshot ∷ []) ∷ []) d (subst (λ l. IsOtherImage old.active old.journal.epoch l d) (append-nil (news_in doubt)) is)) before.other)
-                  (weaker image moment left_since _ _ _ _ (λ d is. other_news old.active old.journal.epoch (news_in doubt) ((snapshot ∷ []) ∷ []) d (of_while old.active old.journal.epoch snapshot d most short is)) of_epoch);
+                  (weaker image moment left_since _ _ _ _ (through_weaker _ _ (λ d is. more_news old.active old.journal.epoch (news_in doubt) ((snapshot ∷ []) ∷ []) d (subst (λ l. IsOtherImage old.active old.journal.epoch l d) (append-nil (news_in doubt)) is))) before.other)
+                  (weaker image moment left_since _ _ _ _ (λ d is. through_weaker _ _ (other_news old.active old.journal.epoch (news_in doubt) ((snapshot ∷ []) ∷ [])) d (of_while old.active old.journal.epoch snapshot d most short is)) of_epoch);
             }

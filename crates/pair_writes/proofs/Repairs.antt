@@ -4,17 +4,21 @@ use Rattle.std.proofs.lemmas.Bool.{true≢false, false≢true}
 use Rattle.std.proofs.lemmas.Result.{on_ok_weaker, on_err_weaker}
 use Rattle.pod_disk.specs.Disk.{EachImage, LeavesOnly}
 use Rattle.pod_disk.proofs.Moments.{weaker}
-use Rattle.journal_log.specs.CleanJournal.{IsShort}
-use Rattle.journal_log.specs.Images.{IsEither}
+use Rattle.journal_log.specs.CleanJournal.{IsShort, IsClean}
+use Rattle.journal_log.specs.Frames.{framed_of, opened}
+use Rattle.journal_log.specs.Gates.{IsOpening}
+use Rattle.journal_log.specs.Heads.{encoded_head}
+use Rattle.journal_log.specs.Images.{Stands, IsEither}
 use Rattle.journal_log.specs.Renewing.{IsNewJournal}
 use Rattle.journal_log.specs.declared.fault.Side.{Side}
-use Rattle.journal_log.proofs.Classifying.{new_lem}
 use Rattle.journal_pair.specs.PairJournal.{IsPairClean, IsAppendInDoubt, IsCheckpointInDoubt, IsPairInDoubt, IsPassedBeside, IsLongBeside}
+use Rattle.journal_pair.specs.PairMoments.{ThroughMending}
 use Rattle.journal_pair.specs.PairState.{PairState}
 use Rattle.journal_pair.specs.Sides.{active_of, other_of}
-use Rattle.journal_pair.proofs.Beside.{closed_passed, closed_class}
+use Rattle.journal_pair.specs.Stores.{IsPassedOver}
+use Rattle.journal_pair.proofs.Beside.{closed_passed, closed_class, stands_open, stands_none}
 use Rattle.journal_pair.proofs.PairRuns.{kept_run}
-use Rattle.journal_pair.proofs.Pairing.{clean_each, doubt_each}
+use Rattle.journal_pair.proofs.Reopening.{through_weaker, passed_through, clean_each_through, doubt_each_through, repaired_through, new_through}
 use Rattle.pair_writes.specs.Doubts.{RecordDoubt, certain, entered, checkpointed, HasRecords, IsSure, tails_in, news_in}
 use Rattle.pair_writes.specs.Writes.{IsActiveImage, IsOtherImage, Runs, Readies}
 use Rattle.pair_writes.proofs.DoubtSteps.{clean_of, doubt_of, doubt_stays}
@@ -35,21 +39,29 @@ of_either format epoch bodies body c (inl stands) = inl stands
 of_either format epoch bodies body c (inr stands) = inr (body, has_one body, stands)
 
 -- a new journal with any first gate is passed over, or is open
-pub of_new : (side : Side) (epoch : ℕ) (body d : List ℕ) → epoch < 2 ^ 63 → IsShort body → IsNewJournal (epoch + 1) body d → IsOtherImage side epoch ((body ∷ []) ∷ []) d
-of_new side epoch body d most short new = ⊎_elim
-    (λ closed. inl (closed_passed side epoch d (closed_class d closed)))
-    (λ (is_open, stands). inr (body ∷ [], has_one (body ∷ []), is_open, stands))
-    (new_lem (epoch + 1) body d (omega (arith, most)) short new)
+of_new_either : (side : Side) (epoch : ℕ) (body d : List ℕ) → IsEither 2 (epoch + 1) [] body d → IsOtherImage side epoch ((body ∷ []) ∷ []) d
+of_new_either side epoch body d (inl none) = inl (closed_passed side epoch d (closed_class d (stands_none 2 (epoch + 1) d none)))
+of_new_either side epoch body d (inr stands) = inr (body ∷ [], has_one (body ∷ []), stands_open 2 (epoch + 1) body [] d stands, stands)
+
+pub of_new : (side : Side) (epoch : ℕ) (body d : List ℕ) → epoch < 2 ^ 63 → IsShort body → IsNewJournal (epoch + 1) body d → ThroughMending (IsOtherImage side epoch ((body ∷ []) ∷ [])) d
+of_new side epoch body d most short new =
+    through_weaker (IsEither 2 (epoch + 1) [] body) _ (of_new_either side epoch body) d (new_through epoch body d most short new)
+
+pub of_passed : (side : Side) (epoch : ℕ) (news : List (List (List ℕ))) (d : List ℕ) → IsPassedOver side epoch d → ThroughMending (IsOtherImage side epoch news) d
+of_passed side epoch news d passed = through_weaker (IsPassedOver side epoch) _ (λ x is. inl is) d (passed_through side epoch d passed)
 
 module _ {D : Type 0} (image : D → List ℕ → Type 0) (moment : D → ℕ) (left_since : D → ℕ → List ℕ → Type 0) (only_now : (d : D) (c : List ℕ) → left_since d (moment d) c → image d c) (first second : D) (old : PairState) where
-  pub each_active : (bodies : List (List ℕ)) (doubt : RecordDoubt) → HasRecords image first second old bodies doubt → EachImage (image (active_of old.active first second)) (IsActiveImage old.journal.format old.journal.epoch bodies (tails_in doubt))
-  each_active bodies certain h = λ c here. inl (clean_each (image (active_of old.active first second)) old.journal bodies h.journal c here)
-  each_active bodies (entered body) h = λ c here. of_either old.journal.format old.journal.epoch bodies body c (doubt_each (image (active_of old.active first second)) old.journal bodies body h.journal c here)
-  each_active bodies (checkpointed body) h = λ c here. inl (clean_each (image (active_of old.active first second)) old.journal bodies h.journal c here)
+  of_clean : (bodies tails : List (List ℕ)) → IsClean (image (active_of old.active first second)) old.journal bodies → EachImage (image (active_of old.active first second)) (ThroughMending (IsActiveImage old.journal.format old.journal.epoch bodies tails))
+  of_clean bodies tails clean c here = through_weaker (Stands old.journal.format old.journal.epoch bodies) _ (λ x stands. inl stands) c (clean_each_through (image (active_of old.active first second)) old.journal bodies clean c here)
 
-  pub each_other : (bodies : List (List ℕ)) (doubt : RecordDoubt) → HasRecords image first second old bodies doubt → IsSure image first second old → EachImage (image (other_of old.active first second)) (IsOtherImage old.active old.journal.epoch (news_in doubt))
-  each_other bodies certain h sure = λ c here. inl (sure h.certain c here)
-  each_other bodies (entered body) h sure = λ c here. inl (sure h.certain c here)
+  pub each_active : (bodies : List (List ℕ)) (doubt : RecordDoubt) → HasRecords image first second old bodies doubt → EachImage (image (active_of old.active first second)) (ThroughMending (IsActiveImage old.journal.format old.journal.epoch bodies (tails_in doubt)))
+  each_active bodies certain h = λ c here. of_clean bodies [] h.journal c here
+  each_active bodies (entered body) h = λ c here. through_weaker _ _ (of_either old.journal.format old.journal.epoch bodies body) c (doubt_each_through (image (active_of old.active first second)) old.journal bodies body h.journal c here)
+  each_active bodies (checkpointed body) h = λ c here. of_clean bodies [] h.journal c here
+
+  pub each_other : (bodies : List (List ℕ)) (doubt : RecordDoubt) → HasRecords image first second old bodies doubt → IsSure image first second old → EachImage (image (other_of old.active first second)) (ThroughMending (IsOtherImage old.active old.journal.epoch (news_in doubt)))
+  each_other bodies certain h sure = λ c here. of_passed old.active old.journal.epoch [] c (sure h.certain c here)
+  each_other bodies (entered body) h sure = λ c here. of_passed old.active old.journal.epoch [] c (sure h.certain c here)
   each_other bodies (checkpointed body) h sure = λ c here. of_new old.active old.journal.epoch body c h.most h.short (h.new c here)
 
   -- nothing is in doubt, and no call is made
@@ -88,7 +100,7 @@ module _ {D : Type 0} (image : D → List ℕ → Type 0) (moment : D → ℕ) (
       pub active : new.active ≡ old.active
       pub format : new.journal.format ≡ old.journal.format
       pub epoch : new.journal.epoch ≡ old.journal.epoch
-      pub append_moments : (bodies : List (List ℕ)) (body : List ℕ) → IsAppendInDoubt image first second old bodies body → LeavesOnly moment left_since (active_of old.active first second) (active_of old.active first_new second_new) (IsEither old.journal.format old.journal.epoch bodies body)
+      pub append_gates : (bodies : List (List ℕ)) (body : List ℕ) → IsAppendInDoubt image first second old bodies body → LeavesOnly moment left_since (active_of old.active first second) (active_of old.active first_new second_new) (IsOpening (encoded_head old.journal.format old.journal.epoch ++ opened bodies) (framed_of body))
       pub checkpoint_moments : (bodies : List (List ℕ)) (body : List ℕ) → IsCheckpointInDoubt image first second old bodies body → LeavesOnly moment left_since (other_of old.active first second) (other_of old.active first_new second_new) (IsNewJournal (old.journal.epoch + 1) body)
       pub active_kept : old.checkpoint ≡ true → active_of old.active first_new second_new ≡ active_of old.active first second
       pub other_kept : old.checkpoint ≡ false → other_of old.active first_new second_new ≡ other_of old.active first second
@@ -117,7 +129,7 @@ module _ {D : Type 0} (image : D → List ℕ → Type 0) (moment : D → ℕ) (
       run : (bodies : List (List ℕ)) (doubt : RecordDoubt) → HasRecords image first second old bodies doubt → IsSure image first second old → Runs image moment left_since first second first_new second_new old new bodies (tails_in doubt) (news_in doubt ++ [])
       run bodies certain was sure = absurd (true≢false (sym on ∙ (ap (λ b. b || old.journal.doubt) was.certain ∙ was.journal.certain)))
       run bodies (entered body) was sure = record {
-        active = weaker image moment left_since _ _ _ _ (of_either old.journal.format old.journal.epoch bodies body) (h.append_moments bodies body was);
+        active = weaker image moment left_since _ _ _ _ (λ c gate. through_weaker _ _ (of_either old.journal.format old.journal.epoch bodies body) c (repaired_through old.journal bodies was.journal.prefix was.journal.is_prefix body c was.journal.short gate)) (h.append_gates bodies body was);
         other = kept_run image moment left_since _ _ _ (only_now _) (h.other_kept was.certain) (each_other bodies (entered body) was sure);
       }
       run bodies (checkpointed body) was sure = record {

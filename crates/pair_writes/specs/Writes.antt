@@ -8,6 +8,7 @@ use Rattle.journal_log.specs.Images.{Stands}
 use Rattle.journal_log.specs.declared.class.DiskClass.TheVariants.{Open}
 use Rattle.journal_log.specs.declared.fault.Side.{Side}
 use Rattle.journal_pair.specs.PairJournal.{IsPairClean}
+use Rattle.journal_pair.specs.PairMoments.{ThroughMending, ThroughOpenings}
 use Rattle.journal_pair.specs.PairState.{PairState}
 use Rattle.journal_pair.specs.Sides.{active_of, other_of, opposite_of}
 use Rattle.journal_pair.specs.Stores.{IsPassedOver, StoreStands}
@@ -77,14 +78,15 @@ IsLeftBefore doubt (Some snapshot) left =
 
 module _ {D : Type 0} (image : D → List ℕ → Type 0) (moment : D → ℕ) (left_since : D → ℕ → List ℕ
     → Type 0) (first second first_new second_new : D) (old new : PairState) where
-  -- what the two disks leave at each moment, by what they are at first
+  -- what the two disks leave at each moment, by what they are at first, and what that stays while
+  -- they are opened
   pub record Runs (bodies tails : List (List ℕ)) (news : List (List (List ℕ))) : Type 0 where
     pub active : LeavesOnly moment left_since (active_of old.active first second)
         (active_of old.active first_new second_new)
-        (IsActiveImage old.journal.format old.journal.epoch bodies tails)
+        (ThroughMending (IsActiveImage old.journal.format old.journal.epoch bodies tails))
     pub other : LeavesOnly moment left_since (other_of old.active first second)
         (other_of old.active first_new second_new)
-        (IsOtherImage old.active old.journal.epoch news)
+        (ThroughMending (IsOtherImage old.active old.journal.epoch news))
 
   -- A journal that was made ready for a record: the gate in doubt was closed, and a checkpoint was
   -- made, where there is a snapshot.
@@ -134,8 +136,9 @@ module _ {D : Type 0} (image : D → List ℕ → Type 0) (moment : D → ℕ) (
         → HasRecords image first second old bodies doubt → IsSure image first second old
         → (IsSome snapshot → IsLong image first second old)
         → LeavesTogether moment left_since first second first_new second_new
-        (StandsForWritten old.active old.journal.format old.journal.epoch bodies
-        (tails_in doubt ++ tail_of snapshot body) (news_in doubt ++ (alone snapshot ++ with_record snapshot body)))
+        (ThroughOpenings (StandsForWritten old.active old.journal.format old.journal.epoch bodies
+        (tails_in doubt ++ tail_of snapshot body)
+        (news_in doubt ++ (alone snapshot ++ with_record snapshot body))))
     pub sure : IsSure image first second old → (IsSome snapshot → IsLong image first second old)
         → IsSure image first_new second_new new
     pub long : IsSure image first second old → IsLong image first second old

@@ -26,7 +26,10 @@ pub fn write<D: Disk>(
         (D.faults disks.old.second) (D.faults disks.new.second) }
 {
     match make_ready(pair, disks, snapshot) {
-        Ok(()) => pair.append(&mut disks.first, &mut disks.second, body),
+        Ok(()) => {
+            let _len = body.len();
+            pair.append(&mut disks.first, &mut disks.second, body)
+        }
         Err(fault) => Err(fault),
     }
 }

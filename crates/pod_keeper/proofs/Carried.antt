@@ -3,6 +3,8 @@ use Rattle.std.proofs.Common.{◌≡◌, ℕ, zero, suc, List, [], ◌∷◌, �
 use Rattle.std.specs.Option.{option_map, option_to_list}
 use Rattle.pair_writes.specs.Doubts.{IsSure}
 use Rattle.pair_writes.proofs.TogetherRuns.{together_still}
+use Rattle.journal_pair.specs.PairMoments.{ThroughOpenings}
+use Rattle.journal_pair.proofs.Reopening.{openings_weaker}
 use Rattle.pod_base.specs.declared.moment.Stamp.{Stamp}
 use Rattle.pod_base.specs.declared.request.Request.{Request}
 use Rattle.pod_command.specs.Bare.{bare_entry}
@@ -30,13 +32,13 @@ module _ {D : Type 0} (image : D → List ℕ → Type 0) (moment : D → ℕ) (
   pub untouched : (only_now : (d : D) (c : List ℕ) → left_since d (moment d) c → image d c) (more : List Entry) (history : History) (place : ℕ) (doubt : Doubt) → IsKept image old history place doubt → IsSure image old.first old.second old.pair
       → LeavesPodsOf moment left_since old old history (entries_in doubt ++ more)
   untouched only_now more history place doubt kept sure =
-      together_still image moment left_since only_now old.first old.second (StandsForOneOf history (entries_in doubt ++ more))
-      (λ c d now now_2. more_entries history (entries_in doubt) more c d (disks_stand image moment left_since old history place kept.bodies kept.stored doubt kept.disks sure c d now now_2))
+      together_still image moment left_since only_now old.first old.second (ThroughOpenings (StandsForOneOf history (entries_in doubt ++ more)))
+      (λ c d now now_2. openings_weaker _ _ (more_entries history (entries_in doubt) more) c d (disks_stand image moment left_since old history place kept.bodies kept.stored doubt kept.disks sure c d now now_2))
 
   pub untouched_as : (only_now : (d : D) (c : List ℕ) → left_since d (moment d) c → image d c) (history : History) (place : ℕ) (doubt : Doubt) → IsKept image old history place doubt → IsSure image old.first old.second old.pair
       → LeavesPodsOf moment left_since old old history (entries_in doubt)
   untouched_as only_now history place doubt kept sure =
-      together_still image moment left_since only_now old.first old.second (StandsForOneOf history (entries_in doubt))
+      together_still image moment left_since only_now old.first old.second (ThroughOpenings (StandsForOneOf history (entries_in doubt)))
       (disks_stand image moment left_since old history place kept.bodies kept.stored doubt kept.disks sure)
 
   -- the reply at the end of each history, and its moment

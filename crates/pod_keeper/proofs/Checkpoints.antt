@@ -10,6 +10,8 @@ use Rattle.pair_writes.specs.Doubts.{RecordDoubt, HasRecords, IsSure, IsLong, ta
 use Rattle.pair_writes.specs.Writes.{Readies, Moves, StandsForWritten, IsLeftBefore, IsActiveImage, IsOtherImage}
 use Rattle.pair_writes.proofs.TogetherRuns.{together_of, together_weaker}
 use Rattle.pair_writes.proofs.WrittenPairs.{written_pair}
+use Rattle.journal_pair.specs.PairMoments.{ThroughMending, ThroughOpenings}
+use Rattle.journal_pair.proofs.Reopening.{openings_of, openings_weaker}
 use Rattle.pod_core.specs.History.{History, end_of, longer}
 use Rattle.pod_keeper.specs.Commits.{IsCheckpointed, IsCheckpointFaulted, LeavesPodsOf}
 use Rattle.pod_keeper.specs.CrashedPods.{StandsForOneOf}
@@ -89,11 +91,11 @@ module _ {D : Type 0} (image : D → List ℕ → Type 0) (moment : D → ℕ) (
       pub checkpoint_leaves : IsSure image old.first old.second old.pair → IsLong image old.first old.second old.pair → LeavesPodsOf moment left_since old new history (entries_in doubt)
       checkpoint_leaves sure long =
           let runs = ready.runs h.bodies of_old.records_doubt of_old.has sure (λ _. long) in
-          together_weaker image moment left_since old.first old.second new.first new.second _ (StandsForOneOf history (entries_in doubt)) written_stands
+          together_weaker image moment left_since old.first old.second new.first new.second _ (ThroughOpenings (StandsForOneOf history (entries_in doubt))) (openings_weaker _ _ written_stands)
           (together_of image moment left_since old.pair.active old.first old.second new.first new.second
-          (IsActiveImage old.pair.journal.format old.pair.journal.epoch h.bodies (tails_in of_old.records_doubt)) (IsOtherImage old.pair.active old.pair.journal.epoch (news_in of_old.records_doubt ++ (s ∷ []) ∷ [])) _
-          (written_pair old.pair.active old.pair.journal.format old.pair.journal.epoch old.pair.snapshot h.bodies (tails_in of_old.records_doubt) (news_in of_old.records_doubt ++ (s ∷ []) ∷ [])
-          (snapshot_in image old.first old.second old.pair h.bodies of_old.records_doubt of_old.has))
+          (ThroughMending (IsActiveImage old.pair.journal.format old.pair.journal.epoch h.bodies (tails_in of_old.records_doubt))) (ThroughMending (IsOtherImage old.pair.active old.pair.journal.epoch (news_in of_old.records_doubt ++ (s ∷ []) ∷ []))) _
+          (openings_of old.pair.active _ _ _ (written_pair old.pair.active old.pair.journal.format old.pair.journal.epoch old.pair.snapshot h.bodies (tails_in of_old.records_doubt) (news_in of_old.records_doubt ++ (s ∷ []) ∷ [])
+          (snapshot_in image old.first old.second old.pair h.bodies of_old.records_doubt of_old.has)))
           runs.active runs.other)
 
     module _ (new : KeeperState D) (pod : new.pod ≡ old.pod) (next : new.next ≡ old.next) (last : new.last ≡ old.last) (feed : SameEffects new old) where

@@ -10,6 +10,8 @@ use Rattle.pair_writes.specs.Doubts as records
 use Rattle.pair_writes.specs.Doubts.{RecordDoubt, HasRecords, IsSure, IsLong, tails_in, news_in}
 use Rattle.pair_writes.specs.Writes.{Writes, Moves, IsLeftBefore, IsLeftByWrite, StandsForWritten, records_before, alone, with_record, tail_of}
 use Rattle.pair_writes.proofs.TogetherRuns.{together_weaker}
+use Rattle.journal_pair.specs.PairMoments.{ThroughOpenings}
+use Rattle.journal_pair.proofs.Reopening.{openings_weaker}
 use Rattle.pod_command.specs.Storable.{IsStorable}
 use Rattle.pod_command.specs.StoredForms.{entry_bytes}
 use Rattle.pod_command.specs.declared.entry.Entry.{Entry}
@@ -298,4 +300,4 @@ module _ {D : Type 0} (image : D → List ℕ → Type 0) (moment : D → ℕ) (
 
     pub leaves : (new : KeeperState D) {T E : Type 0} (r : Result T E) → Writes image moment left_since old.first old.second new.first new.second old.pair new.pair r snapshot (entry_bytes entry) → IsSure image old.first old.second old.pair → (IsCheckpointDue old.pair → IsLong image old.first old.second old.pair)
         → LeavesPodsOf moment left_since old new history (entries_in doubt ++ entry ∷ [])
-    leaves new r w sure long = together_weaker image moment left_since old.first old.second new.first new.second _ (StandsForOneOf history (entries_in doubt ++ entry ∷ [])) written_stands (w.pairs h.bodies records_of.records_doubt records_of.has sure (some_due long))
+    leaves new r w sure long = together_weaker image moment left_since old.first old.second new.first new.second _ (ThroughOpenings (StandsForOneOf history (entries_in doubt ++ entry ∷ []))) (openings_weaker _ _ written_stands) (w.pairs h.bodies records_of.records_doubt records_of.has sure (some_due long))

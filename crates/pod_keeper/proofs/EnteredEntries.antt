@@ -7,6 +7,7 @@ use Rattle.journal_pair.specs.PairState.{PairState}
 use Rattle.pair_writes.specs.Doubts.{IsSure, IsLong, HasRecords, RecordDoubt}
 use Rattle.pair_writes.specs.Together.{LeavesTogether}
 use Rattle.pair_writes.specs.Writes.{Writes}
+use Rattle.journal_pair.specs.PairMoments.{ThroughOpenings}
 use Rattle.pod_base.specs.Counts.{CountIncreased}
 use Rattle.pod_command.specs.Bare.{bare_entry}
 use Rattle.pod_command.specs.Storable.{IsStorable}
@@ -130,7 +131,7 @@ module _ {D : Type 0} (image : D → List ℕ → Type 0) (moment : D → ℕ) (
 
   -- at each moment, whatever the version is then
   pub carried_pairs : (r : Result (Unit {0}) DiskFault) → Wrote r → (history : History) (place : ℕ) (doubt : Doubt) → IsKept image old history place doubt → IsSure image old.first old.second old.pair → (IsCheckpointDue old.pair → IsLong image old.first old.second old.pair)
-      → LeavesTogether moment left_since old.first old.second first second (StandsForOneOf history (entries_in doubt ++ bare_entry planned.entry ∷ []))
+      → LeavesTogether moment left_since old.first old.second first second (ThroughOpenings (StandsForOneOf history (entries_in doubt ++ bare_entry planned.entry ∷ [])))
   carried_pairs r w = entered_pairs image moment left_since old carried planned.entry r (entering_carried r w)
 
   pub carried_sure : (r : Result (Unit {0}) DiskFault) → Wrote r → IsSure image old.first old.second old.pair → (IsCheckpointDue old.pair → IsLong image old.first old.second old.pair) → IsSure image first second pair

@@ -11,7 +11,6 @@ mod Storing
 mod Doubting
 mod Committed
 mod EnteredEntries
-mod Mended
 mod Standing
 mod Carried
 mod EventRuns

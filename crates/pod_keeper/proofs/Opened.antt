@@ -6,6 +6,7 @@ use Rattle.journal_pair.specs.PairJournal.{IsPairClean}
 use Rattle.journal_pair.specs.PairMoments.{EachPair, LeavesPairs, IsWhileStoreOpened}
 use Rattle.journal_pair.specs.PairState.{PairState}
 use Rattle.journal_pair.specs.Stores.{StoreStands}
+use Rattle.journal_pair.proofs.Reopening.{openings_again}
 use Rattle.pod_base.specs.declared.moment.Moment.{Moment}
 use Rattle.pod_core.proofs.Histories.{pod_at_end}
 use Rattle.pod_keeper.specs.CrashedPods.{StandsForOneOf, ThoughMended}
@@ -62,6 +63,7 @@ module _ {D : Type 0} (image : D → List ℕ → Type 0) (moment : D → ℕ) (
     torn = torn.torn;
     gated = torn.gated;
     stood = torn.stood;
+    changed = torn.changed;
     stands = torn.stands;
   })
   mended P each c d (Second, inl was, other) = (each c d other was).now
@@ -76,6 +78,7 @@ module _ {D : Type 0} (image : D → List ℕ → Type 0) (moment : D → ℕ) (
     torn = torn.torn;
     gated = torn.gated;
     stood = torn.stood;
+    changed = torn.changed;
     stands = torn.stands;
   })
 
@@ -84,6 +87,7 @@ module _ {D : Type 0} (image : D → List ℕ → Type 0) (moment : D → ℕ) (
   opens_disks pairs later_first later_second no_fewer_first no_fewer_second = record {
     pairs = pairs;
     stands = λ history entries each c d left left_2. mended (StandsForOneOf history entries) each c d (pairs c d left left_2);
+    again = λ history entries each c d left left_2. openings_again image first second (StandsForOneOf history entries) each c d (pairs c d left left_2);
     later_first = later_first;
     later_second = later_second;
     no_fewer_first = no_fewer_first;

@@ -1,20 +1,25 @@
 -- What the crash images of a keeper's disks stand for.
-use Rattle.std.proofs.Common.{inl, inr, ℕ, ◌+◌, List, [], ◌∷◌, ◌++◌, refl, arith}
+use Rattle.std.proofs.Common.{inl, inr, ℕ, ◌+◌, List, [], ◌∷◌, ◌++◌, refl, subst, arith}
 use Rattle.std.proofs.lemmas.List.Elements.{Contains-append_left}
-use Rattle.journal_pair.specs.PairMoments.{EachPair}
+use Rattle.journal_log.specs.Classes.{HasClass}
+use Rattle.journal_log.specs.Images.{Stands, IsEither}
+use Rattle.journal_log.specs.declared.class.DiskClass.TheVariants.{Open}
 use Rattle.journal_log.specs.declared.fault.Side.{Side}
-use Rattle.journal_log.specs.declared.fault.Side.TheVariants.{First, Second}
+use Rattle.journal_pair.specs.PairJournal.{HasSnapshot, IsPassedBeside}
+use Rattle.journal_pair.specs.PairMoments.{EachPair, ThroughMending, ThroughOpenings}
 use Rattle.journal_pair.specs.Sides.{active_of, other_of, opposite_of}
-use Rattle.journal_pair.specs.Stores.{StoreStands, StoreStandsEither, StoreStandsBoth}
-use Rattle.journal_pair.proofs.Pairing.{clean_pairs, append_doubt_pairs, checkpoint_doubt_pairs, clean_each, doubt_each}
+use Rattle.journal_pair.specs.Stores.{IsPassedOver, StoreStands, StoreStandsEither, StoreStandsBoth}
+use Rattle.journal_pair.proofs.Beside.{closed_passed, closed_class, open_passed, stands_open, stands_none, snapshot_open, opposite_active, opposite_other, store_stands, store_stands_either}
+use Rattle.journal_pair.proofs.PairRuns.{each_pair}
+use Rattle.journal_pair.proofs.Reopening.{clean_each_through, doubt_each_through, new_through, openings_of, passed_through}
 use Rattle.pair_writes.specs.Doubts.{IsSure}
 use Rattle.pod_command.specs.declared.entry.Entry.{Entry}
 use Rattle.pod_core.specs.History.{History, end_of}
-use Rattle.pod_keeper.specs.CrashedPods.{StandsFor, StandsForOneOf, ThoughMended}
+use Rattle.pod_disk.specs.Disk.{EachImage}
+use Rattle.pod_keeper.specs.CrashedPods.{StandsFor, StandsForOneOf}
 use Rattle.pod_keeper.specs.Kept.{Doubt, certain, entered, checkpointed, entries_in, IsNextEntry, IsCheckpointText, HasOnDisks}
 use Rattle.pod_keeper.specs.KeeperState.{KeeperState}
 use Rattle.pod_keeper.specs.Stored.{IsStored}
-use Rattle.pod_keeper.proofs.Mended.{MendsTo, passed_mended, not_torn, doubt_mended, new_mended, pair_stands, pair_stands_either, pair_stands_both}
 use Rattle.pod_keeper.proofs.Storing.{stored_more, stored_at_end}
 use Rattle.pod_records.specs.Records.{entry_text}
 
@@ -22,6 +27,20 @@ use Rattle.pod_records.specs.Records.{entry_text}
 pub more_entries : (history : History) (some more : List Entry) (c d : List ℕ) → StandsForOneOf history some c d → StandsForOneOf history (some ++ more) c d
 more_entries history some more c d (inl stands) = inl stands
 more_entries history some more c d (inr (entry, has, stands)) = inr (entry, Contains-append_left some more entry has, stands)
+
+-- a journal, and on the other disk a new one that stands for its record or for none
+stands_both : (side : Side) (format epoch len : ℕ) (bodies : List (List ℕ)) → HasSnapshot len bodies → (c d body : List ℕ) → Stands format epoch bodies (active_of side c d) → IsEither 2 (epoch + 1) [] body (other_of side c d)
+    → StoreStandsBoth side format epoch bodies body c d
+stands_both side format epoch len bodies has c d body stands (inl none) =
+    inl (store_stands side format epoch len bodies has c d stands (closed_passed side epoch (other_of side c d) (closed_class (other_of side c d) (stands_none 2 (epoch + 1) (other_of side c d) none))))
+stands_both side format epoch len bodies has c d body stands (inr alone) = inr (record {
+  taken = record {
+    is_open = subst (HasClass (Open (epoch + 1))) (opposite_active side c d) (stands_open 2 (epoch + 1) body [] (other_of side c d) alone);
+    beside = subst (IsPassedOver (opposite_of side) (epoch + 1)) (opposite_other side c d)
+        (open_passed (opposite_of side) (epoch + 1) epoch (active_of side c d) (omega arith) (snapshot_open len format epoch bodies (active_of side c d) has stands));
+  };
+  stands = subst (Stands 2 (epoch + 1) (body ∷ [])) (opposite_active side c d) alone;
+})
 
 module _ {D : Type 0} (image : D → List ℕ → Type 0) (moment : D → ℕ) (left_since : D → ℕ → List ℕ → Type 0) (keeper : KeeperState D) (history : History) (place : ℕ) (bodies : List (List ℕ)) (stored : IsStored history keeper.pair.journal.format place bodies) where
   of_store : (c d : List ℕ) → StoreStands keeper.pair.active keeper.pair.journal.format keeper.pair.journal.epoch bodies c d → StandsFor history c d
@@ -63,53 +82,26 @@ module _ {D : Type 0} (image : D → List ℕ → Type 0) (moment : D → ℕ) (
     stored = stored_at_end history text is;
   })
 
-  pub disks_stand : (doubt : Doubt) → HasOnDisks image keeper.first keeper.second keeper.pair history bodies doubt → IsSure image keeper.first keeper.second keeper.pair → EachPair (image keeper.first) (image keeper.second) (StandsForOneOf history (entries_in doubt))
-  disks_stand certain h sure c d here here_2 = inl (of_store c d (clean_pairs image moment left_since keeper.first keeper.second keeper.pair bodies h (sure h.certain) c d here here_2))
-  disks_stand (entered entry) h sure c d here here_2 = of_either entry c d h.0 (append_doubt_pairs image moment left_since keeper.first keeper.second keeper.pair bodies (entry_text keeper.pair.journal.format entry) h.1 (sure h.1.certain) c d here here_2)
-  disks_stand checkpointed h sure c d here here_2 = of_both h.0 c d h.1 (checkpoint_doubt_pairs image moment left_since keeper.first keeper.second keeper.pair bodies h.0 h.2 c d here here_2)
+  by_side : (P Q : List ℕ → Type 0) (R : List ℕ → List ℕ → Type 0) → ((c d : List ℕ) → P (active_of keeper.pair.active c d) → Q (other_of keeper.pair.active c d) → R c d)
+      → EachImage (image (active_of keeper.pair.active keeper.first keeper.second)) (ThroughMending P) → EachImage (image (other_of keeper.pair.active keeper.first keeper.second)) (ThroughMending Q)
+      → EachPair (image keeper.first) (image keeper.second) (ThroughOpenings R)
+  by_side P Q R leads = each_pair image moment left_since keeper.pair.active keeper.first keeper.second (ThroughMending P) (ThroughMending Q) (ThroughOpenings R) (openings_of keeper.pair.active P Q R leads)
 
-  -- and so they do while a torn gate is written
-  abbrev Alright : Doubt → List ℕ → List ℕ → Type 0
-  Alright doubt c d = StandsForOneOf history (entries_in doubt) c d
+  passed_each : IsPassedBeside image keeper.first keeper.second keeper.pair → EachImage (image (other_of keeper.pair.active keeper.first keeper.second)) (ThroughMending (IsPassedOver keeper.pair.active keeper.pair.journal.epoch))
+  passed_each passed c here = passed_through keeper.pair.active keeper.pair.journal.epoch c (passed c here)
 
-  on_active : (doubt : Doubt) → HasOnDisks image keeper.first keeper.second keeper.pair history bodies doubt → IsSure image keeper.first keeper.second keeper.pair → (a o : List ℕ)
-      → image (active_of keeper.pair.active keeper.first keeper.second) a → image (other_of keeper.pair.active keeper.first keeper.second) o → (x : List ℕ) → MendsTo a x → Alright doubt (active_of keeper.pair.active x o) (other_of keeper.pair.active x o)
-  on_active certain h sure a o here here_2 x n = absurd (not_torn a x n keeper.pair.journal bodies h.journal.prefix h.journal.is_prefix (h.journal.closed a here))
-  on_active (entered entry) h sure a o here here_2 x n =
-      let j = h.1.journal in
-      of_either entry _ _ h.0 (pair_stands_either keeper.pair.active keeper.pair.journal.format keeper.pair.journal.epoch keeper.pair.snapshot bodies h.1.snapshot x o (entry_text keeper.pair.journal.format entry)
-      (doubt_mended a x n keeper.pair.journal bodies j.prefix j.is_prefix (entry_text keeper.pair.journal.format entry) j.short (j.opening a here)) (sure h.1.certain o here_2))
-  on_active checkpointed h sure a o here here_2 x n = absurd (not_torn a x n keeper.pair.journal bodies h.2.journal.prefix h.2.journal.is_prefix (h.2.journal.closed a here))
-
-  on_other : (doubt : Doubt) → HasOnDisks image keeper.first keeper.second keeper.pair history bodies doubt → IsSure image keeper.first keeper.second keeper.pair → (a o : List ℕ)
-      → image (active_of keeper.pair.active keeper.first keeper.second) a → image (other_of keeper.pair.active keeper.first keeper.second) o → (x : List ℕ) → MendsTo o x → Alright doubt (active_of keeper.pair.active a x) (other_of keeper.pair.active a x)
-  on_other certain h sure a o here here_2 x n =
-      inl (of_store _ _ (pair_stands keeper.pair.active keeper.pair.journal.format keeper.pair.journal.epoch keeper.pair.snapshot bodies h.snapshot a x
-      (clean_each _ keeper.pair.journal bodies h.journal a here) (passed_mended o x n keeper.pair.active keeper.pair.journal.epoch (sure h.certain o here_2))))
-  on_other (entered entry) h sure a o here here_2 x n =
-      of_either entry _ _ h.0 (pair_stands_either keeper.pair.active keeper.pair.journal.format keeper.pair.journal.epoch keeper.pair.snapshot bodies h.1.snapshot a x (entry_text keeper.pair.journal.format entry)
-      (doubt_each _ keeper.pair.journal bodies (entry_text keeper.pair.journal.format entry) h.1.journal a here) (passed_mended o x n keeper.pair.active keeper.pair.journal.epoch (sure h.1.certain o here_2)))
-  on_other checkpointed h sure a o here here_2 x n =
-      of_both h.0 _ _ h.1 (pair_stands_both keeper.pair.active keeper.pair.journal.format keeper.pair.journal.epoch keeper.pair.snapshot bodies h.2.old a x h.0
-      (clean_each _ keeper.pair.journal bodies h.2.journal a here) (new_mended o x n keeper.pair.journal.epoch h.0 h.2.most h.2.short (h.2.new o here_2)))
-
-  though_mended : (side : Side) (P : List ℕ → List ℕ → Type 0) (c d : List ℕ) → P c d → ((x : List ℕ) → MendsTo (active_of side c d) x → P (active_of side x (other_of side c d)) (other_of side x (other_of side c d)))
-      → ((x : List ℕ) → MendsTo (other_of side c d) x → P (active_of side (active_of side c d) x) (other_of side (active_of side c d) x)) → ThoughMended P c d
-  though_mended First P c d now active other = record { now = now; mended_first = active; mended_second = other }
-  though_mended Second P c d now active other = record { now = now; mended_first = other; mended_second = active }
-
-  active_here : (side : Side) (c d : List ℕ) → image keeper.first c → image keeper.second d → image (active_of side keeper.first keeper.second) (active_of side c d)
-  active_here First c d here here_2 = here
-  active_here Second c d here here_2 = here_2
-
-  other_here : (side : Side) (c d : List ℕ) → image keeper.first c → image keeper.second d → image (other_of side keeper.first keeper.second) (other_of side c d)
-  other_here First c d here here_2 = here_2
-  other_here Second c d here here_2 = here
-
-  pub disks_stand_mended : (doubt : Doubt) → HasOnDisks image keeper.first keeper.second keeper.pair history bodies doubt → IsSure image keeper.first keeper.second keeper.pair
-      → EachPair (image keeper.first) (image keeper.second) (ThoughMended (StandsForOneOf history (entries_in doubt)))
-  disks_stand_mended doubt h sure c d here here_2 =
-      let side = keeper.pair.active in
-      though_mended side (StandsForOneOf history (entries_in doubt)) c d (disks_stand doubt h sure c d here here_2)
-      (on_active doubt h sure (active_of side c d) (other_of side c d) (active_here side c d here here_2) (other_here side c d here here_2))
-      (on_other doubt h sure (active_of side c d) (other_of side c d) (active_here side c d here here_2) (other_here side c d here here_2))
+  -- and so do those that crashes leave of them while they are opened
+  pub disks_stand : (doubt : Doubt) → HasOnDisks image keeper.first keeper.second keeper.pair history bodies doubt → IsSure image keeper.first keeper.second keeper.pair
+      → EachPair (image keeper.first) (image keeper.second) (ThroughOpenings (StandsForOneOf history (entries_in doubt)))
+  disks_stand certain h sure =
+      by_side (Stands keeper.pair.journal.format keeper.pair.journal.epoch bodies) (IsPassedOver keeper.pair.active keeper.pair.journal.epoch) (StandsForOneOf history [])
+      (λ c d stands passed. inl (of_store c d (store_stands keeper.pair.active keeper.pair.journal.format keeper.pair.journal.epoch keeper.pair.snapshot bodies h.snapshot c d stands passed)))
+      (clean_each_through _ keeper.pair.journal bodies h.journal) (passed_each (sure h.certain))
+  disks_stand (entered entry) h sure =
+      by_side (IsEither keeper.pair.journal.format keeper.pair.journal.epoch bodies (entry_text keeper.pair.journal.format entry)) (IsPassedOver keeper.pair.active keeper.pair.journal.epoch) (StandsForOneOf history (entry ∷ []))
+      (λ c d either passed. of_either entry c d h.0 (store_stands_either keeper.pair.active keeper.pair.journal.format keeper.pair.journal.epoch keeper.pair.snapshot bodies (entry_text keeper.pair.journal.format entry) c d h.1.snapshot either passed))
+      (doubt_each_through _ keeper.pair.journal bodies (entry_text keeper.pair.journal.format entry) h.1.journal) (passed_each (sure h.1.certain))
+  disks_stand checkpointed h sure =
+      by_side (Stands keeper.pair.journal.format keeper.pair.journal.epoch bodies) (IsEither 2 (keeper.pair.journal.epoch + 1) [] h.0) (StandsForOneOf history [])
+      (λ c d stands either. of_both h.0 c d h.1 (stands_both keeper.pair.active keeper.pair.journal.format keeper.pair.journal.epoch keeper.pair.snapshot bodies h.2.old c d h.0 stands either))
+      (clean_each_through _ keeper.pair.journal bodies h.2.journal) (λ c here. new_through keeper.pair.journal.epoch h.0 c h.2.most h.2.short (h.2.new c here))

@@ -5,6 +5,8 @@ use Rattle.std.proofs.lemmas.List.{append-nil}
 use Rattle.std.proofs.lemmas.List.Elements.{All-contains, Contains-append_cases, Contains-append_left, Contains-push}
 use Rattle.pair_writes.specs.Doubts.{IsSure, IsLong}
 use Rattle.pair_writes.proofs.TogetherRuns.{together_weaker}
+use Rattle.journal_pair.specs.PairMoments.{ThroughOpenings}
+use Rattle.journal_pair.proofs.Reopening.{openings_weaker}
 use Rattle.pod_base.specs.declared.moment.Stamp.{Stamp}
 use Rattle.pod_base.specs.declared.request.Request.{Request}
 use Rattle.pod_command.specs.declared.entry.Entry.{Entry}
@@ -43,7 +45,8 @@ one_entry history request asked stamp a b h k =
 module _ {D : Type 0} (image : D → List ℕ → Type 0) (moment : D → ℕ) (left_since : D → ℕ → List ℕ → Type 0) (old new : KeeperState D) (history : History) where
   -- with other entries to choose from
   pub leaves_more : (some more : List Entry) → ((entry : Entry) → Contains some entry → Contains more entry) → LeavesPodsOf moment left_since old new history some → LeavesPodsOf moment left_since old new history more
-  leaves_more some more leads = together_weaker image moment left_since old.first old.second new.first new.second (StandsForOneOf history some) (StandsForOneOf history more) of
+  leaves_more some more leads = together_weaker image moment left_since old.first old.second new.first new.second (ThroughOpenings (StandsForOneOf history some)) (ThroughOpenings (StandsForOneOf history more))
+      (openings_weaker (StandsForOneOf history some) (StandsForOneOf history more) of)
     where
       of : (c d : List ℕ) → StandsForOneOf history some c d → StandsForOneOf history more c d
       of c d (inl stands) = inl stands

@@ -1,6 +1,7 @@
 -- What a commit and a checkpoint do to a keeper, for a history that it represented.
 use Rattle.std.specs.Prelude.{◌≡◌, ◌⊎◌, ℕ, ◌+◌, max, List, [], ◌∷◌, ◌++◌, All, Option, Some}
 use Rattle.std.specs.Prelude.{None}
+use Rattle.journal_pair.specs.PairMoments.{ThroughOpenings}
 use Rattle.journal_pair.specs.PairState.{PairState}
 use Rattle.journal_pair.specs.Sides.{opposite_of}
 use Rattle.pair_writes.specs.Doubts.{IsSure, IsLong}
@@ -118,10 +119,11 @@ module _ {D : Type 0} (image : D → List ℕ → Type 0) (old new : KeeperState
 module _ {D : Type 0} (moment : D → ℕ) (left_since : D → ℕ → List ℕ → Type 0)
     (old new : KeeperState D) (history : History) where
   -- At each moment since, each pair of crash images represents the history, or it with one of these
-  -- entries after its end; and nothing else was on a disk at any of these moments.
+  -- entries after its end, and so do those that crashes leave of it while it is opened, however
+  -- often; and nothing else was on a disk at any of these moments.
   abbrev pub LeavesPodsOf : List Entry → Type 0
   LeavesPodsOf entries = LeavesTogether moment left_since old.first old.second new.first new.second
-      (StandsForOneOf history entries)
+      (ThroughOpenings (StandsForOneOf history entries))
 
   -- The entries are the one in doubt before, and the one under way.
   pub record LeavesPods (doubt : Doubt) (request : Request) (asked : AskedAgent) (stamp : Stamp)

@@ -2,6 +2,7 @@
 use Rattle.std.specs.Prelude.{◌≤◌, ℕ, List, Option}
 use Rattle.journal_pair.specs.Causes.{IfBothVisible}
 use Rattle.journal_pair.specs.PairMoments.{EachPair, LeavesPairs, IsWhileStoreOpened}
+use Rattle.journal_pair.specs.PairMoments.{ThroughOpenings}
 use Rattle.journal_pair.specs.Stores.{StoreStands}
 use Rattle.pod_command.specs.declared.entry.Entry.{Entry}
 use Rattle.pod_command.specs.declared.snapshot.Snapshot.{Snapshot}
@@ -33,6 +34,16 @@ KeepsStanding image moment left_since first second first_new second_new =
     → LeavesPairs moment left_since first second first_new second_new
     (StandsForOneOf history entries)
 
+-- Where each pair of crash images represented one of these before, however often they are opened,
+-- each does at every moment since: the next opening has what this one had.
+abbrev pub KeepsThroughOpenings : {D : Type 0} → (D → List ℕ → Type 0) → (D → ℕ)
+    → (D → ℕ → List ℕ → Type 0) → D → D → D → D → Type 0
+KeepsThroughOpenings image moment left_since first second first_new second_new =
+    (history : History) (entries : List Entry)
+    → EachPair (image first) (image second) (ThroughOpenings (StandsForOneOf history entries))
+    → LeavesPairs moment left_since first second first_new second_new
+    (ThroughOpenings (StandsForOneOf history entries))
+
 -- What an opening did to the disks. At each moment every pair of crash images was one from before,
 -- but for a torn last gate that is written; and no moment and no count of faults fell.
 pub record OpensDisks {D : Type 0} (image : D → List ℕ → Type 0) (moment : D → ℕ)
@@ -41,6 +52,7 @@ pub record OpensDisks {D : Type 0} (image : D → List ℕ → Type 0) (moment :
   pub pairs : LeavesPairs moment left_since first second first_new second_new
       (IsWhileStoreOpened image first second)
   pub stands : KeepsStanding image moment left_since first second first_new second_new
+  pub again : KeepsThroughOpenings image moment left_since first second first_new second_new
   pub later_first : moment first ≤ moment first_new
   pub later_second : moment second ≤ moment second_new
   pub no_fewer_first : faults first ≤ faults first_new

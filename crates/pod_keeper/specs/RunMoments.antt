@@ -1,6 +1,7 @@
 -- The moments of a run of a keeper: each is one of a step.
 use Rattle.std.specs.Prelude.{◌⊎◌, ◌≤◌, ℕ, List, [], ◌∷◌, ◌++◌, Option}
 use Rattle.std.specs.Option.{option_to_list}
+use Rattle.journal_pair.specs.PairMoments.{ThroughOpenings}
 use Rattle.pair_writes.specs.Doubts.{IsSure, IsLong}
 use Rattle.pod_command.specs.declared.entry.Entry.{Entry}
 use Rattle.pod_core.specs.History.{History, longer}
@@ -13,15 +14,16 @@ module _ {D : Type 0} (image : D → List ℕ → Type 0) (moment : D → ℕ)
     (left_since : D → ℕ → List ℕ → Type 0) (may_give : ℕ → Type 0) where
   -- This image of the first disk is one of a step: with whatever a crash left of the other disk in
   -- that step it represents the history with the entries of the items before, or that with the entry
-  -- in doubt or the step's own.
+  -- in doubt or the step's own, and so do those that crashes leave of the two while they are opened.
   abbrev pub IsOfStepOnFirst : (old : KeeperState D) (history : History) (doubt : Option Entry)
       (items : List ConnItem) (new : KeeperState D) (doubt_new : Option Entry)
       → TakesItems image moment left_since may_give old history doubt items new doubt_new
       → List ℕ → Type 0
   IsOfStepOnFirst old history doubt [] new doubt_new steps c = ⊥
   IsOfStepOnFirst old history doubt (one ∷ others) new doubt_new steps c =
-      ((d : List ℕ) → left_since steps.0.second (moment old.second) d → StandsForOneOf history
-      (option_to_list doubt ++ option_to_list steps.2.2.under_way) c d)
+      ((d : List ℕ) → left_since steps.0.second (moment old.second) d
+      → ThroughOpenings (StandsForOneOf history
+      (option_to_list doubt ++ option_to_list steps.2.2.under_way)) c d)
       ⊎ IsOfStepOnFirst steps.0 (longer history (entries_of one.item)) steps.1 others new doubt_new
       steps.3 c
 
@@ -32,8 +34,9 @@ module _ {D : Type 0} (image : D → List ℕ → Type 0) (moment : D → ℕ)
       → List ℕ → Type 0
   IsOfStepOnSecond old history doubt [] new doubt_new steps d = ⊥
   IsOfStepOnSecond old history doubt (one ∷ others) new doubt_new steps d =
-      ((c : List ℕ) → left_since steps.0.first (moment old.first) c → StandsForOneOf history
-      (option_to_list doubt ++ option_to_list steps.2.2.under_way) c d)
+      ((c : List ℕ) → left_since steps.0.first (moment old.first) c
+      → ThroughOpenings (StandsForOneOf history
+      (option_to_list doubt ++ option_to_list steps.2.2.under_way)) c d)
       ⊎ IsOfStepOnSecond steps.0 (longer history (entries_of one.item)) steps.1 others new doubt_new
       steps.3 d
 

@@ -1,10 +1,10 @@
 //! What the crash images of a keeper's disks represent, between its calls and in a run of them. The
 //! contract of each of these functions is a law, and it does nothing.
 ghost use Rattle.std.specs.Prelude.{ℕ, List};
-ghost use Rattle.journal_pair.specs.PairMoments.{EachPair};
+ghost use Rattle.journal_pair.specs.PairMoments.{EachPair, ThroughOpenings};
 ghost use Rattle.pair_writes.specs.Doubts.{IsSure};
 ghost use Rattle.pod_core.specs.History.{History};
-ghost use Rattle.pod_keeper.specs.CrashedPods.{StandsForOneOf, ThoughMended};
+ghost use Rattle.pod_keeper.specs.CrashedPods.{StandsForOneOf};
 ghost use Rattle.pod_keeper.specs.Kept.{Doubt, entries_in, IsKept};
 ghost use Rattle.pod_keeper.specs.RunMoments.{MomentsAreOfSteps};
 
@@ -24,13 +24,13 @@ pub fn moments_are_of_steps<D: Disk, C: Clock>(disk: &D, clock: &C)
 
 impl<D: Disk> Keeper<D> {
     /// Every pair of crash images of a keeper's disks represents its history, or it with the entry
-    /// in doubt, also while the next opening writes a torn gate.
+    /// in doubt, and so do those that crashes leave of it while it is opened, however often.
     pub fn crash_images_stand(&self)
         ensures { (history : History) (place : ℕ) (doubt : Doubt)
             → IsKept D.image self.now history place doubt
             → IsSure D.image self.now.first self.now.second self.now.pair
             → EachPair (D.image self.now.first) (D.image self.now.second)
-            (ThoughMended (StandsForOneOf history (entries_in doubt))) }
+            (ThroughOpenings (StandsForOneOf history (entries_in doubt))) }
     {
         let _disks = &self.disks;
     }

@@ -1,11 +1,12 @@
-use Rattle.pair_writes.proofs.Appends.{not_written, written}
+use Rattle.std.proofs.Common.{arith}
+use Rattle.pair_writes.proofs.Appends.{not_written, written, appends_through}
 use Rattle.pair_writes.proofs.adding.write.Goals as goal
 
 pub returns-in-Ok-clause-writes : goal.returns-in-Ok-clause-writes
 returns-in-Ok-clause-writes g c = written g.D.Disk.image g.D.Disk.moment g.D.Disk.left_since g.D.Disk.only_now g.D.Disk.counts_now c.args.disks.now.first c.args.disks.now.second c.make_ready.new.disks.first c.make_ready.new.disks.second c.args.pair.now c.make_ready.new.pair c.args.snapshot.now c.args.body.now
     c.in-Ok.field-0 c.in-Ok.ensures.readies c.requires.known
     c.append.new.first c.append.new.second c.append.new.self c.append.result (record {
-      moments = c.append.ensures.moments;
+      moments = appends_through g.D.Disk.image g.D.Disk.moment g.D.Disk.left_since g.D.Disk.only_now g.D.Disk.counts_now c.args.disks.now.first c.args.disks.now.second c.make_ready.new.disks.first c.make_ready.new.disks.second c.args.pair.now c.make_ready.new.pair c.args.snapshot.now c.args.body.now c.append.new.first c.append.new.second (omega (arith, c.len-len.ensures.short)) c.append.ensures.gates;
       other = c.append.ensures.other;
       active = c.append.ensures.active;
       format = c.append.ensures.format;

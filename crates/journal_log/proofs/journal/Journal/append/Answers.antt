@@ -4,7 +4,7 @@ use Rattle.pod_disk.specs.Disk.{EachImage}
 use Rattle.journal_log.specs.Frames.{framed_of}
 use Rattle.journal_log.specs.Gates.{IsClosed, IsGated, IsOpening}
 use Rattle.journal_log.specs.JournalState.{JournalState}
-use Rattle.journal_log.proofs.AppendRuns.{placed_run, opened_run, closed_run, opening_run}
+use Rattle.journal_log.proofs.AppendRuns.{placed_run, opened_run, placed_gates, opened_gates, closed_run, opening_run}
 use Rattle.journal_log.proofs.GateWrites.{written_behind, written_gate}
 use Rattle.journal_log.proofs.WriteRuns.{over_run}
 use Rattle.journal_log.proofs.Records.{length_closed, length_opening, clean_behind, same_prefix}
@@ -21,6 +21,12 @@ returns-in_err-write_through-clause-moments g c = λ bodies clean.
     let ends : length clean.prefix ≡ c.self.inside.end = clean.is_prefix.ends ∙ sym (ap (λ (h : JournalState). h.end) c.self.view_is) in
     let first = closed_run g.D.Disk.image g.D.Disk.moment g.D.Disk.left_since c.args.disk.now c.write_through.new.disk clean.prefix c.self.inside.end _ (g.D.Disk.counts_now _) ends c.write_through.ensures.torn clean.closed in
     placed_run g.D.Disk.moment g.D.Disk.image g.D.Disk.left_since c.args.self.now bodies _ clean.prefix clean.is_prefix _ _ first.0
+
+pub returns-in_err-write_through-clause-gates : goal.returns-in_err-write_through-clause-gates
+returns-in_err-write_through-clause-gates g c = λ bodies clean.
+    let ends : length clean.prefix ≡ c.self.inside.end = clean.is_prefix.ends ∙ sym (ap (λ (h : JournalState). h.end) c.self.view_is) in
+    let first = closed_run g.D.Disk.image g.D.Disk.moment g.D.Disk.left_since c.args.disk.now c.write_through.new.disk clean.prefix c.self.inside.end _ (g.D.Disk.counts_now _) ends c.write_through.ensures.torn clean.closed in
+    placed_gates g.D.Disk.moment g.D.Disk.image g.D.Disk.left_since c.args.self.now bodies _ clean.prefix clean.is_prefix _ _ first.0
 
 pub returns-in_err-write_through-clause-fault : goal.returns-in_err-write_through-clause-fault
 returns-in_err-write_through-clause-fault g c = on_err_weaker {P = Unit {0}} c.from_residual.result (λ _ bodies clean.
@@ -46,6 +52,17 @@ returns-in_err-write_through-2-clause-moments g c = λ bodies clean.
     let gated = subst (λ (l : List ℕ). EachImage (g.D.Disk.image c.write_through.new.disk) (IsGated clean.prefix 0 l)) c.bytes.ensures.framed placed in
     let second = opening_run g.D.Disk.image g.D.Disk.moment g.D.Disk.left_since c.write_through.new.disk c.write_through-2.new.disk clean.prefix (framed_of body) c.self.inside.end (g.D.Disk.counts_now _) ends c.write_through-2.ensures.torn (λ c' now. (0, gated c' now)) in
     opened_run g.D.Disk.moment g.D.Disk.image g.D.Disk.left_since c.args.self.now bodies _ clean.prefix clean.is_prefix _ _ _ (omega (arith, c.bytes.ensures.short)) first.0 second.0
+
+pub returns-in_err-write_through-2-clause-gates : goal.returns-in_err-write_through-2-clause-gates
+returns-in_err-write_through-2-clause-gates g c = λ bodies clean.
+    let body = c.args.framed.now in
+    let ends : length clean.prefix ≡ c.self.inside.end = clean.is_prefix.ends ∙ sym (ap (λ (h : JournalState). h.end) c.self.view_is) in
+    let first = closed_run g.D.Disk.image g.D.Disk.moment g.D.Disk.left_since c.args.disk.now c.write_through.new.disk clean.prefix c.self.inside.end _ (g.D.Disk.counts_now _) ends c.write_through.ensures.torn clean.closed in
+    let placed = over_run g.D.Disk.content g.D.Disk.image c.args.disk.now c.write_through.new.disk (c.self.inside.end + 1) c.bytes.result.now (IsClosed clean.prefix) (IsGated clean.prefix 0 c.bytes.result.now)
+    (g.D.Disk.reads_image _) (λ b closed. written_behind clean.prefix c.bytes.result.now b (c.self.inside.end + 1) (omega (arith, ends)) closed) clean.closed c.in_ok-write_through.ensures.written in
+    let gated = subst (λ (l : List ℕ). EachImage (g.D.Disk.image c.write_through.new.disk) (IsGated clean.prefix 0 l)) c.bytes.ensures.framed placed in
+    let second = opening_run g.D.Disk.image g.D.Disk.moment g.D.Disk.left_since c.write_through.new.disk c.write_through-2.new.disk clean.prefix (framed_of body) c.self.inside.end (g.D.Disk.counts_now _) ends c.write_through-2.ensures.torn (λ c' now. (0, gated c' now)) in
+    opened_gates g.D.Disk.moment g.D.Disk.image g.D.Disk.left_since c.args.self.now bodies _ clean.prefix clean.is_prefix _ _ _ first.0 second.0
 
 pub returns-in_err-write_through-2-clause-fault : goal.returns-in_err-write_through-2-clause-fault
 returns-in_err-write_through-2-clause-fault g c = on_err_weaker {P = Unit {0}} c.from_residual-in_err-write_through-2.result (λ _ bodies clean.
@@ -73,6 +90,17 @@ returns-clause-moments g c = λ bodies clean.
     let gated = subst (λ (l : List ℕ). EachImage (g.D.Disk.image c.write_through.new.disk) (IsGated clean.prefix 0 l)) c.bytes.ensures.framed placed in
     let second = opening_run g.D.Disk.image g.D.Disk.moment g.D.Disk.left_since c.write_through.new.disk c.write_through-2.new.disk clean.prefix (framed_of body) c.self.inside.end (g.D.Disk.counts_now _) ends c.write_through-2.ensures.torn (λ c' now. (0, gated c' now)) in
     opened_run g.D.Disk.moment g.D.Disk.image g.D.Disk.left_since c.args.self.now bodies _ clean.prefix clean.is_prefix _ _ _ (omega (arith, c.bytes.ensures.short)) first.0 second.0
+
+pub returns-clause-gates : goal.returns-clause-gates
+returns-clause-gates g c = λ bodies clean.
+    let body = c.args.framed.now in
+    let ends : length clean.prefix ≡ c.self.inside.end = clean.is_prefix.ends ∙ sym (ap (λ (h : JournalState). h.end) c.self.view_is) in
+    let first = closed_run g.D.Disk.image g.D.Disk.moment g.D.Disk.left_since c.args.disk.now c.write_through.new.disk clean.prefix c.self.inside.end _ (g.D.Disk.counts_now _) ends c.write_through.ensures.torn clean.closed in
+    let placed = over_run g.D.Disk.content g.D.Disk.image c.args.disk.now c.write_through.new.disk (c.self.inside.end + 1) c.bytes.result.now (IsClosed clean.prefix) (IsGated clean.prefix 0 c.bytes.result.now)
+    (g.D.Disk.reads_image _) (λ b closed. written_behind clean.prefix c.bytes.result.now b (c.self.inside.end + 1) (omega (arith, ends)) closed) clean.closed c.in_ok-write_through.ensures.written in
+    let gated = subst (λ (l : List ℕ). EachImage (g.D.Disk.image c.write_through.new.disk) (IsGated clean.prefix 0 l)) c.bytes.ensures.framed placed in
+    let second = opening_run g.D.Disk.image g.D.Disk.moment g.D.Disk.left_since c.write_through.new.disk c.write_through-2.new.disk clean.prefix (framed_of body) c.self.inside.end (g.D.Disk.counts_now _) ends c.write_through-2.ensures.torn (λ c' now. (0, gated c' now)) in
+    opened_gates g.D.Disk.moment g.D.Disk.image g.D.Disk.left_since c.args.self.now bodies _ clean.prefix clean.is_prefix _ _ _ first.0 second.0
 
 pub returns-clause-appended : goal.returns-clause-appended
 returns-clause-appended g c = λ bodies clean.

@@ -3,7 +3,7 @@ use Rattle.std.proofs.lemmas.Result.{on_err_weaker}
 use Rattle.journal_log.specs.Frames.{framed_of}
 use Rattle.journal_log.specs.Gates.{IsGated, IsOpening}
 use Rattle.journal_log.specs.JournalState.{JournalState}
-use Rattle.journal_log.proofs.AppendRuns.{gate_run, opening_run}
+use Rattle.journal_log.proofs.AppendRuns.{gate_run, doubtful_gates, opening_run}
 use Rattle.journal_log.proofs.GateWrites.{written_gate}
 use Rattle.journal_log.proofs.WriteRuns.{over_run}
 use Rattle.journal_log.proofs.Records.{length_opening, same_prefix}
@@ -20,6 +20,12 @@ returns-in_err-write_through-clause-moments g c = λ bodies body doubts.
     let ends : length doubts.prefix ≡ c.self.inside.end = doubts.is_prefix.ends ∙ sym (ap (λ (h : JournalState). h.end) c.self.view_is) in
     let run = opening_run g.D.Disk.image g.D.Disk.moment g.D.Disk.left_since c.args.disk.now c.write_through.new.disk doubts.prefix (framed_of body) c.self.inside.end (g.D.Disk.counts_now _) ends c.write_through.ensures.torn doubts.opening in
     gate_run g.D.Disk.moment g.D.Disk.image g.D.Disk.left_since c.args.self.now bodies body doubts.prefix doubts.is_prefix _ _ doubts.short run.0
+
+pub returns-in_err-write_through-clause-gates : goal.returns-in_err-write_through-clause-gates
+returns-in_err-write_through-clause-gates g c = λ bodies body doubts.
+    let ends : length doubts.prefix ≡ c.self.inside.end = doubts.is_prefix.ends ∙ sym (ap (λ (h : JournalState). h.end) c.self.view_is) in
+    let run = opening_run g.D.Disk.image g.D.Disk.moment g.D.Disk.left_since c.args.disk.now c.write_through.new.disk doubts.prefix (framed_of body) c.self.inside.end (g.D.Disk.counts_now _) ends c.write_through.ensures.torn doubts.opening in
+    doubtful_gates g.D.Disk.moment g.D.Disk.image g.D.Disk.left_since c.args.self.now bodies body doubts.prefix doubts.is_prefix _ _ run.0
 
 pub returns-in_err-write_through-clause-fault : goal.returns-in_err-write_through-clause-fault
 returns-in_err-write_through-clause-fault g c = on_err_weaker {P = Unit {0}} c.from_residual.result (λ _ bodies body doubts.
@@ -38,6 +44,12 @@ returns-clause-moments g c = λ bodies body doubts.
     let ends : length doubts.prefix ≡ c.self.inside.end = doubts.is_prefix.ends ∙ sym (ap (λ (h : JournalState). h.end) c.self.view_is) in
     let run = opening_run g.D.Disk.image g.D.Disk.moment g.D.Disk.left_since c.args.disk.now c.write_through.new.disk doubts.prefix (framed_of body) c.self.inside.end (g.D.Disk.counts_now _) ends c.write_through.ensures.torn doubts.opening in
     gate_run g.D.Disk.moment g.D.Disk.image g.D.Disk.left_since c.args.self.now bodies body doubts.prefix doubts.is_prefix _ _ doubts.short run.0
+
+pub returns-clause-gates : goal.returns-clause-gates
+returns-clause-gates g c = λ bodies body doubts.
+    let ends : length doubts.prefix ≡ c.self.inside.end = doubts.is_prefix.ends ∙ sym (ap (λ (h : JournalState). h.end) c.self.view_is) in
+    let run = opening_run g.D.Disk.image g.D.Disk.moment g.D.Disk.left_since c.args.disk.now c.write_through.new.disk doubts.prefix (framed_of body) c.self.inside.end (g.D.Disk.counts_now _) ends c.write_through.ensures.torn doubts.opening in
+    doubtful_gates g.D.Disk.moment g.D.Disk.image g.D.Disk.left_since c.args.self.now bodies body doubts.prefix doubts.is_prefix _ _ run.0
 
 pub returns-clause-repaired : goal.returns-clause-repaired
 returns-clause-repaired g c = λ bodies body doubts.

@@ -1,6 +1,7 @@
 use Rattle.std.proofs.Common.{ℕ, sym, subst}
 use Rattle.std.proofs.lemmas.Result.{on_ok_weaker}
 use Rattle.pod_disk.specs.Disk.{EachImage, LeavesOnly}
+use Rattle.journal_log.specs.CleanJournal.{IsWhileAppended}
 use Rattle.journal_log.specs.Images.{IsEither}
 use Rattle.journal_pair.specs.Sides.{active_of, other_of}
 use Rattle.journal_pair.specs.Stores.{IsPassedOver}
@@ -14,6 +15,11 @@ pub returns-clause-moments : goal.returns-clause-moments
 returns-clause-moments g c = λ bodies. subst (λ (s : PairState). IsPairClean g.D.Disk.image c.args.first.now c.args.second.now s bodies
     → LeavesOnly g.D.Disk.moment g.D.Disk.left_since (active_of s.active c.args.first.now c.args.second.now) (active_of s.active c.append_on.new.first c.append_on.new.second)
     (IsEither s.journal.format s.journal.epoch bodies c.args.framed.now)) c.self.view_is (λ clean. c.append_on.ensures.moments bodies clean.journal)
+
+pub returns-clause-gates : goal.returns-clause-gates
+returns-clause-gates g c = λ bodies. subst (λ (s : PairState). IsPairClean g.D.Disk.image c.args.first.now c.args.second.now s bodies
+    → LeavesOnly g.D.Disk.moment g.D.Disk.left_since (active_of s.active c.args.first.now c.args.second.now) (active_of s.active c.append_on.new.first c.append_on.new.second)
+    (IsWhileAppended s.journal.format s.journal.epoch bodies c.args.framed.now)) c.self.view_is (λ clean. c.append_on.ensures.gates bodies clean.journal)
 
 pub returns-clause-appended : goal.returns-clause-appended
 returns-clause-appended g c = on_ok_weaker c.append_on.result (λ appended bodies clean.

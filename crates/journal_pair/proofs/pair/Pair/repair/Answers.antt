@@ -1,6 +1,9 @@
-use Rattle.std.proofs.Common.{rules, ◌+◌, inr, sym, subst}
+use Rattle.std.proofs.Common.{rules, ◌+◌, ◌++◌, inr, sym, subst}
 use Rattle.std.proofs.lemmas.Result.{on_ok_weaker, on_err_weaker}
 use Rattle.pod_disk.specs.Disk.{LeavesOnly}
+use Rattle.journal_log.specs.Frames.{framed_of, opened}
+use Rattle.journal_log.specs.Gates.{IsOpening}
+use Rattle.journal_log.specs.Heads.{encoded_head}
 use Rattle.journal_log.specs.Images.{IsEither}
 use Rattle.journal_log.specs.Renewing.{IsNewJournal}
 use Rattle.journal_pair.specs.Sides.{active_of, other_of}
@@ -61,6 +64,12 @@ returns-clause-append_moments g c = λ bodies body.
     subst (λ (s : PairState). IsAppendInDoubt g.D.Disk.image c.args.first.now c.args.second.now s bodies body
     → LeavesOnly g.D.Disk.moment g.D.Disk.left_since (active_of s.active c.args.first.now c.args.second.now) (active_of s.active c.repair_on.new.first c.repair_on.new.second) (IsEither s.journal.format s.journal.epoch bodies body))
     c.self.view_is (λ doubt. c.repair_on.ensures.moments bodies body doubt.journal)
+
+pub returns-clause-append_gates : goal.returns-clause-append_gates
+returns-clause-append_gates g c = λ bodies body.
+    subst (λ (s : PairState). IsAppendInDoubt g.D.Disk.image c.args.first.now c.args.second.now s bodies body
+    → LeavesOnly g.D.Disk.moment g.D.Disk.left_since (active_of s.active c.args.first.now c.args.second.now) (active_of s.active c.repair_on.new.first c.repair_on.new.second) (IsOpening (encoded_head s.journal.format s.journal.epoch ++ opened bodies) (framed_of body)))
+    c.self.view_is (λ doubt. c.repair_on.ensures.gates bodies body doubt.journal)
 
 pub returns-clause-append_pairs : goal.returns-clause-append_pairs
 returns-clause-append_pairs g c = λ bodies body.
