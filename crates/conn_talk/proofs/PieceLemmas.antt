@@ -30,7 +30,8 @@ pub record EndedIn {A : Type 0} (rules : Rules A) (first last : A) (end : TalkEn
   pub front : List Heard
   pub more : List Heard
   pub cut : all ≡ front ++ more
-  pub ends : Ends rules end first last front written trail
+  pub number : ℕ
+  pub ends : Ends rules end number first last front written trail
   pub over : IsAll more (Err end)
 
 module _ {A : Type 0} (rules : Rules A) where
@@ -78,6 +79,7 @@ module _ {A : Type 0} (rules : Rules A) where
           front = a.heard ++ t.front;
           more = t.rest;
           cut = ap (λ h. a.heard ++ h) (sym t.cut) ∙ sym (append_assoc a.heard t.front t.rest);
+          number = number;
           ends = t.turns first a.heard written trail a.talks;
           over = t.over;
         }

@@ -67,8 +67,8 @@ module _ {A : Type 0} (rules : Rules A) where
   }
 
   -- whole events are ones that were cut off
-  pub whole_part : (upgraded : Bool) (first holder : A) (events : List Heard) (written trail : List ℕ) → EndsWhole rules upgraded first holder events written trail → EndsPart rules first holder events written trail
-  whole_part upgraded first holder events written trail e = record {
+  pub whole_part : (upgraded : Bool) (number : ℕ) (first holder : A) (events : List Heard) (written trail : List ℕ) (e : EndsWhole rules upgraded first holder events written trail) → number ≤ length e.items → EndsPart rules number first holder events written trail
+  whole_part upgraded number first holder events written trail e answered = record {
     items = e.items;
     refusal = e.refusal;
     are_items = e.are_items;
@@ -77,6 +77,7 @@ module _ {A : Type 0} (rules : Rules A) where
     refused = e.refused;
     output = whole_front _ _ e.output;
     lines = whole_front _ _ e.lines;
+    answered = answered;
   }
 
   module _ (first holder : A) (talked : ℕ) (before : List Heard) (written trail : List ℕ) (t : Talks rules first holder talked before written trail) where
@@ -104,8 +105,11 @@ module _ {A : Type 0} (rules : Rules A) where
       lines = t.lines;
     }
 
-    pub talks_part : EndsPart rules first holder before written trail
-    talks_part = whole_part false first holder before written trail talks_whole
+    pub talks_part : EndsPart rules talked first holder before written trail
+    unfolding talks_whole
+    talks_part =
+        let all : talked ≤ length t.items = omega (arith, t.number_is) in
+        whole_part false talked first holder before written trail talks_whole all
 
     same_lines : trail ++ [] ≡ trail_of rules.trails t.items
     same_lines = append-nil trail ∙ t.lines
@@ -138,7 +142,7 @@ module _ {A : Type 0} (rules : Rules A) where
     }
 
     -- a prefix of it was written
-    pub stops_inviting : (count : ℕ) → EndsPart rules first holder (before ++ heard.Interim ∷ []) (written ++ take count interim_text) (trail ++ [])
+    pub stops_inviting : (count : ℕ) → EndsPart rules talked first holder (before ++ heard.Interim ∷ []) (written ++ take count interim_text) (trail ++ [])
     stops_inviting count = record {
       items = t.items;
       refusal = None;
@@ -148,6 +152,7 @@ module _ {A : Type 0} (rules : Rules A) where
       refused = tt;
       output = subst (IsPrefix (written ++ take count interim_text)) interim_all (front_of_more written interim_text count);
       lines = whole_front _ _ same_lines;
+      answered = omega (arith, t.number_is);
     }
 
     -- ---- a malformed message
@@ -163,7 +168,7 @@ module _ {A : Type 0} (rules : Rules A) where
     }
 
     -- nothing was written of its refusal
-    pub stops_unrefused : (status : ℕ) → EndsPart rules first holder (before ++ heard.Bad status ∷ []) (written ++ []) (trail ++ [])
+    pub stops_unrefused : (status : ℕ) → EndsPart rules talked first holder (before ++ heard.Bad status ∷ []) (written ++ []) (trail ++ [])
     stops_unrefused status = record {
       items = t.items;
       refusal = None;
@@ -173,9 +178,10 @@ module _ {A : Type 0} (rules : Rules A) where
       refused = tt;
       output = whole_front _ _ (output_idle (heard.Bad status) None);
       lines = whole_front _ _ same_lines;
+      answered = omega (arith, t.number_is);
     }
 
-    pub ends_refused : (status moment : ℕ) → IsClockMoment rules.may_give moment → Ends rules (Bad status) first holder (before ++ heard.Bad status ∷ []) (written ++ refusal_bytes status moment) (trail ++ [])
+    pub ends_refused : (status moment : ℕ) → IsClockMoment rules.may_give moment → Ends rules (Bad status) talked first holder (before ++ heard.Bad status ∷ []) (written ++ refusal_bytes status moment) (trail ++ [])
     ends_refused status moment r = (
       record {
         items = t.items;
@@ -192,7 +198,7 @@ module _ {A : Type 0} (rules : Rules A) where
       is_bad status,
     )
 
-    pub stops_refusing : (status moment : ℕ) → IsClockMoment rules.may_give moment → (count : ℕ) → EndsPart rules first holder (before ++ heard.Bad status ∷ []) (written ++ take count (refusal_bytes status moment)) (trail ++ [])
+    pub stops_refusing : (status moment : ℕ) → IsClockMoment rules.may_give moment → (count : ℕ) → EndsPart rules talked first holder (before ++ heard.Bad status ∷ []) (written ++ take count (refusal_bytes status moment)) (trail ++ [])
     stops_refusing status moment r count = record {
       items = t.items;
       refusal = Some moment;
@@ -202,11 +208,12 @@ module _ {A : Type 0} (rules : Rules A) where
       refused = is_refused status moment r;
       output = subst (IsPrefix (written ++ take count (refusal_bytes status moment))) (output_idle (heard.Bad status) (Some moment)) (front_of_more written (refusal_bytes status moment) count);
       lines = whole_front _ _ same_lines;
+      answered = omega (arith, t.number_is);
     }
 
     -- ---- a request that has no item
     -- what was held back before it couldn't be sent
-    pub stops_unflushed : (request : Request) → EndsPart rules first holder (before ++ heard.Request request ∷ []) (written ++ []) (trail ++ [])
+    pub stops_unflushed : (request : Request) → EndsPart rules talked first holder (before ++ heard.Request request ∷ []) (written ++ []) (trail ++ [])
     stops_unflushed request = record {
       items = t.items;
       refusal = None;
@@ -216,10 +223,11 @@ module _ {A : Type 0} (rules : Rules A) where
       refused = tt;
       output = whole_front _ _ (output_idle (heard.Request request) None);
       lines = whole_front _ _ same_lines;
+      answered = omega (arith, t.number_is);
     }
 
     -- it had no place
-    pub ends_unplaced : (after : A) (request : Request) → rules.passes request holder after → EndsUnplaced rules first after (before ++ heard.Request request ∷ []) (written ++ []) (trail ++ [])
+    pub ends_unplaced : (after : A) (request : Request) → rules.passes request holder after → EndsUnplaced rules talked first after (before ++ heard.Request request ∷ []) (written ++ []) (trail ++ [])
     ends_unplaced after request passed = record {
       front = before;
       request = request;
@@ -228,6 +236,7 @@ module _ {A : Type 0} (rules : Rules A) where
       number = talked;
       talks = subst (λ l. Talks rules first holder talked before (written ++ []) l) (sym (append-nil trail))
           (subst (λ w. Talks rules first holder talked before w trail) (sym (append-nil written)) t);
+      answered = omega arith;
       passed = passed;
     }
 
@@ -307,11 +316,11 @@ module _ {A : Type 0} (rules : Rules A) where
 
       -- it is the last
       pub ends_last : upgraded ≡ false → closes_after request (talked + 1) ≡ true → talked < REQUEST_LIMIT
-          → Ends rules (if talked + 1 == REQUEST_LIMIT then Limit else Closed) first after all_heard (written ++ text) (trail ++ line)
+          → Ends rules (if talked + 1 == REQUEST_LIMIT then Limit else Closed) talked first after all_heard (written ++ text) (trail ++ line)
       ends_last plain last few =
           let served_so : EndsWhole rules false first after all_heard (written ++ text) (trail ++ line) =
           subst (λ (b : Bool). EndsWhole rules b first after all_heard (written ++ text) (trail ++ line)) plain served in
-          elim (talked + 1 == REQUEST_LIMIT) as (λ b. (talked + 1 == REQUEST_LIMIT) ≡ b → Ends rules (if b then Limit else Closed) first after all_heard (written ++ text) (trail ++ line)) [
+          elim (talked + 1 == REQUEST_LIMIT) as (λ b. (talked + 1 == REQUEST_LIMIT) ≡ b → Ends rules (if b then Limit else Closed) talked first after all_heard (written ++ text) (trail ++ line)) [
             | true ↦ λ e.
                 let most : talked + 1 ≡ REQUEST_LIMIT = grind (arith, nat_tests) in
                 (served_so, not_open last, requests_count ∙ most, no_bad_now)
@@ -321,11 +330,11 @@ module _ {A : Type 0} (rules : Rules A) where
           ] refl
 
       -- it switched protocols
-      pub ends_upgraded_so : upgraded ≡ true → Ends rules Upgraded first after all_heard (written ++ text) (trail ++ line)
+      pub ends_upgraded_so : upgraded ≡ true → Ends rules Upgraded talked first after all_heard (written ++ text) (trail ++ line)
       ends_upgraded_so e = subst (λ (b : Bool). EndsWhole rules b first after all_heard (written ++ text) (trail ++ line)) e served
 
       -- a prefix of its bytes was written, and of its line
-      pub stops_answering : (count many : ℕ) → EndsPart rules first after all_heard (written ++ take count text) (trail ++ take many line)
+      pub stops_answering : (count many : ℕ) → EndsPart rules talked first after all_heard (written ++ take count text) (trail ++ take many line)
       stops_answering count many = record {
         items = all_items;
         refusal = None;
@@ -335,6 +344,7 @@ module _ {A : Type 0} (rules : Rules A) where
         refused = tt;
         output = subst (IsPrefix (written ++ take count text)) all_bytes (front_of_more written text count);
         lines = subst (IsPrefix (trail ++ take many line)) all_lines (front_of_more trail line many);
+        answered = omega (arith, t.number_is, count_now);
       }
 
   -- how `100 Continue` ends, after whatever events
@@ -346,7 +356,7 @@ module _ {A : Type 0} (rules : Rules A) where
         take part.0 interim_text,
         part.2,
         λ first before written trail t.
-            subst (λ x. Ends rules x first holder (before ++ heard.Interim ∷ []) (written ++ take part.0 interim_text) (trail ++ [])) (sym e)
+            subst (λ x. Ends rules x talked first holder (before ++ heard.Interim ∷ []) (written ++ take part.0 interim_text) (trail ++ [])) (sym e)
             (stops_inviting first holder talked before written trail t part.0),
       )
 
@@ -357,7 +367,7 @@ module _ {A : Type 0} (rules : Rules A) where
     refusal_bytes status r.1.0,
     r.1.2,
     λ first before written trail t.
-        subst (λ n. Ends rules (Bad n) first holder (before ++ heard.Bad status ∷ []) (written ++ refusal_bytes status r.1.0) (trail ++ [])) (sym r.0)
+        subst (λ n. Ends rules (Bad n) talked first holder (before ++ heard.Bad status ∷ []) (written ++ refusal_bytes status r.1.0) (trail ++ [])) (sym r.0)
         (ends_refused first holder talked before written trail t status r.1.0 r.1.1),
   )
   refused_turns holder talked status NoMemory old new r =
@@ -397,8 +407,40 @@ module _ {A : Type 0} (rules : Rules A) where
   -- what was held back before a request couldn't be sent
   pub unflushed_turns : (holder : A) (talked : ℕ) (request : Request) (end : TalkEnd) → end ≡ WriteFault → Turns rules holder talked holder talked (heard.Request request ∷ []) [] [] (Err end)
   unflushed_turns holder talked request end is = λ first before written trail t.
-      subst (λ x. Ends rules x first holder (before ++ heard.Request request ∷ []) (written ++ []) (trail ++ [])) (sym is)
+      subst (λ x. Ends rules x talked first holder (before ++ heard.Request request ∷ []) (written ++ []) (trail ++ [])) (sym is)
       (stops_unflushed first holder talked before written trail t request)
+
+  -- fewer had been answered before an end
+  part_of_fewer : (few many : ℕ) (first new : A) (events : List Heard) (written trail : List ℕ) → few ≤ many → EndsPart rules many first new events written trail → EndsPart rules few first new events written trail
+  part_of_fewer few many first new events written trail less e = record {
+    items = e.items;
+    refusal = e.refusal;
+    are_items = e.are_items;
+    requests = e.requests;
+    last = e.last;
+    refused = e.refused;
+    output = e.output;
+    lines = e.lines;
+    answered = omega (arith, less, e.answered);
+  }
+
+  ends_of_fewer : (end : TalkEnd) (few many : ℕ) (first new : A) (events : List Heard) (written trail : List ℕ) → few ≤ many → Ends rules end many first new events written trail → Ends rules end few first new events written trail
+  ends_of_fewer Closed few many first new events written trail less e = e
+  ends_of_fewer Limit few many first new events written trail less e = e
+  ends_of_fewer Upgraded few many first new events written trail less e = e
+  ends_of_fewer (Bad status) few many first new events written trail less e = e
+  ends_of_fewer WriteFault few many first new events written trail less e = part_of_fewer few many first new events written trail less e
+  ends_of_fewer NoMemory few many first new events written trail less e = part_of_fewer few many first new events written trail less e
+  ends_of_fewer NoPlace few many first new events written trail less e = record {
+    front = e.front;
+    request = e.request;
+    events_are = e.events_are;
+    mid = e.mid;
+    number = e.number;
+    talks = e.talks;
+    answered = omega (arith, less, e.answered);
+    passed = e.passed;
+  }
 
   -- one list after another
   pub turns_behind : (old middle new : A) (number number_2 number_3 : ℕ) (those more : List Heard) (text bytes lines lines_2 : List ℕ) (result : Result (Unit {0}) TalkEnd)
@@ -410,10 +452,13 @@ module _ {A : Type 0} (rules : Rules A) where
       (subst (λ x. Talks rules first new number_3 x ((written ++ text) ++ bytes) ((trail ++ lines) ++ lines_2)) (append_assoc before those more)
       (k first (before ++ those) (written ++ text) (trail ++ lines) (h first before written trail t))))
   turns_behind old middle new number number_2 number_3 those more text bytes lines lines_2 (Err end) h k = λ first before written trail t.
-      subst (λ l. Ends rules end first new (before ++ (those ++ more)) (written ++ (text ++ bytes)) l) (append_assoc trail lines lines_2)
-      (subst (λ w. Ends rules end first new (before ++ (those ++ more)) w ((trail ++ lines) ++ lines_2)) (append_assoc written text bytes)
-      (subst (λ x. Ends rules end first new x ((written ++ text) ++ bytes) ((trail ++ lines) ++ lines_2)) (append_assoc before those more)
-      (k first (before ++ those) (written ++ text) (trail ++ lines) (h first before written trail t))))
+      let middle_talks = h first before written trail t in
+      let less : number ≤ number_2 = omega (arith, count_is first old number before written trail t, count_is first middle number_2 (before ++ those) (written ++ text) (trail ++ lines) middle_talks, ap length (requests_append before those), length-append (requests_of before) (requests_of those)) in
+      ends_of_fewer end number number_2 first new (before ++ (those ++ more)) (written ++ (text ++ bytes)) (trail ++ (lines ++ lines_2)) less
+      (subst (λ l. Ends rules end number_2 first new (before ++ (those ++ more)) (written ++ (text ++ bytes)) l) (append_assoc trail lines lines_2)
+      (subst (λ w. Ends rules end number_2 first new (before ++ (those ++ more)) w ((trail ++ lines) ++ lines_2)) (append_assoc written text bytes)
+      (subst (λ x. Ends rules end number_2 first new x ((written ++ text) ++ bytes) ((trail ++ lines) ++ lines_2)) (append_assoc before those more)
+      (k first (before ++ those) (written ++ text) (trail ++ lines) middle_talks))))
 
   pub nothing_turned : (holder : A) (talked : ℕ) → Turns rules holder talked holder talked [] [] [] (Ok tt)
   nothing_turned holder talked = λ first before written trail t.

@@ -18,7 +18,7 @@ module _ (kept : History → Type 0) (first conn : ℕ) where
   turn_later clock before after item (answered place reply) t =
       prefix_trans before t.entries after t.seen_before (prefix_trans t.entries (t.entries ++ option_to_list reply.entry) after (option_to_list reply.entry, refl) t.seen_after)
   turn_later clock before after item no_memory t = t
-  turn_later clock before after item disk_fault t = t.0
+  turn_later clock before after item disk_fault t = t.seen_after
 
   module _ (may_give : ℕ → Type 0) where
     -- what was seen is seen still
@@ -40,7 +40,16 @@ module _ (kept : History → Type 0) (first conn : ℕ) where
       seen_after = t.seen_after;
     }
     turn_from clock before mid after item no_memory p t = prefix_trans before mid after p t
-    turn_from clock before mid after item disk_fault p t = (prefix_trans before mid after p t.0, t.1)
+    turn_from clock before mid after item disk_fault p t = record {
+      changes = t.changes;
+      entries = t.entries;
+      seen_before = prefix_trans before mid t.entries p t.seen_before;
+      reply = t.reply;
+      entry = t.entry;
+      replies = t.replies;
+      entry_is = t.entry_is;
+      seen_after = prefix_trans before mid after p t.seen_after;
+    }
 
     pub walk_from : (items : List Item) (before mid after : List Entry) → IsPrefix before mid → Walk kept first conn may_give mid items after → Walk kept first conn may_give before items after
     walk_from [] before mid after p w = prefix_trans before mid after p w
@@ -66,7 +75,7 @@ module _ (kept : History → Type 0) (first conn : ℕ) where
           (subst (λ (h : History). Owes may_give conn h item (answered place reply)) (longer_again history (t.entries ++ own) all.0)
           (owes_longer may_give conn (longer history (t.entries ++ own)) all.0 item (answered place reply) is here))
       owed clock given before after list item no_memory is t p = tt
-      owed clock given before after list item disk_fault is t p = t.1
+      owed clock given before after list item disk_fault is t p = t.changes
 
       pub walk_answers : (items : List Item) (before after list : List Entry) → Walk kept first conn may_give before items after → IsPrefix after list → AllByRecursion (IsItem may_give conn (longer history list)) items
       walk_answers [] before after list w p = tt
@@ -85,7 +94,7 @@ module _ (kept : History → Type 0) (first conn : ℕ) where
       climbs clock before mid item no_memory t zs after k =
           falls_from (end_of (longer history before)) (end_of (longer history mid)) after zs (omega (arith, prefix_length before mid t, length-append history.entries before, length-append history.entries mid)) k
       climbs clock before mid item disk_fault t zs after k =
-          falls_from (end_of (longer history before)) (end_of (longer history mid)) after zs (omega (arith, prefix_length before mid t.0, length-append history.entries before, length-append history.entries mid)) k
+          falls_from (end_of (longer history before)) (end_of (longer history mid)) after zs (omega (arith, prefix_length before mid t.seen_after, length-append history.entries before, length-append history.entries mid)) k
 
       pub walk_places : (items : List Item) (before after : List Entry) → Walk kept first conn may_give before items after → NeverFalls (end_of (longer history before)) (flat_map places_of items) (end_of (longer history after))
       walk_places [] before after w = omega (arith, prefix_length before after w, length-append history.entries before, length-append history.entries after)

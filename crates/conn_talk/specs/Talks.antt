@@ -92,8 +92,9 @@ module _ {A : Type 0} (rules : Rules A) where
     pub lines : trail ≡ trail_of rules.trails items
 
   -- The connection was cut off in these events: the bytes written are a prefix of what its items
-  -- write, and the trail is a prefix of theirs.
-  pub record EndsPart (first new : A) (events : List Heard) (written trail : List ℕ)
+  -- write, and the trail is a prefix of theirs. So many requests had been answered before, and each
+  -- of them has an item.
+  pub record EndsPart (number : ℕ) (first new : A) (events : List Heard) (written trail : List ℕ)
       : Type 0 where
     pub items : List Item
     pub refusal : Option ℕ
@@ -103,9 +104,11 @@ module _ {A : Type 0} (rules : Rules A) where
     pub refused : IfSome refusal (IsRefused rules.may_give events items)
     pub output : IsPrefix written (output_of events items refusal)
     pub lines : IsPrefix trail (trail_of rules.trails items)
+    pub answered : number ≤ length items
 
-  -- The last of these events is a request that had no place. Those before it were answered.
-  pub record EndsUnplaced (first new : A) (events : List Heard) (written trail : List ℕ)
+  -- The last of these events is a request that had no place. Those before it were answered, among
+  -- them so many requests that had been answered before.
+  pub record EndsUnplaced (before : ℕ) (first new : A) (events : List Heard) (written trail : List ℕ)
       : Type 0 where
     pub front : List Heard
     pub request : Request
@@ -113,22 +116,28 @@ module _ {A : Type 0} (rules : Rules A) where
     pub mid : A
     pub number : ℕ
     pub talks : Talks first mid number front written trail
+    pub answered : before ≤ number
     pub passed : rules.passes request mid new
 
-  -- The events have ended the connection so, and these bytes were written.
-  abbrev pub Ends : TalkEnd → A → A → List Heard → List ℕ → List ℕ → Type 0
-  Ends Closed first new events written trail = EndsWhole false first new events written trail
+  -- The events have ended the connection so, and these bytes were written. So many requests had
+  -- been answered before them.
+  abbrev pub Ends : TalkEnd → ℕ → A → A → List Heard → List ℕ → List ℕ → Type 0
+  Ends Closed number first new events written trail = EndsWhole false first new events written trail
       × (StaysOpen 0 events → ⊥)
       × (length (requests_of events) < REQUEST_LIMIT) × (bad_status events ≡ None)
-  Ends Limit first new events written trail = EndsWhole false first new events written trail
+  Ends Limit number first new events written trail = EndsWhole false first new events written trail
       × (StaysOpen 0 events → ⊥)
       × (length (requests_of events) ≡ REQUEST_LIMIT) × (bad_status events ≡ None)
-  Ends Upgraded first new events written trail = EndsWhole true first new events written trail
-  Ends (Bad status) first new events written trail =
+  Ends Upgraded number first new events written trail =
+      EndsWhole true first new events written trail
+  Ends (Bad status) number first new events written trail =
       EndsWhole false first new events written trail × (bad_status events ≡ Some status)
-  Ends WriteFault first new events written trail = EndsPart first new events written trail
-  Ends NoMemory first new events written trail = EndsPart first new events written trail
-  Ends NoPlace first new events written trail = EndsUnplaced first new events written trail
+  Ends WriteFault number first new events written trail =
+      EndsPart number first new events written trail
+  Ends NoMemory number first new events written trail =
+      EndsPart number first new events written trail
+  Ends NoPlace number first new events written trail =
+      EndsUnplaced number first new events written trail
 
   -- After these events the connection continues, or has ended, whatever the events before them:
   -- these bytes follow those that were written, and these lines the trail.
@@ -141,7 +150,7 @@ module _ {A : Type 0} (rules : Rules A) where
   Turns old number new number_now hears text lines (Err end) =
       (first : A) (before : List Heard) (written trail : List ℕ)
       → Talks first old number before written trail
-      → Ends end first new (before ++ hears) (written ++ text) (trail ++ lines)
+      → Ends end number first new (before ++ hears) (written ++ text) (trail ++ lines)
 
   -- The same of a list of which an end may leave the rest unanswered.
   pub record TurnsIn (old : A) (number : ℕ) (new : A) (number_now : ℕ) (hears : List Heard)

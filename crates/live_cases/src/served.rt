@@ -2,7 +2,7 @@
 ghost use Rattle.std.specs.Prelude.{◌≡◌, ◌+◌, ◌<◌, ◌≤◌, [], IfOk, length};
 ghost use Rattle.pod_core.specs.History.{History};
 ghost use Rattle.pod_keeper.specs.Kept.{StandsForSome};
-ghost use Rattle.pod_keeper.specs.KeeperState.{version_in};
+ghost use Rattle.pod_keeper.specs.KeeperState.{KeeperState, version_in};
 ghost use Rattle.pod_live.specs.Stores.{IsSafe, KeptSome};
 
 use crate::links::numbers;
@@ -14,7 +14,7 @@ use pod_core::is_change;
 use pod_disk::{Disk, Disks};
 use pod_io::{Gate, Link, MemGate, MemLink, SetClock};
 use pod_live::{
-    CommittedEntry, Keeper, Live, Names, Rounds, Seat, Session, StoreName, answer_read,
+    CommittedEntry, Keeper, KeeperName, Live, Names, Rounds, Seat, Session, StoreName, answer_read,
 };
 use pod_serve::{ConnEnd, Desk, Post, Wires, serve, serve_conn};
 use published_view::{Places, ViewName};
@@ -109,7 +109,7 @@ fn request(alloc: Global, method: Method, body: &[u8]) -> Mem<Request> {
 }
 
 /// Has a session put a document. Returns the status.
-fn change<N: ViewName<CommittedEntry> + StoreName, D: Disk, R: Wait>(
+fn change<N: ViewName<CommittedEntry> + StoreName + KeeperName<D>, D: Disk, R: Wait>(
     rt: &R,
     alloc: Global,
     live: &Live<N, D>,
@@ -145,7 +145,7 @@ fn read<N: ViewName<CommittedEntry> + StoreName>(
 }
 
 /// Has the first session put a document, and the last one get it and look once more.
-fn visit<N: ViewName<CommittedEntry> + StoreName, D: Disk, R: Wait>(
+fn visit<N: ViewName<CommittedEntry> + StoreName + KeeperName<D>, D: Disk, R: Wait>(
     rt: &R,
     alloc: Global,
     live: &Live<N, D>,
@@ -213,7 +213,7 @@ fn serve_desks<
 }
 
 /// Serves the first connection of the first gate.
-fn connection<N: ViewName<CommittedEntry> + StoreName, D: Disk, R: Wait>(
+fn connection<N: ViewName<CommittedEntry> + StoreName + KeeperName<D>, D: Disk, R: Wait>(
     rt: &R,
     alloc: Global,
     live: &Live<N, D>,
@@ -247,7 +247,7 @@ fn tell_desks<N: ViewName<CommittedEntry> + StoreName>(
 
 /// Does that with the sessions of a store.
 fn do_work<
-    N: ViewName<CommittedEntry> + StoreName + Send + Sync,
+    N: ViewName<CommittedEntry> + StoreName + KeeperName<D> + Send + Sync,
     D: Disk + Send,
     R: Threads + Wait + Sync,
 >(
@@ -296,7 +296,7 @@ fn seat_all<N: ViewName<CommittedEntry> + StoreName>(
 
 /// Publishes the store of a keeper, works with it, and closes it.
 fn serve_once<
-    N: ViewName<CommittedEntry> + StoreName + Send + Sync,
+    N: ViewName<CommittedEntry> + StoreName + KeeperName<D> + Send + Sync,
     D: Disk + Send,
     R: Threads + Wait + Sync,
 >(
@@ -317,6 +317,7 @@ fn serve_once<
     requires kept { (history : History) → N.kept history → KeptSome D.image keeper history }
     requires stands { StandsForSome D.image keeper }
     requires safe { N.safe → IsSafe D.image keeper }
+    requires began { (old : KeeperState D) → N.began old → keeper ≡ old }
     requires counted { N.counted ≡ D.faults keeper.first + D.faults keeper.second }
     requires few { (0 < readers) × (readers < 65) }
 {

@@ -81,7 +81,7 @@ module _ {D : Type 0} (image : D → List ℕ → Type 0) (count : D → ℕ) (k
       }
 
   pub planned_here : (state : LockState D) → IsBooked image count kept safe opened opening counted state → (request : Request) (asked : AskedAgent) (stamp : Stamp) (plan : Plan) → IsTrue (is_change request.method)
-      → IsPlan image state.keeper request asked stamp plan → IsPlannedHere kept opened.next state.list state.keeper request asked stamp plan
+      → IsPlan image state.keeper request asked stamp plan → IsPlannedHere image kept opened.next state.list state.keeper request asked stamp plan
   planned_here state booked request asked stamp plan changes is =
       let replies : RepliesAtEnd kept state.list request asked stamp is.reply = λ h k. let s = booked.stands h k in is.at_end (longer h state.list) s.0 s.1 s.2 in
       record {
@@ -92,6 +92,7 @@ module _ {D : Type 0} (image : D → List ℕ → Type 0) (count : D → ℕ) (k
         place_is = is.place_is ∙ (ap (λ (v : VersionState). v.next) booked.version ∙ states_next opened state.list);
         moment_is = λ h k. let s = booked.stands h k in ap (λ (m : Moment). m.0) (is.moment_at_end (longer h state.list) s.0 s.1 s.2);
         entry_is = is.entry_is;
+        plans = record { reply = is.reply; entry_is = is.entry_is; at_end = is.at_end };
         planned = is.planned;
         sent = is.sent;
         status = is.status;
@@ -106,9 +107,9 @@ some_of None is = absurd (cc is)
 some_of (Some x) is = (x, refl)
 
 -- a change that met a disk fault
-pub faulted_at : {D : Type 0} (kept : History → Type 0) (first : ℕ) (list seen : List Entry) (keeper : KeeperState D) (request : Request) (asked : AskedAgent) (stamp : Stamp) (plan : Plan)
-    → IsPlannedHere kept first list keeper request asked stamp plan → IsPrefix seen list → IsTrue (is_change request.method) → IsSome (planned_entry plan.next) → FaultedAt kept seen request asked stamp
-faulted_at kept first list seen keeper request asked stamp plan is after changes had =
+pub faulted_at : {D : Type 0} (image : D → List ℕ → Type 0) (kept : History → Type 0) (first : ℕ) (list seen : List Entry) (keeper : KeeperState D) (request : Request) (asked : AskedAgent) (stamp : Stamp) (plan : Plan)
+    → IsPlannedHere image kept first list keeper request asked stamp plan → IsPrefix seen list → IsTrue (is_change request.method) → IsSome (planned_entry plan.next) → FaultedAt kept seen request asked stamp
+faulted_at image kept first list seen keeper request asked stamp plan is after changes had =
     let one = some_of is.reply.entry (subst (λ (o : Option Entry). IsSome o) is.entry_is had) in
     record {
       entries = list;

@@ -2,3 +2,4 @@
 mod BookLemmas
 mod EventLemmas
 mod ReadLemmas
+mod TakeLemmas

@@ -2,6 +2,7 @@
 pub mod Stores
 pub mod WorldEvents
 pub mod Visits
+pub mod Takes
 -- internal: cited by private clauses alone
 pub mod Locks
 pub mod VersionReplies

@@ -1,5 +1,5 @@
 -- What a store's lock protects, and what its holder does.
-use Rattle.std.specs.Prelude.{◌≡◌, ℕ, ◌+◌, List, ◌++◌, length, IfSome}
+use Rattle.std.specs.Prelude.{◌≡◌, ℕ, ◌+◌, List, ◌++◌, length, IfSome, Option}
 use Rattle.std.specs.Option.{option_to_list}
 use mathlib.Core.List.{IsPrefix}
 use Rattle.pod_base.specs.declared.moment.Stamp.{Stamp}
@@ -7,7 +7,8 @@ use Rattle.pod_base.specs.declared.request.Request.{Request}
 use Rattle.pod_base.specs.declared.response.Response.{Response}
 use Rattle.pod_command.specs.declared.entry.Entry.{Entry}
 use Rattle.pod_core.specs.History.{History, longer}
-use Rattle.pod_keeper.specs.Kept.{StandsForSome}
+use Rattle.pod_core.specs.KeeperSteps.{IsReplyAtEnd}
+use Rattle.pod_keeper.specs.Kept.{Doubt, IsKept, StandsForSome}
 use Rattle.pod_keeper.specs.KeeperState.{KeeperState, version_in}
 use Rattle.pod_keeper.specs.Plans.{IsPlannedAt, planned_entry}
 use Rattle.pod_keeper.specs.declared.plan.Plan.{Plan}
@@ -40,11 +41,20 @@ pub record IsBooked {D : Type 0} (image : D → List ℕ → Type 0) (count : D 
   pub grown : length state.list ≡ length opening + state.changes
   pub covers : Covers counted state.faults (count state.keeper.first) (count state.keeper.second)
 
+-- One reply is that at the end of each history that the keeper represents, and it has this entry,
+-- where there is one.
+pub record PlansEntry {D : Type 0} (image : D → List ℕ → Type 0) (keeper : KeeperState D)
+    (request : Request) (asked : AskedAgent) (stamp : Stamp) (entry : Option Entry) : Type 0 where
+  pub reply : Reply
+  pub entry_is : entry ≡ reply.entry
+  pub at_end : (history : History) (place : ℕ) (doubt : Doubt)
+      → IsKept image keeper history place doubt → IsReplyAtEnd history request asked stamp reply
+
 -- What a change comes to under the lock, with these entries published: one reply is that at the end
 -- of each history that was kept, with these entries.
-pub record IsPlannedHere {D : Type 0} (kept : History → Type 0) (first : ℕ) (list : List Entry)
-    (keeper : KeeperState D) (request : Request) (asked : AskedAgent) (stamp : Stamp) (plan : Plan)
-    : Type 0 where
+pub record IsPlannedHere {D : Type 0} (image : D → List ℕ → Type 0) (kept : History → Type 0)
+    (first : ℕ) (list : List Entry) (keeper : KeeperState D) (request : Request)
+    (asked : AskedAgent) (stamp : Stamp) (plan : Plan) : Type 0 where
   pub reply : Reply
   pub replies : RepliesAtEnd kept list request asked stamp reply
   pub events : IsChange kept list request asked stamp reply
@@ -52,6 +62,7 @@ pub record IsPlannedHere {D : Type 0} (kept : History → Type 0) (first : ℕ) 
   pub place_is : plan.done.place ≡ first + length list
   pub moment_is : IsMomentAtEnd kept list stamp plan.moment.0
   pub entry_is : planned_entry plan.next ≡ reply.entry
+  pub plans : PlansEntry image keeper request asked stamp (planned_entry plan.next)
   pub planned : IfSome plan.next (IsPlannedAt keeper)
   pub sent : IsSent plan.done.response
   pub status : IsNoFailure plan.done.response.status

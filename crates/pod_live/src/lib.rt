@@ -14,7 +14,10 @@
 //! the end of what its session has seen by one look (`read`, `given`); when the sessions are
 //! gathered, or the store is closed, all have seen one list, whose length is the sum of their
 //! changes (`one_list`); the keeper then represents that list, and each disk fault of a change was
-//! counted by a disk (`faults`).
+//! counted by a disk (`faults`). The changes that were carried to the disks are steps of the keeper,
+//! one after the other, from the one that the store was opened with; at each moment a crash leaves
+//! the history with the entries of the changes before, or that with the one in doubt or under way
+//! (`TookChanges`, `moments_are_of_changes`).
 //!
 //! `specs/WorldEvents.antt` says the same as events of a world with many connections: a read is one
 //! look at the list that was published then (`look`), and a change takes the lock, is written to the
@@ -25,6 +28,7 @@
 //! on `pod_core` for replies.
 #![tactic(auto)]
 
+mod laws;
 mod live;
 mod locked;
 mod names;
@@ -32,8 +36,9 @@ mod read;
 mod session;
 mod shown;
 
+pub use laws::moments_are_of_changes;
 pub use live::{Live, NotLive, Rounds};
-pub use names::{Changes, Faults, Names, StoreName};
+pub use names::{Changes, Faults, KeeperName, Names, StoreName};
 pub use pod_keeper::{CommitFault, Done, Keeper, NotOpened, Version};
 pub use read::{PlacedResponse, answer_read};
 pub use session::{Seat, Session};

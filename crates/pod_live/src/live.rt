@@ -7,7 +7,7 @@ ghost use Rattle.pod_base.specs.EachTo.{EachTo};
 ghost use Rattle.pod_command.specs.declared.entry.Entry.{Entry};
 ghost use Rattle.pod_core.specs.History.{History, longer};
 ghost use Rattle.pod_keeper.specs.Kept.{StandsForSome};
-ghost use Rattle.pod_keeper.specs.KeeperState.{version_in};
+ghost use Rattle.pod_keeper.specs.KeeperState.{KeeperState, version_in};
 ghost use Rattle.published_view.specs.LookerState.{CountIncreasedByOne, IsNewLooker};
 ghost use Rattle.published_view.specs.declared.fault.ViewFault.TheVariants as ViewFault;
 ghost use Rattle.reply_laws.specs.Granted.{is_change};
@@ -16,10 +16,11 @@ ghost use Rattle.reply_laws.specs.Sent.{IsSent};
 ghost use Rattle.token_table.specs.Credentials.{asked_view};
 ghost use Rattle.pod_live.specs.Locks.{Decided};
 ghost use Rattle.pod_live.specs.Stores.{Covers, IsSafe, KeptSome};
+ghost use Rattle.pod_live.specs.Takes.{TakenItem, Took, TookChanges};
 ghost use Rattle.pod_live.specs.Visits.{Changed, FaultedAt, IsFaulted, IsNewVisit, Meets};
 
 use crate::locked::Locked;
-use crate::names::{Changes, Faults, Names, StoreName};
+use crate::names::{Changes, Faults, KeeperName, Names, StoreName};
 use crate::read::PlacedResponse;
 use crate::session::{Seat, Session};
 use crate::shown::{CommittedEntry, PodTold, Shown};
@@ -38,7 +39,7 @@ use std::sync::{Arc, Mutex, MutexGuard, Wait};
 use token_table::Asked;
 
 /// A store under a lock: its keeper, and the publisher of the keeper's versions.
-pub struct Live<N: ViewName<V::Item> + StoreName, D: Disk, V: PodTold = Shown<N>>
+pub struct Live<N: ViewName<V::Item> + StoreName + KeeperName<D>, D: Disk, V: PodTold = Shown<N>>
 where
     VersionWithList<V, N>: KeptTwice,
 {
@@ -55,6 +56,10 @@ pub struct NotLive<D: Disk> {
 /// The calls by which many sessions are served. They name no disk, so that threads over the
 /// sessions of one store can be given it.
 pub trait Rounds<N: ViewName<CommittedEntry> + StoreName> {
+    /// The changes that were carried to the disks since the store was opened, in the order of the
+    /// lock, may be these: one after the other they are steps of the store's keeper.
+    ghost takes: { ListOf TakenItem → Type 0 };
+
     /// Answers a change under the lock, makes its entry durable, where it has one, publishes the
     /// version after it, and makes one look. A look that is refused is made again; one that is out
     /// of memory counts.
@@ -89,7 +94,8 @@ pub trait Rounds<N: ViewName<CommittedEntry> + StoreName> {
         ensures one_list { (list : ListOf Entry) × IsPrefix N.opening list
             × (length list ≡ length N.opening + sum_by (λ s. s.session.changes) seats.old)
             × EachTo (λ old new. Meets list old.session new.session × (new.rest ≡ old.rest))
-            seats.old seats.new };
+            seats.old seats.new
+            × Took takes list (sum_by (λ s. s.session.faults) seats.old) };
 }
 
 /// The version of a keeper, which the store was opened with.
@@ -153,7 +159,7 @@ fn meet_all<X: Drop, N: ViewName<CommittedEntry> + StoreName, R: Wait>(
 }
 
 /// What the lock protects, of a store that was just opened.
-fn opened_lock<N: ViewName<CommittedEntry> + StoreName, D: Disk>(
+fn opened_lock<N: ViewName<CommittedEntry> + StoreName + KeeperName<D>, D: Disk>(
     keeper: Keeper<D>,
     publisher: Publisher<Shown<N>, N>,
     changes: Book<Changes<N>>,
@@ -166,6 +172,7 @@ fn opened_lock<N: ViewName<CommittedEntry> + StoreName, D: Disk>(
     requires kept { (history : History) → N.kept history → KeptSome D.image keeper history }
     requires stands { StandsForSome D.image keeper }
     requires safe { N.safe → IsSafe D.image keeper }
+    requires began { (old : KeeperState D) → N.began old → keeper ≡ old }
     requires counted { N.counted ≡ D.faults keeper.first + D.faults keeper.second }
     requires totals { (changes.total ≡ 0) × (faults.total ≡ 0) }
     requires no_changes { (no_change.parts ≡ 0) × (no_change.amount ≡ 0) }
@@ -182,7 +189,7 @@ fn opened_lock<N: ViewName<CommittedEntry> + StoreName, D: Disk>(
     }
 }
 
-impl<N: ViewName<CommittedEntry> + StoreName, D: Disk> Live<N, D> {
+impl<N: ViewName<CommittedEntry> + StoreName + KeeperName<D>, D: Disk> Live<N, D> {
     /// Publishes the version of a keeper, for so many sessions, 1 to 64.
     ///
     /// # Errors
@@ -206,6 +213,7 @@ impl<N: ViewName<CommittedEntry> + StoreName, D: Disk> Live<N, D> {
         requires kept { (history : History) → N.kept history → KeptSome D.image keeper history }
         requires stands { StandsForSome D.image keeper }
         requires safe { N.safe → IsSafe D.image keeper }
+        requires began { (old : KeeperState D) → N.began old → keeper ≡ old }
         requires counted { N.counted ≡ D.faults keeper.first + D.faults keeper.second }
         requires readers { (0 < readers) × (readers ≤ READERS_LIMIT) }
         ensures sessions { IfOk result (λ live. length live.1.items ≡ N.parts) }
@@ -290,7 +298,9 @@ impl<N: ViewName<CommittedEntry> + StoreName, D: Disk> Live<N, D> {
             → KeptSome D.image result (longer history list))
             × (length list ≡ length N.opening + sum_by (λ s. s.session.changes) seats.old)
             × EachTo (λ old new. Meets list old.session new.session × (new.rest ≡ old.rest))
-            seats.old seats.new }
+            seats.old seats.new
+            × TookChanges D.image D.moment D.left_since N.began list
+            (sum_by (λ s. s.session.faults) seats.old) result }
         ensures stands { StandsForSome D.image result }
         ensures safe { N.safe → IsSafe D.image result }
         ensures faults { Covers N.counted (sum_by (λ s. s.session.faults) seats.old)
@@ -351,7 +361,13 @@ impl<N: ViewName<CommittedEntry> + StoreName, D: Disk> Live<N, D> {
     }
 }
 
-impl<N: ViewName<CommittedEntry> + StoreName, D: Disk> Rounds<N> for Live<N, D> {
+impl<N: ViewName<CommittedEntry> + StoreName + KeeperName<D>, D: Disk> Rounds<N> for Live<N, D> {
+    ghost use Rattle.pod_keeper.specs.KeeperState.{KeeperState};
+    ghost use Rattle.pod_live.specs.Takes.{LeadsFrom};
+
+    ghost takes = { λ taken. (left : KeeperState D)
+        × LeadsFrom D.image D.moment D.left_since N.began taken left };
+
     fn commit<R: Wait>(
         &self,
         rt: &R,

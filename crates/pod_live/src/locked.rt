@@ -1,5 +1,5 @@
 //! What the lock of a store protects.
-ghost use Rattle.std.specs.Prelude.{◌≡◌, ◌<◌, ◌+◌, ◌-◌, ◌^◌, ◌++◌, ◌∷◌, [], IsErrOf, IfOk, IfSome};
+ghost use Rattle.std.specs.Prelude.{◌≡◌, ◌<◌, ◌+◌, ◌-◌, ◌^◌, ◌++◌, ◌∷◌, [], IsErrOf, IfOk, IfSome, Some};
 ghost use Rattle.std.specs.Prelude.{IsSome, IsTrue, OnOk, OnErr, length, sum_by};
 ghost use Rattle.std.specs.Option.{option_to_list};
 ghost use mathlib.Core.List.{IsPrefix};
@@ -9,10 +9,10 @@ ghost use Rattle.reply_laws.specs.Granted.{is_change};
 ghost use Rattle.reply_laws.specs.Laws.{IsNoFailure};
 ghost use Rattle.reply_laws.specs.Sent.{IsSent};
 ghost use Rattle.token_table.specs.Credentials.{asked_view};
-ghost use Rattle.pod_live.specs.Locks.{Decided, IsPlannedHere};
+ghost use Rattle.pod_live.specs.Locks.{Decided, IsPlannedHere, PlansEntry};
 ghost use Rattle.pod_live.specs.Visits.{FaultedAt, IsFaulted};
 
-use crate::names::{Changes, Faults, StoreName};
+use crate::names::{Changes, Faults, KeeperName, StoreName};
 use crate::read::PlacedResponse;
 use crate::session::{Seat, Session};
 use crate::shown::{CommittedEntry, PodTold, Shown};
@@ -27,7 +27,7 @@ use std::sync::ledger::{Book, Share};
 use token_table::Asked;
 
 /// What the lock protects: the keeper, the publisher, and the two ledgers.
-pub struct Locked<N: ViewName<V::Item> + StoreName, D: Disk, V: PodTold = Shown<N>>
+pub struct Locked<N: ViewName<V::Item> + StoreName + KeeperName<D>, D: Disk, V: PodTold = Shown<N>>
 where
     VersionWithList<V, N>: KeptTwice,
 {
@@ -40,12 +40,14 @@ where
     pub(crate) no_fault: Share<Faults<N>>,
 }
 
-impl<N: ViewName<V::Item> + StoreName, D: Disk, V: PodTold> Model for Locked<N, D, V>
+impl<N: ViewName<V::Item> + StoreName + KeeperName<D>, D: Disk, V: PodTold> Model
+    for Locked<N, D, V>
 where
     VersionWithList<V, N>: KeptTwice,
 {
     ghost use Rattle.std.specs.Prelude.{◌≡◌};
     ghost use Rattle.pod_live.specs.Locks.{LockState, IsBooked};
+    ghost use Rattle.pod_live.specs.Takes.{TookChanges};
 
     ghost Value = { LockState D };
 
@@ -63,21 +65,27 @@ where
           changes = l.changes.total;
           faults = l.faults.total;
         }) × (l.no_change.parts ≡ 0) × (l.no_change.amount ≡ 0) × (l.no_fault.parts ≡ 0)
-        × (l.no_fault.amount ≡ 0) };
+        × (l.no_fault.amount ≡ 0) × TookChanges D.image D.moment D.left_since N.began
+        (V.entries l.publisher.list) l.faults.total l.keeper };
 }
 
-impl<N: ViewName<CommittedEntry> + StoreName, D: Disk> Locked<N, D> {
-    /// Makes an entry durable, publishes it, and counts it; or counts a fault.
+impl<N: ViewName<CommittedEntry> + StoreName + KeeperName<D>, D: Disk> Locked<N, D> {
+    /// Makes the entry of a change durable, publishes it, and counts it; or counts a fault.
     fn enter<R: Wait>(
         &mut self,
         rt: &R,
         alloc: Global,
+        request: &Request,
+        asked: &Asked<'_>,
+        stamp: Stamp,
         planned: Planned,
         of_changes: &mut Share<Changes<N>>,
         of_faults: &mut Share<Faults<N>>,
     ) -> Result<(), CommitFault>
         requires parts { (0 < of_changes.old.parts) × (0 < of_faults.old.parts) }
         requires planned { IsPlannedAt self.old.keeper planned }
+        requires plans { PlansEntry D.image self.old.keeper request.now (asked_view asked.now) stamp
+            (Some (bare_entry planned.entry)) }
         ensures list { OnOk result
             (self.new.list ≡ self.old.list ++ bare_entry planned.entry ∷ []) }
         ensures amount { OnOk result (of_changes.new.amount ≡ of_changes.old.amount + 1) }
@@ -120,11 +128,16 @@ impl<N: ViewName<CommittedEntry> + StoreName, D: Disk> Locked<N, D> {
         rt: &R,
         alloc: Global,
         session: &mut Session<N>,
+        request: &Request,
+        asked: &Asked<'_>,
+        stamp: Stamp,
         next: Option<Planned>,
     ) -> Result<(), CommitFault>
         requires changes { session.old.changes < 2 ^ 64 - 1 }
         requires faults { session.old.faults < 2 ^ 64 - 1 }
         requires planned { IfSome next (IsPlannedAt self.old.keeper) }
+        requires plans { PlansEntry D.image self.old.keeper request.now (asked_view asked.now) stamp
+            (planned_entry next) }
         ensures list { OnOk result
             (self.new.list ≡ self.old.list ++ option_to_list (planned_entry next)) }
         ensures session { OnOk result (session.new ≡ record session.old {
@@ -140,6 +153,9 @@ impl<N: ViewName<CommittedEntry> + StoreName, D: Disk> Locked<N, D> {
         match self.enter(
             rt,
             alloc,
+            request,
+            asked,
+            stamp,
             planned,
             &mut session.of_changes,
             &mut session.of_faults,
@@ -193,7 +209,7 @@ impl<N: ViewName<CommittedEntry> + StoreName, D: Disk> Locked<N, D> {
             return Err(CommitFault::NoMemory);
         };
         let Plan { done, moment, next } = plan;
-        match self.carry_out(rt, alloc, session, next) {
+        match self.carry_out(rt, alloc, session, request, asked, stamp, next) {
             Ok(()) => {
                 self.tell(session);
                 let Done { response, place } = done;
@@ -211,7 +227,7 @@ impl<N: ViewName<CommittedEntry> + StoreName, D: Disk> Locked<N, D> {
     /// What a change comes to here.
     fn plan(&self, alloc: Global, request: &Request, asked: &Asked<'_>, stamp: Stamp) -> Mem<Plan>
         requires { IsTrue (is_change request.now.method) }
-        ensures { IfOk result (λ plan. IsPlannedHere N.kept N.opened.next self.now.list
+        ensures { IfOk result (λ plan. IsPlannedHere D.image N.kept N.opened.next self.now.list
             self.now.keeper request.now (asked_view asked.now) stamp plan) }
     {
         match self.keeper.plan(alloc, request, asked, stamp) {

@@ -2,6 +2,7 @@
 ghost use Rattle.std.specs.Prelude.{◌≡◌, ℕ};
 ghost use Rattle.pod_core.specs.History.{History, IsHistory};
 ghost use Rattle.pod_keeper.specs.Kept.{version_of};
+ghost use Rattle.pod_keeper.specs.KeeperState.{KeeperState};
 ghost use Rattle.pod_pages.specs.State.{VersionState};
 
 use crate::shown::CommittedEntry;
@@ -62,6 +63,16 @@ impl StoreName for Brand {
     ghost faults = { 0 };
 
     ghost parts = { 0 };
+}
+
+/// The name of the keeper that a store was opened with, beside its other names ([`StoreName`]).
+pub trait KeeperName<D> {
+    /// Which it is: this holds of that keeper alone, or of none.
+    ghost began: { KeeperState D → Type 0 };
+}
+
+impl<D> KeeperName<D> for Brand {
+    ghost began = { λ _. ⊥ };
 }
 
 /// The ledger of changes: how many entries each session added.

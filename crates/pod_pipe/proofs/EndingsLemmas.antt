@@ -150,8 +150,8 @@ module _ {A H : Type 0} (stands : H → History → Option Entry → Type 0) (fa
   }
 
   -- the connection was cut off
-  pub stopped_of : (events : List Heard) (written trail : List ℕ) → EndsPart (holder_rules stands faults takes holder_of may_give asking trails) first last events written trail → IsStopped may_give asking trails begun holder_leaves events written trail
-  stopped_of events written trail e = record {
+  pub stopped_of : (number : ℕ) (events : List Heard) (written trail : List ℕ) → EndsPart (holder_rules stands faults takes holder_of may_give asking trails) number first last events written trail → IsStopped may_give asking trails begun holder_leaves events written trail
+  stopped_of number events written trail e = record {
     session = session_of may_give asking trails begun holder_leaves e.items e.refusal;
     continues = continues may_give asking trails begun holder_leaves e.items (session_items e.items e.are_items) events e.refusal e.requests e.last e.refused;
     left = (chained e.items e.are_items).left;

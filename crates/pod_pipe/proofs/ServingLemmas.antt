@@ -100,15 +100,15 @@ module _ {A : Type 0} (rules : Rules A) where
     pub has_place : (those : List Heard) (after : A) (number_now : ℕ) (text lines : List ℕ) (end : TalkEnd) → ((request : Request) (old new : A) → rules.passes request old new → ⊥)
         → TurnsIn rules holder number after number_now those text lines (Err end) → end ≡ talks.NoPlace → ⊥
     has_place those after number_now text lines end placed t is =
-        let e : Ends rules talks.NoPlace first after (s.answering.heard ++ t.front) (s.written ++ text) (s.trail ++ lines) =
-        subst (λ x. Ends rules x first after (s.answering.heard ++ t.front) (s.written ++ text) (s.trail ++ lines)) is (t.turns first s.answering.heard s.written s.trail s.answering.talks) in
+        let e : Ends rules talks.NoPlace number first after (s.answering.heard ++ t.front) (s.written ++ text) (s.trail ++ lines) =
+        subst (λ x. Ends rules x number first after (s.answering.heard ++ t.front) (s.written ++ text) (s.trail ++ lines)) is (t.turns first s.answering.heard s.written s.trail s.answering.talks) in
         placed e.request e.mid after e.passed
 
   -- `serves` and `stops`: what the ends of the connection say of one history, where `last` is what
   -- answered at the end
   module _ (may_give : ℕ → Type 0) (asking : Request → AskedAgent) (trails : Bool) (begun : History) (leaves : List Item → Type 0) (first last : A)
       (serves : (upgraded : Bool) (events : List Heard) (written trail : List ℕ) → EndsWhole rules upgraded first last events written trail → IsServed may_give asking trails begun leaves upgraded events written trail)
-      (stops : (events : List Heard) (written trail : List ℕ) → EndsPart rules first last events written trail → IsStopped may_give asking trails begun leaves events written trail) where
+      (stops : (number : ℕ) (events : List Heard) (written trail : List ℕ) → EndsPart rules number first last events written trail → IsStopped may_give asking trails begun leaves events written trail) where
     module _ (stage : ParserState) (number : ℕ) (old_input new_input old_output new_output old_errors new_errors : Option (List ℕ)) (pieces : ℕ) (s : Serving rules first stage last number old_input new_input old_output new_output old_errors new_errors pieces) where
       messages : Messages s.text s.answering.heard (rest_of stage)
       messages = answering_messages rules first stage last number s.text s.written s.trail s.answering
@@ -188,7 +188,7 @@ module _ {A : Type 0} (rules : Rules A) where
         trail = s.trail;
         reads = reads;
         hears = first_heard s.text piece s.answering.heard [] (rest_of stage) (subst (λ h. Messages s.text h (rest_of stage)) (sym (append-nil s.answering.heard)) messages);
-        serves = stops s.answering.heard s.written s.trail (talks_part rules first last number s.answering.heard s.written s.trail s.answering.talks);
+        serves = stops number s.answering.heard s.written s.trail (talks_part rules first last number s.answering.heard s.written s.trail s.answering.talks);
         writes = s.writes;
         trails_too = s.trails_too;
       }
@@ -211,8 +211,8 @@ module _ {A : Type 0} (rules : Rules A) where
           subst (λ (h : List Heard). IsServed may_give asking trails begun leaves true h written trail) (sym e.cut)
           (served_longer may_give asking trails begun leaves e.front e.more written trail (serves true e.front written trail e.ends))
       written_so (talks.Bad status) e = serves false e.front written trail e.ends.0
-      written_so talks.WriteFault e = stops e.front written trail e.ends
-      written_so talks.NoMemory e = stops e.front written trail e.ends
+      written_so talks.WriteFault e = stops e.number e.front written trail e.ends
+      written_so talks.NoMemory e = stops e.number e.front written trail e.ends
       written_so talks.NoPlace e = absurd (placed e.ends.request e.ends.mid last e.ends.passed)
 
     pub ended : (stage : ParserState) (holder : A) (number number_now : ℕ) (old_input new_input old_output new_output old_errors new_errors : Option (List ℕ)) (pieces : ℕ) (s : Serving rules first stage holder number old_input new_input old_output new_output old_errors new_errors pieces)

@@ -1,9 +1,16 @@
 -- A link that a session served is a connection that was served.
-use Rattle.std.proofs.Common.{◌≡◌, inl, inr, ℕ, ◌≤◌, true, false, List, Option, sym, ap, subst, ◌∙◌, arith}
+use Rattle.std.proofs.Common.{◌≡◌, inl, inr, ℕ, ◌≤◌, true, false, List, [], ◌++◌, length, map, IfSome, Option, Some, None, sym, ap, subst, ◌∙◌, arith}
+use Rattle.std.proofs.lemmas.List.{append-nil}
+use mathlib.Core.List.{IsPrefix}
+use Rattle.conn_talk.proofs.HeardLemmas.{requests_append}
 use Rattle.conn_talk.specs.Turns.{Rules}
 use Rattle.conn_talk.specs.Walks.{Walk}
 use Rattle.conn_talk.proofs.WalkLemmas.{walk_is_session}
+use Rattle.http_conn.specs.Messages.{Messages}
+use Rattle.http_conn.proofs.EndLemmas.{ends_there as ends_after}
+use Rattle.http_conn.proofs.Parses.{messages_one}
 use Rattle.pod_base.specs.Counts.{CountIncreased}
+use Rattle.pod_base.proofs.Prefixes.{prefix_trans}
 use Rattle.pod_base.specs.declared.heard.Heard.{Heard}
 use Rattle.pod_base.specs.declared.request.Request.{Request}
 use Rattle.pod_command.specs.declared.entry.Entry.{Entry}
@@ -15,13 +22,16 @@ use Rattle.pod_live.specs.Visits.{IsTurnedAway, Visit}
 use Rattle.pod_pages.specs.State.{VersionState}
 use Rattle.published_view.specs.LookerState.{CountIncreasedByOne}
 use Rattle.token_table.specs.Credentials.{AskedAgent}
-use Rattle.pod_serve.specs.Served.{HasCause, IsAllWritten, IsWritten, Items, LinkView}
+use Rattle.pod_core.specs.Session.{IsRefused, Item, requests_of}
+use Rattle.world_laws.proofs.WorldLists.{nothing_more}
+use Rattle.pod_serve.specs.Served.{HasCause, IsAllWritten, IsHeard, IsWritten, Items, LinkView}
 use Rattle.pod_serve.specs.Turns.{IsNoted}
 use Rattle.pod_serve.specs.declared.upgrade.Upgrade.{Upgrade}
 use Rattle.pod_serve.specs.Serving.{IsLeft, IsLinkServed, SeatPasses, SeatTurns}
 use Rattle.pod_serve.specs.declared.requests_end.RequestsEnd.{RequestsEnd}
 use Rattle.pod_serve.specs.declared.requests_end.RequestsEnd.TheVariants as ends
 use Rattle.pod_serve.proofs.SeatedLemmas.{chain_notes, chain_walks}
+use Rattle.pod_serve.proofs.WorldRunLemmas.{is_run}
 
 -- what a session has seen and counted stays
 pub record IsSameVisit (old new : Visit) : Type 0 where
@@ -48,6 +58,34 @@ away_visit old new away = record {
 
 increased : (old new : ℕ) → CountIncreasedByOne old new → CountIncreased old new
 increased old new c = λ below. omega (arith, c.1, below)
+
+-- a text has one parse
+same_heard : (read : List ℕ) (events all : List Heard) (left rest : ℕ) → Messages read events left → Messages read all rest → IsPrefix events all
+same_heard read events all left rest h m = ([], append-nil events ∙ (messages_one read events all left rest h m).0)
+
+-- what was heard comes first in all that there is to hear
+heard_within : (end : RequestsEnd) (read : List ℕ) (events : List Heard) (left : Option (List ℕ)) → IsHeard end read events left → (all : List Heard) (rest : ℕ) → Messages read all rest → IsPrefix events all
+heard_within ends.PeerEnded read events left h all rest m = same_heard read events all 0 rest h.0 m
+heard_within (ends.CutShort cut) read events left h all rest m = same_heard read events all cut rest h.0 m
+heard_within ends.Closed read events left h all rest m = same_heard read events all 0 rest h.0 m
+heard_within ends.LimitReached read events left h all rest m = same_heard read events all 0 rest h.0 m
+heard_within ends.Upgraded read events left h all rest m = same_heard read events all h.0 rest h.1 m
+heard_within (ends.BadMessage status) read events left h all rest m = same_heard read events all 0 rest h.0 m
+heard_within ends.Quiet read events left h all rest m = same_heard read events all h.0 rest h.1 m
+heard_within ends.NoPlace read events left h all rest m = same_heard read events all h.0 rest h.1 m
+heard_within ends.LinkFault read events left h all rest m = (h.3.0, sym h.3.1 ∙ (messages_one read h.0 all h.1 rest h.2 m).0)
+heard_within ends.NoMemory read events left h all rest m =
+    let w = h.whole all rest m in (w.0, sym w.1)
+
+requests_within : (items : List Item) (events all : List Heard) → IsPrefix events all → IsPrefix (map (λ (item : Item). item.request) items) (requests_of events) → IsPrefix (map (λ (item : Item). item.request) items) (requests_of all)
+requests_within items events all p q = prefix_trans (map (λ (item : Item). item.request) items) (requests_of events) (requests_of all) q (requests_of p.0, sym (requests_append events p.0) ∙ ap requests_of p.1)
+
+refused_within : (may_give : ℕ → Type 0) (read : List ℕ) (events all : List Heard) (rest : ℕ) → Messages read all rest → IsPrefix events all → (items : List Item) (refusal : Option ℕ) → IfSome refusal (IsRefused may_give events items) → IfSome refusal (IsRefused may_give all items)
+refused_within may_give read events all rest m p items None r = tt
+refused_within may_give read events all rest m p items (Some moment) r =
+    let none : p.0 ≡ [] = nothing_more 0 events p.0 r.bad (ends_after read (events ++ p.0) rest (subst (λ h. Messages read h rest) (sym p.1) m)) in
+    let same : events ≡ all = sym (append-nil events) ∙ (ap (λ h. events ++ h) (sym none) ∙ p.1) in
+    subst (λ h. IsRefused may_give h items moment) same r
 
 module _ {A X Y : Type 0} (name : A → X) (mark : A → Y) (visit : A → Visit) (noted : A → Option Upgrade) (base : List ℕ) (kept : History → Type 0) (first conn : ℕ) (may_give : ℕ → Type 0) (asking : Request → AskedAgent) where
   abbrev seat_rules : Rules A
@@ -110,6 +148,11 @@ module _ {A X Y : Type 0} (name : A → X) (mark : A → Y) (visit : A → Visit
               written = s.written;
               items = s.items;
               reads = s.reads;
+              arrivals = s.arrivals;
+              run = λ all rest m place le.
+                  let within = heard_within end s.read s.events now.rest s.hears all rest m in
+                  is_run kept first may_give asking conn ends_there s.read all rest m (visit new).seen (length s.items.list) s.arrivals.pieces s.items.list s.items.refusal (visit old).seen s.arrivals.text s.arrivals.in_turn s.are_items.numbers s.are_items.asked walk s.last
+                  (requests_within s.items.list s.events all within s.requests) (refused_within may_give s.read s.events all rest m within s.items.list s.items.refusal s.refused) place le;
               hears = s.hears;
               walk = walk;
               session = λ history k list p. walk_is_session seat_rules kept first s.events s.items.list s.items.refusal (visit old).seen (visit new).seen old s.mid s.are_items s.requests s.last s.refused walk history k (ends_there history k) list p;

@@ -1,14 +1,16 @@
 -- The connections of a desk, one more.
-use Rattle.std.proofs.Common.{◌≡◌, ◌≢◌, ◌⊎◌, inl, inr, ℕ, Bool, true, false, ◌+◌, ◌≤◌, if◌then◌else◌, List, [], ◌∷◌, ◌++◌, length, length-append, map, Option, Some, None, refl, sym, ap, subst, append_assoc, ◌∙◌, arith}
+use Rattle.std.proofs.Common.{◌≡◌, ◌≢◌, ◌⊎◌, inl, inr, ℕ, suc, Bool, true, false, ◌+◌, ◌<◌, ◌≤◌, if◌then◌else◌, slice_index_or, List, [], ◌∷◌, ◌++◌, length, length-append, map, Option, Some, None, refl, sym, ap, subst, append_assoc, ◌∙◌, arith}
 use Rattle.std.specs.List.{AllByRecursion}
 use Rattle.std.specs.Option.{option_map}
 use Rattle.std.proofs.lemmas.List.{append-nil}
+use Rattle.pod_base.specs.EachTo.{EachTo}
 use Rattle.pod_base.specs.declared.request.Request.{Request}
+use Rattle.pod_command.specs.declared.entry.Entry.{Entry}
 use Rattle.pod_core.specs.History.{History}
 use Rattle.pod_io.specs.Counts.{next_count}
-use Rattle.pod_live.specs.Visits.{Visit}
+use Rattle.pod_live.specs.Visits.{Meets, Visit}
 use Rattle.token_table.specs.Credentials.{AskedAgent}
-use Rattle.pod_serve.specs.Desks.{Conns, DeskServed, GateView, IsDeskEnd, IsGateLeft, NoneOutOfMemory, ServedLink, SomeOutOfMemory}
+use Rattle.pod_serve.specs.Desks.{Conns, DeskServed, EachDeskServed, GateView, IsDeskServed, IsDeskEnd, IsGateLeft, NoneOutOfMemory, ServedLink, SomeOutOfMemory}
 use Rattle.pod_serve.specs.Connections.{ConnServed}
 use Rattle.pod_serve.specs.Served.{LinkView}
 use Rattle.pod_serve.specs.Turns.{IsOneServed, NextServed}
@@ -162,3 +164,30 @@ module _ (kept : History → Type 0) (first : ℕ) (may_give : ℕ → Type 0) (
           | true ↦ λ e. served_so NoMemory gate refl refl (s.poor e, inr (inl (s.count_is ∙ all, s.ended)))
           | false ↦ λ e. served_so GateEnded gate refl refl (s.fine e, inr (s.count_is ∙ all, s.ended))
         ] refl)
+
+-- ---- many desks
+
+module _ (kept : History → Type 0) (first : ℕ) (may_give : ℕ → Type 0) (asking : Request → AskedAgent) {S G C : Type 0} (view : C → LinkView) (gate_view : G → GateView C) (session : S → Visit) (gate : S → G) (told : S → Option DeskEnd) (step : ℕ) where
+  abbrev ServedAt : ℕ → S → S → Type 0
+  ServedAt number old new = IsDeskServed kept first may_give asking view step number (session old) (session new) (told new) (gate_view (gate old)) (gate_view (gate new))
+
+  abbrev ServedFrom : ℕ → List S → List S → Type 0
+  ServedFrom number old new = (i : ℕ) (d : S) → i < length old → ServedAt (i + number) (slice_index_or old i d) (slice_index_or new i d)
+
+  -- each by its index
+  pub each_served : (number : ℕ) (old new : List S) → length new ≡ length old → ServedFrom number old new → EachDeskServed kept first may_give asking view gate_view session gate told step number old new
+  each_served number [] [] same served = tt
+  each_served number [] (n ∷ ns) same served = absurd (omega (arith, same))
+  each_served number (o ∷ os) [] same served = absurd (omega (arith, same))
+  each_served number (o ∷ os) (n ∷ ns) same served = (
+    subst (λ k. ServedAt k o n) (omega arith) (served 0 o (omega arith)),
+    each_served (number + 1) os ns (omega (arith, same)) (λ i d less. subst (λ k. ServedAt k (slice_index_or os i d) (slice_index_or ns i d)) (omega arith) (served (suc i) d (omega (arith, less)))),
+  )
+
+-- what stays of a desk that saw a list
+pub met_parts : {S P G T : Type 0} (us bs : List S) (session : S → Visit) (rest : S → P) (gate : P → G) (told : P → T) (list : List Entry) → EachTo (λ old new. Meets list (session old) (session new) × (rest new ≡ rest old)) us bs
+    → EachTo (λ old new. Meets list (session old) (session new) × (gate (rest new) ≡ gate (rest old)) × (told (rest new) ≡ told (rest old))) us bs
+met_parts [] [] session rest gate told list h = tt
+met_parts [] (b ∷ bs) session rest gate told list h = absurd h
+met_parts (a ∷ us) [] session rest gate told list h = absurd h
+met_parts (a ∷ us) (b ∷ bs) session rest gate told list h = ((h.0.0, ap gate h.0.1, ap told h.0.1), met_parts us bs session rest gate told list h.1)

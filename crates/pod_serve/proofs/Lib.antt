@@ -1,3 +1,4 @@
+mod ArrivalLemmas
 mod ConnLemmas
 mod DeskLemmas
 mod LinkLemmas
@@ -5,4 +6,6 @@ mod PieceLemmas
 mod PoddLemmas
 mod SeatedLemmas
 mod SentLemmas
+mod WorldRunLemmas
+mod WorldStepLemmas
 pub mod NoticeLemmas

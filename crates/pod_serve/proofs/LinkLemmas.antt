@@ -1,5 +1,5 @@
 -- A link between two reads, and how its connection ends.
-use Rattle.std.proofs.Common.{◌≡◌, ◌⊎◌, inl, inr, IfSome, ℕ, ◌+◌, ◌-◌, ◌^◌, ◌<◌, ◌≤◌, ◌==◌, true, false, if◌then◌else◌, List, [], ◌∷◌, ◌++◌, take, drop, Option, Some, None, refl, sym, ap, subst, append_assoc, ◌∙◌, arith}
+use Rattle.std.proofs.Common.{◌≡◌, ◌⊎◌, inl, inr, IfSome, ℕ, ◌+◌, ◌-◌, ◌^◌, ◌<◌, ◌≤◌, ◌==◌, true, false, if◌then◌else◌, List, [], ◌∷◌, ◌++◌, length, take, drop, Option, Some, None, refl, sym, ap, subst, append_assoc, ◌∙◌, arith}
 use Rattle.std.specs.Option.{option_map}
 use Rattle.std.proofs.lemmas.Bool.Decides.{nat_tests}
 use Rattle.std.proofs.lemmas.List.{append-nil}
@@ -24,11 +24,12 @@ use Rattle.pod_io.specs.Counts.{next_count}
 use Rattle.pod_live.specs.Visits.{Visit}
 use Rattle.pod_pipe.specs.Statuses.{Hears}
 use Rattle.pod_pipe.specs.Streams.{AtEnd, Reads}
-use Rattle.pod_serve.specs.Served.{HasCause, IsAllWritten, IsWritten, Items, LinkView, MeetsEnd}
+use Rattle.pod_serve.specs.Served.{HasCause, end_reads, IsAllWritten, IsReadIn, IsTakenUp, IsWritten, Items, LinkView, MeetsEnd}
 use Rattle.pod_serve.specs.Serving.{AfterTurn, FinishesAs, IsAnswered, IsEnded, IsLinkServed, IsOpenLink, IsReadLink, IsWrittenTo, requests_end_of, taken_with, unsent_end}
 use Rattle.pod_serve.specs.declared.requests_end.RequestsEnd.{RequestsEnd}
 use Rattle.pod_serve.specs.declared.requests_end.RequestsEnd.TheVariants as ends
 use Rattle.pod_serve.specs.declared.conn_end.TheConstants.{QUIET_LIMIT}
+use Rattle.pod_serve.proofs.ArrivalLemmas.{end_arrives, none_arrives, one_arrives, then_answered}
 use Rattle.pod_serve.proofs.PieceLemmas.{all_requests, has_items, is_whole}
 
 -- ---- texts that were sent
@@ -87,6 +88,13 @@ module _ {A : Type 0} (rules : Rules A) (first : A) (start : LinkView) (stage : 
     abbrev all_items : Items
     all_items = record { list = whole.items; refusal = whole.refusal }
 
+    -- as many items as requests were answered
+    all_answered : number ≤ length all_items.list
+    all_answered = omega (arith, s.talks.number_is, has_items s.talks.items s.events s.talks.requests, has_items whole.items s.events whole.requests)
+
+    taken_up : IsTakenUp number text
+    taken_up = record { events = s.events; rest = rest_of stage; messages = messages; stays = s.talks.stays; answered = omega (arith, s.talks.number_is, has_items s.talks.items s.events s.talks.requests) }
+
     all_written : IsAllWritten false s.events all_items written
     all_written = record {
       whole = is_whole s.events all_items (has_items whole.items s.events whole.requests) whole.refuses;
@@ -105,6 +113,7 @@ module _ {A : Type 0} (rules : Rules A) (first : A) (start : LinkView) (stage : 
       text = s.text;
       written = s.written;
       reads = subst (Reads s.text start.rest) (sym w.rest_is) s.reads;
+      arrivals = none_arrives number s.text start.counts.reads view.counts.reads next.counts.reads 0 w.reads s.arrivals;
       answered = s.answered;
       writes = same ∙ s.writes;
       more = s.more ++ w.more;
@@ -115,6 +124,13 @@ module _ {A : Type 0} (rules : Rules A) (first : A) (start : LinkView) (stage : 
       read_faults = omega (arith, s.read_faults, w.read_faults);
       write_faults = omega (arith, s.write_faults, w.write_faults);
     }
+
+    -- what was read, where each request has an item
+    all_arrived : {ended : ℕ} (counted : ℕ) → IsReadIn number ended s.text start.counts.reads counted → IsReadIn (length (all_items s.text s.written t).list) ended s.text start.counts.reads counted
+    all_arrived {ended} counted r = then_answered number (length (all_items s.text s.written t).list) ended s.text start.counts.reads counted (all_answered s.text s.written t) r
+
+    same_arrived : (next : LinkView) → next.counts.reads ≡ view.counts.reads → IsReadIn number 0 s.text start.counts.reads next.counts.reads
+    same_arrived next same = none_arrives number s.text start.counts.reads view.counts.reads next.counts.reads 0 same s.arrivals
 
     -- a write failed
     pub write_failed : CountIncreased start.counts.write_faults view.counts.write_faults → IsLinkServed rules ends.LinkFault first now start view
@@ -127,6 +143,7 @@ module _ {A : Type 0} (rules : Rules A) (first : A) (start : LinkView) (stage : 
           writes = part.1;
           events = t.events;
           items = all_items s.text s.written t;
+          arrivals = all_arrived view.counts.reads s.arrivals;
           hears = (t.events, rest_of stage, messages s.text s.written t, ([], sym (append-nil t.events)));
           mid = now;
           are_items = end.are_items;
@@ -145,8 +162,8 @@ module _ {A : Type 0} (rules : Rules A) (first : A) (start : LinkView) (stage : 
       sent_all = sym (none_waits waiting view.sent none) ∙ s.writes
 
       -- a read failed
-      pub read_failed : (next : LinkView) → next.rest ≡ view.rest → next.sent ≡ view.sent → CountIncreased view.counts.read_faults next.counts.read_faults → next.counts.ends ≡ view.counts.ends → IsLinkServed rules ends.LinkFault first now start next
-      read_failed next same_rest same_sent rose same_ends =
+      pub read_failed : (next : LinkView) → next.rest ≡ view.rest → next.sent ≡ view.sent → CountIncreased view.counts.read_faults next.counts.read_faults → next.counts.ends ≡ view.counts.ends → next.counts.reads ≡ view.counts.reads → IsLinkServed rules ends.LinkFault first now start next
+      read_failed next same_rest same_sent rose same_ends same_reads =
           let end = whole s.text s.written t in
           let rose_all = rose_since start.counts.read_faults view.counts.read_faults next.counts.read_faults s.read_faults rose in record {
             read = s.text;
@@ -155,6 +172,7 @@ module _ {A : Type 0} (rules : Rules A) (first : A) (start : LinkView) (stage : 
             writes = same_sent ∙ sent_all;
             events = t.events;
             items = all_items s.text s.written t;
+            arrivals = all_arrived next.counts.reads (same_arrived next same_reads);
             hears = (t.events, rest_of stage, messages s.text s.written t, ([], sym (append-nil t.events)));
             mid = now;
             are_items = end.are_items;
@@ -169,7 +187,7 @@ module _ {A : Type 0} (rules : Rules A) (first : A) (start : LinkView) (stage : 
 
       -- a quiet time more
       module _ (next : LinkView) (same_rest : next.rest ≡ view.rest) (same_sent : next.sent ≡ view.sent) (quiet_is : next.counts.quiet ≡ next_count view.counts.quiet) (row_is : next.counts.quiet_row ≡ next_count view.counts.quiet_row)
-          (same_ends : next.counts.ends ≡ view.counts.ends) (few : quiet < QUIET_LIMIT) where
+          (same_ends : next.counts.ends ≡ view.counts.ends) (same_reads : next.counts.reads ≡ view.counts.reads) (few : quiet < QUIET_LIMIT) where
         row_now : quiet + 1 ≤ next.counts.quiet_row
         row_now = omega (arith, s.row, row_is, few)
 
@@ -181,6 +199,7 @@ module _ {A : Type 0} (rules : Rules A) (first : A) (start : LinkView) (stage : 
           text = s.text;
           written = s.written;
           reads = subst (Reads s.text start.rest) (sym same_rest) s.reads;
+          arrivals = same_arrived next same_reads;
           answered = s.answered;
           writes = none_waits later next.sent (same ∙ none) ∙ (same_sent ∙ sent_all);
           more = s.written;
@@ -201,6 +220,7 @@ module _ {A : Type 0} (rules : Rules A) (first : A) (start : LinkView) (stage : 
               writes = same_sent ∙ sent_all;
               events = t.events;
               items = all_items s.text s.written t;
+              arrivals = all_arrived next.counts.reads (same_arrived next same_reads);
               hears = (rest_of stage, messages s.text s.written t, t.talks.stays);
               mid = now;
               are_items = end.are_items;
@@ -214,11 +234,12 @@ module _ {A : Type 0} (rules : Rules A) (first : A) (start : LinkView) (stage : 
             }
 
       -- the input ended
-      pub at_its_end : (rest : ℕ) (end : RequestsEnd) (next : LinkView) → rest ≡ rest_of stage → end ≡ (if rest == 0 then ends.PeerEnded else ends.CutShort rest) → Reads s.text start.rest next.rest → AtEnd next.rest → next.sent ≡ view.sent → next.counts.ends ≡ next_count view.counts.ends
+      pub at_its_end : (rest : ℕ) (end : RequestsEnd) (next : LinkView) → rest ≡ rest_of stage → end ≡ (if rest == 0 then ends.PeerEnded else ends.CutShort rest) → Reads s.text start.rest next.rest → AtEnd next.rest → next.sent ≡ view.sent → next.counts.ends ≡ next_count view.counts.ends → next.counts.reads ≡ next_count view.counts.reads
           → IsLinkServed rules end first now start next
-      at_its_end rest end next left is reads over same_sent met =
+      at_its_end rest end next left is reads over same_sent met more =
           let told : Messages s.text t.events rest = subst (Messages s.text t.events) (sym left) (messages s.text s.written t) in
           let all = whole s.text s.written t in
+          let arrived = all_arrived next.counts.reads (end_arrives number s.text start.counts.reads view.counts.reads next.counts.reads s.arrivals more) in
           let met_all : next.counts.ends ≡ next_count start.counts.ends = met ∙ ap next_count s.ended in
           subst (λ e. IsLinkServed rules e first now start next) (sym is)
           (elim (rest == 0) as (λ b. (rest == 0) ≡ b → IsLinkServed rules (if b then ends.PeerEnded else ends.CutShort rest) first now start next) [
@@ -230,6 +251,7 @@ module _ {A : Type 0} (rules : Rules A) (first : A) (start : LinkView) (stage : 
                   writes = same_sent ∙ sent_all;
                   events = t.events;
                   items = all_items s.text s.written t;
+                  arrivals = arrived;
                   hears = (subst (Messages s.text t.events) none_left told, t.talks.stays, over);
                   mid = now;
                   are_items = all.are_items;
@@ -249,6 +271,7 @@ module _ {A : Type 0} (rules : Rules A) (first : A) (start : LinkView) (stage : 
                   writes = same_sent ∙ sent_all;
                   events = t.events;
                   items = all_items s.text s.written t;
+                  arrivals = arrived;
                   hears = (told, omega (arith, some), t.talks.stays, over);
                   mid = now;
                   are_items = all.are_items;
@@ -263,12 +286,13 @@ module _ {A : Type 0} (rules : Rules A) (first : A) (start : LinkView) (stage : 
           ] refl)
 
       -- a piece was read
-      pub piece_read : (piece : List ℕ) (next : LinkView) → Reads (s.text ++ piece) start.rest next.rest → next.sent ≡ view.sent → next.counts.ends ≡ view.counts.ends → next.counts.quiet ≡ view.counts.quiet → view.counts.read_faults ≤ next.counts.read_faults → next.counts.write_faults ≡ view.counts.write_faults
+      pub piece_read : (piece : List ℕ) (next : LinkView) → Reads (s.text ++ piece) start.rest next.rest → next.sent ≡ view.sent → next.counts.ends ≡ view.counts.ends → next.counts.quiet ≡ view.counts.quiet → view.counts.read_faults ≤ next.counts.read_faults → next.counts.write_faults ≡ view.counts.write_faults → next.counts.reads ≡ next_count view.counts.reads → 0 < length piece
           → IsReadLink rules first start stage now number piece next
-      piece_read piece next reads same_sent same_ends same_quiet more same_faults = record {
+      piece_read piece next reads same_sent same_ends same_quiet more same_faults one some = record {
         text = s.text;
         written = s.written;
         reads = reads;
+        arrivals = one_arrives number s.text start.counts.reads view.counts.reads next.counts.reads s.arrivals one piece (taken_up s.text s.written t) some;
         answered = s.answered;
         writes = same_sent ∙ sent_all;
         ended = same_ends ∙ s.ended;
@@ -290,13 +314,18 @@ module _ {A : Type 0} (rules : Rules A) (first : A) (start : LinkView) (stage : 
     reads_too : Reads (s.text ++ piece) start.rest next.rest
     reads_too = subst (Reads (s.text ++ piece) start.rest) (sym w.rest_is) s.reads
 
+    -- what was read, where so many requests were answered
+    arrived_since : (many : ℕ) → number ≤ many → IsReadIn many 0 (s.text ++ piece) start.counts.reads next.counts.reads
+    arrived_since many le = then_answered number many 0 (s.text ++ piece) start.counts.reads next.counts.reads le (none_arrives number (s.text ++ piece) start.counts.reads view.counts.reads next.counts.reads 0 w.reads s.arrivals)
+
     -- all of it was answered
-    pub stays_open : IsAnswered rules first next_stage after next_number (s.text ++ piece) (s.written ++ out) → IsOpenLink rules first start next_stage after next_number 0 later next
+    pub stays_open : IsAnswered rules first next_stage after next_number (s.text ++ piece) (s.written ++ out) × (number ≤ next_number) → IsOpenLink rules first start next_stage after next_number 0 later next
     stays_open answered = record {
       text = s.text ++ piece;
       written = s.written ++ out;
       reads = reads_too;
-      answered = answered;
+      arrivals = arrived_since next_number answered.1;
+      answered = answered.0;
       writes = taken_since;
       more = sent_since.0;
       sends = sent_since.1;
@@ -308,7 +337,7 @@ module _ {A : Type 0} (rules : Rules A) (first : A) (start : LinkView) (stage : 
     }
 
     -- The connection ended in it, and not all that was taken was sent.
-    fault_end : (end : RequestsEnd) (e : IsEnded rules end first after (s.text ++ piece) (s.written ++ out)) → Hears (s.text ++ piece) e.events → (after ≡ e.mid) ⊎ ((request : Request) × rules.passes request e.mid after)
+    fault_end : (end : RequestsEnd) (e : IsEnded rules end number first after (s.text ++ piece) (s.written ++ out)) → Hears (s.text ++ piece) e.events → (after ≡ e.mid) ⊎ ((request : Request) × rules.passes request e.mid after)
         → IsPrefix (s.written ++ out) (output_of e.events e.items.list e.items.refusal) → CountIncreased start.counts.write_faults next.counts.write_faults → IsLinkServed rules ends.LinkFault first after start next
     fault_end end e hears left part rose =
         let p = sent_prefix sent_since.0 (s.written ++ out) later start.sent next.sent sent_since.1 taken_since in record {
@@ -318,6 +347,7 @@ module _ {A : Type 0} (rules : Rules A) (first : A) (start : LinkView) (stage : 
           writes = p.1;
           events = e.events;
           items = e.items;
+          arrivals = arrived_since (length e.items.list) e.answered;
           hears = hears;
           mid = e.mid;
           are_items = e.are_items;
@@ -336,7 +366,7 @@ module _ {A : Type 0} (rules : Rules A) (first : A) (start : LinkView) (stage : 
     all_heard : (events : List Heard) (rest : ℕ) → Messages (s.text ++ piece) events rest → Hears (s.text ++ piece) events
     all_heard events rest m = (events, rest, m, ([], sym (append-nil events)))
 
-    unsent_so : (end : TalkEnd) → IsEnded rules (requests_end_of end) first after (s.text ++ piece) (s.written ++ out) → CountIncreased start.counts.write_faults next.counts.write_faults → IsLinkServed rules (unsent_end end) first after start next
+    unsent_so : (end : TalkEnd) → IsEnded rules (requests_end_of end) number first after (s.text ++ piece) (s.written ++ out) → CountIncreased start.counts.write_faults next.counts.write_faults → IsLinkServed rules (unsent_end end) first after start next
     unsent_so talk.Closed e rose = let h = e.hears None in fault_end ends.Closed e (all_heard e.events 0 h.0) (inl e.left) (all_of (s.written ++ out) (output_of e.events e.items.list e.items.refusal) e.output.bytes) rose
     unsent_so talk.Limit e rose = let h = e.hears None in fault_end ends.LimitReached e (all_heard e.events 0 h.0) (inl e.left) (all_of (s.written ++ out) (output_of e.events e.items.list e.items.refusal) e.output.bytes) rose
     unsent_so talk.Upgraded e rose = let h = e.hears None in fault_end ends.Upgraded e (all_heard e.events h.0 h.1) (inl e.left) (all_of (s.written ++ out) (output_of e.events e.items.list e.items.refusal) e.output.bytes) rose
@@ -351,6 +381,7 @@ module _ {A : Type 0} (rules : Rules A) (first : A) (start : LinkView) (stage : 
           writes = p.1;
           events = e.events;
           items = e.items;
+          arrivals = arrived_since (length e.items.list) e.answered;
           hears = e.hears next.rest;
           mid = e.mid;
           are_items = e.are_items;
@@ -368,16 +399,17 @@ module _ {A : Type 0} (rules : Rules A) (first : A) (start : LinkView) (stage : 
       sent_now : ExtendsBy (s.written ++ out) start.sent next.sent
       sent_now = sym (none_waits later next.sent none) ∙ taken_since
 
-      sent_end : (end : RequestsEnd) (e : IsEnded rules end first after (s.text ++ piece) (s.written ++ out))
+      sent_end : (end : RequestsEnd) (e : IsEnded rules end number first after (s.text ++ piece) (s.written ++ out)) → end_reads end ≡ 0
           → ((end ≡ ends.NoPlace → ⊥) → IsWritten end start.counts next.counts (s.text ++ piece) e.events e.items (s.written ++ out))
           → ((end ≡ ends.NoPlace → ⊥) → (before now_seen : Visit) → HasCause end start.counts next.counts before now_seen) → MeetsEnd end start.counts.ends next.counts.ends → IsLinkServed rules end first after start next
-      sent_end end e serves cause met = record {
+      sent_end end e none_ended serves cause met = record {
         read = s.text ++ piece;
         written = s.written ++ out;
         reads = reads_too;
         writes = sent_now;
         events = e.events;
         items = e.items;
+        arrivals = subst (λ n. IsReadIn (length e.items.list) n (s.text ++ piece) start.counts.reads next.counts.reads) (sym none_ended) (arrived_since (length e.items.list) e.answered);
         hears = e.hears next.rest;
         mid = e.mid;
         are_items = e.are_items;
@@ -393,16 +425,16 @@ module _ {A : Type 0} (rules : Rules A) (first : A) (start : LinkView) (stage : 
       same_ends : next.counts.ends ≡ start.counts.ends
       same_ends = w.ended ∙ s.ended
 
-      sent_so : (end : TalkEnd) → (end ≡ talk.WriteFault → ⊥) → IsEnded rules (requests_end_of end) first after (s.text ++ piece) (s.written ++ out) → IsLinkServed rules (requests_end_of end) first after start next
-      sent_so talk.Closed ok e = sent_end ends.Closed e (λ other. e.output) (λ other before now_seen. tt) same_ends
-      sent_so talk.Limit ok e = sent_end ends.LimitReached e (λ other. e.output) (λ other before now_seen. tt) same_ends
-      sent_so talk.Upgraded ok e = sent_end ends.Upgraded e (λ other. e.output) (λ other before now_seen. tt) same_ends
-      sent_so (talk.Bad status) ok e = sent_end (ends.BadMessage status) e (λ other. e.output) (λ other before now_seen. tt) same_ends
+      sent_so : (end : TalkEnd) → (end ≡ talk.WriteFault → ⊥) → IsEnded rules (requests_end_of end) number first after (s.text ++ piece) (s.written ++ out) → IsLinkServed rules (requests_end_of end) first after start next
+      sent_so talk.Closed ok e = sent_end ends.Closed e refl (λ other. e.output) (λ other before now_seen. tt) same_ends
+      sent_so talk.Limit ok e = sent_end ends.LimitReached e refl (λ other. e.output) (λ other before now_seen. tt) same_ends
+      sent_so talk.Upgraded ok e = sent_end ends.Upgraded e refl (λ other. e.output) (λ other before now_seen. tt) same_ends
+      sent_so (talk.Bad status) ok e = sent_end (ends.BadMessage status) e refl (λ other. e.output) (λ other before now_seen. tt) same_ends
       sent_so talk.WriteFault ok e = absurd (ok refl)
-      sent_so talk.NoMemory ok e = sent_end ends.NoMemory e (λ other. e.output) (λ other before now_seen. tt) same_ends
-      sent_so talk.NoPlace ok e = sent_end ends.NoPlace e (λ other. absurd (other refl)) (λ other before now_seen. absurd (other refl)) same_ends
+      sent_so talk.NoMemory ok e = sent_end ends.NoMemory e refl (λ other. e.output) (λ other before now_seen. tt) same_ends
+      sent_so talk.NoPlace ok e = sent_end ends.NoPlace e refl (λ other. absurd (other refl)) (λ other before now_seen. absurd (other refl)) same_ends
 
-    pub finished : (end : TalkEnd) (result : RequestsEnd) (middle : ℕ) → start.counts.write_faults ≤ middle → IsEnded rules (requests_end_of end) first after (s.text ++ piece) (s.written ++ out)
+    pub finished : (end : TalkEnd) (result : RequestsEnd) (middle : ℕ) → start.counts.write_faults ≤ middle → IsEnded rules (requests_end_of end) number first after (s.text ++ piece) (s.written ++ out)
         → FinishesAs end result later middle next.counts.write_faults → (end ≡ talk.WriteFault → CountIncreased start.counts.write_faults next.counts.write_faults) → IsLinkServed rules result first after start next
     finished end result middle le e (inl so) rose = subst (λ r. IsLinkServed rules r first after start next) (sym so.0) (sent_so so.1 end so.2 e)
     finished end result middle le e (inr (is, inl fault)) rose = subst (λ r. IsLinkServed rules r first after start next) (sym is) (unsent_so end e (rose fault))
@@ -414,6 +446,7 @@ opens rules first start stage waiting represents none = record {
   text = [];
   written = [];
   reads = nothing_read start.rest;
+  arrivals = record { pieces = []; text = refl; in_turn = tt; counted = λ below. omega arith };
   answered = record { events = []; trail = []; represents = represents; talks = talks_none rules first };
   writes = none_waits waiting start.sent none ∙ nothing_added start.sent;
   more = [];
@@ -431,19 +464,19 @@ opens rules first start stage waiting represents none = record {
 
 -- a quiet time, counted
 pub quiet_turn : {A : Type 0} (rules : Rules A) (first : A) (start : LinkView) (stage : ParserState) (now : A) (number quiet quiet_now : ℕ) (waiting later : List ℕ) (view next : LinkView) (result : Option RequestsEnd) → IsOpenLink rules first start stage now number quiet waiting view → waiting ≡ []
-    → next.rest ≡ view.rest → next.sent ≡ view.sent → next.counts.quiet ≡ next_count view.counts.quiet → next.counts.quiet_row ≡ next_count view.counts.quiet_row → next.counts.ends ≡ view.counts.ends → view.counts.read_faults ≤ next.counts.read_faults → next.counts.write_faults ≡ view.counts.write_faults
+    → next.rest ≡ view.rest → next.sent ≡ view.sent → next.counts.quiet ≡ next_count view.counts.quiet → next.counts.quiet_row ≡ next_count view.counts.quiet_row → next.counts.ends ≡ view.counts.ends → next.counts.reads ≡ view.counts.reads → view.counts.read_faults ≤ next.counts.read_faults → next.counts.write_faults ≡ view.counts.write_faults
     → quiet < QUIET_LIMIT → quiet_now ≡ quiet + 1 → later ≡ waiting → IfSome result (λ end. (end ≡ ends.Quiet) × (quiet_now ≡ QUIET_LIMIT)) → AfterTurn rules result first start stage now number quiet_now later next
-quiet_turn rules first start stage now number quiet quiet_now waiting later view next None s none same_rest same_sent quiet_is row_is same_ends reads writes few is same end =
+quiet_turn rules first start stage now number quiet quiet_now waiting later view next None s none same_rest same_sent quiet_is row_is same_ends same_reads reads writes few is same end =
     subst (λ n. IsOpenLink rules first start stage now number n later next) (sym is)
-    (stays_quiet rules first start stage now number quiet waiting view s none next same_rest same_sent quiet_is row_is same_ends few (omega (arith, s.read_faults, reads)) (omega (arith, s.write_faults, writes)) later same)
-quiet_turn rules first start stage now number quiet quiet_now waiting later view next (Some told) s none same_rest same_sent quiet_is row_is same_ends reads writes few is same end =
+    (stays_quiet rules first start stage now number quiet waiting view s none next same_rest same_sent quiet_is row_is same_ends same_reads few (omega (arith, s.read_faults, reads)) (omega (arith, s.write_faults, writes)) later same)
+quiet_turn rules first start stage now number quiet quiet_now waiting later view next (Some told) s none same_rest same_sent quiet_is row_is same_ends same_reads reads writes few is same end =
     subst (λ e. IsLinkServed rules e first now start next) (sym end.0)
-    (ends_quiet rules first start stage now number quiet waiting view s none next same_rest same_sent quiet_is row_is same_ends few (sym is ∙ end.1))
+    (ends_quiet rules first start stage now number quiet waiting view s none next same_rest same_sent quiet_is row_is same_ends same_reads few (sym is ∙ end.1))
 
 pub quiet_read : {A : Type 0} (rules : Rules A) (first : A) (start : LinkView) (stage stage_now : ParserState) (now : A) (number number_now quiet quiet_now : ℕ) (waiting later : List ℕ) (view next : LinkView) (result : Option RequestsEnd) → IsOpenLink rules first start stage now number quiet waiting view → waiting ≡ []
-    → next.rest ≡ view.rest → next.sent ≡ view.sent → next.counts.quiet ≡ next_count view.counts.quiet → next.counts.quiet_row ≡ next_count view.counts.quiet_row → next.counts.ends ≡ view.counts.ends → view.counts.read_faults ≤ next.counts.read_faults → next.counts.write_faults ≡ view.counts.write_faults
+    → next.rest ≡ view.rest → next.sent ≡ view.sent → next.counts.quiet ≡ next_count view.counts.quiet → next.counts.quiet_row ≡ next_count view.counts.quiet_row → next.counts.ends ≡ view.counts.ends → next.counts.reads ≡ view.counts.reads → view.counts.read_faults ≤ next.counts.read_faults → next.counts.write_faults ≡ view.counts.write_faults
     → quiet < QUIET_LIMIT → quiet_now ≡ quiet + 1 → later ≡ waiting → IfSome result (λ end. (end ≡ ends.Quiet) × (quiet_now ≡ QUIET_LIMIT)) → stage_now ≡ stage → number_now ≡ number → AfterTurn rules result first start stage_now now number_now quiet_now later next
-quiet_read rules first start stage stage_now now number number_now quiet quiet_now waiting later view next result s none same_rest same_sent quiet_is row_is same_ends reads writes few is same end same_stage same_number =
+quiet_read rules first start stage stage_now now number number_now quiet quiet_now waiting later view next result s none same_rest same_sent quiet_is row_is same_ends same_reads reads writes few is same end same_stage same_number =
     subst (λ p. AfterTurn rules result first start p now number_now quiet_now later next) (sym same_stage)
     (subst (λ n. AfterTurn rules result first start stage now n quiet_now later next) (sym same_number)
-    (quiet_turn rules first start stage now number quiet quiet_now waiting later view next result s none same_rest same_sent quiet_is row_is same_ends reads writes few is same end))
+    (quiet_turn rules first start stage now number quiet quiet_now waiting later view next result s none same_rest same_sent quiet_is row_is same_ends same_reads reads writes few is same end))

@@ -1,5 +1,5 @@
 -- The pieces of a connection's bytes, one after the other.
-use Rattle.std.proofs.Common.{◌≡◌, ℕ, Bool, true, false, List, [], ◌∷◌, ◌++◌, length, map, inl, inr, Option, Some, None, is_some, IfSome, Ok, Err, refl, sym, ap, subst, append_assoc, ◌∙◌, arith}
+use Rattle.std.proofs.Common.{◌≡◌, ℕ, ◌+◌, ◌≤◌, Bool, true, false, List, [], ◌∷◌, ◌++◌, length, map, inl, inr, Option, Some, None, is_some, IfSome, Ok, Err, refl, sym, ap, subst, append_assoc, length-append, ◌∙◌, arith}
 use Rattle.std.specs.List.{AllByRecursion}
 use Rattle.std.proofs.lemmas.List.{append-nil, length-map}
 use mathlib.Core.List.{IsPrefix}
@@ -62,6 +62,10 @@ hears_front text all front behind rest is m =
           (first.0, sym first.1);
     }
 
+-- no fewer requests come first in more events
+behind_requests : (front more : List Heard) → length (requests_of (front ++ more)) ≡ length (requests_of front) + length (requests_of more)
+behind_requests front more = ap length (requests_append front more) ∙ length-append (requests_of front) (requests_of more)
+
 no_both : (b : Bool) → b ≡ true → b ≡ false → ⊥
 no_both true e f = cc
 no_both false e f = cc
@@ -76,7 +80,7 @@ module _ {A : Type 0} (rules : Rules A) (first : A) (stage : ParserState) (old :
   messages = represents_messages stage text s.events s.represents
 
   -- no memory was left to parse the piece
-  pub unparsed : (piece : List ℕ) → IsEnded rules ends.NoMemory first old (text ++ piece) (written ++ [])
+  pub unparsed : (piece : List ℕ) → IsEnded rules ends.NoMemory number first old (text ++ piece) (written ++ [])
   unparsed piece =
       let part = talks_part rules first old number s.events written s.trail s.talks in record {
         events = s.events;
@@ -89,6 +93,7 @@ module _ {A : Type 0} (rules : Rules A) (first : A) (stage : ParserState) (old :
         last = part.last;
         refused = part.refused;
         output = subst (λ w. IsPrefix w (output_of s.events part.items part.refusal)) (sym (append-nil written)) part.output;
+        answered = part.answered;
       }
 
   module _ (piece : List ℕ) (those : List Heard) (rest : ℕ) (m : Messages (text ++ piece) (s.events ++ those) rest) where
@@ -101,14 +106,18 @@ module _ {A : Type 0} (rules : Rules A) (first : A) (stage : ParserState) (old :
 
     -- all of it was answered
     pub goes_on : (next : ParserState) → Represents next (text ++ piece) (s.events ++ those) → (new : A) (number_now : ℕ) (out lines : List ℕ) → TurnsIn rules old number new number_now those out lines (Ok tt)
-        → IsAnswered rules first next new number_now (text ++ piece) (written ++ out)
+        → IsAnswered rules first next new number_now (text ++ piece) (written ++ out) × (number ≤ number_now)
     goes_on next represents new number_now out lines t =
-        let whole : t.front ≡ those = sym (append-nil t.front) ∙ ap (λ b. t.front ++ b) (sym t.over) ∙ t.cut in record {
-          events = s.events ++ those;
-          trail = s.trail ++ lines;
-          represents = represents;
-          talks = subst (λ h. Talks rules first new number_now (s.events ++ h) (written ++ out) (s.trail ++ lines)) whole (t.turns first s.events written s.trail s.talks);
-        }
+        let whole : t.front ≡ those = sym (append-nil t.front) ∙ ap (λ b. t.front ++ b) (sym t.over) ∙ t.cut in
+        let talks : Talks rules first new number_now (s.events ++ those) (written ++ out) (s.trail ++ lines) = subst (λ h. Talks rules first new number_now (s.events ++ h) (written ++ out) (s.trail ++ lines)) whole (t.turns first s.events written s.trail s.talks) in (
+          record {
+            events = s.events ++ those;
+            trail = s.trail ++ lines;
+            represents = represents;
+            talks = talks;
+          },
+          omega (arith, count_is rules first old number s.events written s.trail s.talks, count_is rules first new number_now (s.events ++ those) (written ++ out) (s.trail ++ lines) talks, behind_requests s.events those),
+        )
 
     -- the connection ended in it
     module _ (new : A) (number_now : ℕ) (out lines : List ℕ) (front behind : List Heard) (cut : front ++ behind ≡ those) where
@@ -126,6 +135,9 @@ module _ {A : Type 0} (rules : Rules A) (first : A) (stage : ParserState) (old :
           let there = messages_all none in
           subst (Messages (text ++ piece) (s.events ++ front)) (ended_rest (text ++ piece) (s.events ++ front) rest there over) there
 
+      whole_answered : (upgraded : Bool) (e : EndsWhole rules upgraded first new (s.events ++ front) (written ++ out) (s.trail ++ lines)) → number ≤ length e.items
+      whole_answered upgraded e = omega (arith, has_items e.items (s.events ++ front) e.requests, count_is rules first old number s.events written s.trail s.talks, behind_requests s.events front)
+
       -- all was answered and written
       whole_so : (upgraded : Bool) (e : EndsWhole rules upgraded first new (s.events ++ front) (written ++ out) (s.trail ++ lines))
           → IsAllWritten upgraded (s.events ++ front) (record { list = e.items; refusal = e.refusal }) (written ++ out)
@@ -135,7 +147,7 @@ module _ {A : Type 0} (rules : Rules A) (first : A) (stage : ParserState) (old :
         bytes = e.output;
       }
 
-      pub ended_closed : behind ≡ [] → Ends rules Closed first new (s.events ++ front) (written ++ out) (s.trail ++ lines) → IsEnded rules ends.Closed first new (text ++ piece) (written ++ out)
+      pub ended_closed : behind ≡ [] → Ends rules Closed number first new (s.events ++ front) (written ++ out) (s.trail ++ lines) → IsEnded rules ends.Closed number first new (text ++ piece) (written ++ out)
       ended_closed none e = record {
         events = s.events ++ front;
         items = record { list = e.0.items; refusal = e.0.refusal };
@@ -147,9 +159,10 @@ module _ {A : Type 0} (rules : Rules A) (first : A) (stage : ParserState) (old :
         last = e.0.last;
         refused = e.0.refused;
         output = whole_so false e.0;
+        answered = whole_answered false e.0;
       }
 
-      pub ended_limit : behind ≡ [] → Ends rules Limit first new (s.events ++ front) (written ++ out) (s.trail ++ lines) → IsEnded rules ends.LimitReached first new (text ++ piece) (written ++ out)
+      pub ended_limit : behind ≡ [] → Ends rules Limit number first new (s.events ++ front) (written ++ out) (s.trail ++ lines) → IsEnded rules ends.LimitReached number first new (text ++ piece) (written ++ out)
       ended_limit none e = record {
         events = s.events ++ front;
         items = record { list = e.0.items; refusal = e.0.refusal };
@@ -161,9 +174,10 @@ module _ {A : Type 0} (rules : Rules A) (first : A) (stage : ParserState) (old :
         last = e.0.last;
         refused = e.0.refused;
         output = whole_so false e.0;
+        answered = whole_answered false e.0;
       }
 
-      pub ended_bad : (status : ℕ) → behind ≡ [] → Ends rules (Bad status) first new (s.events ++ front) (written ++ out) (s.trail ++ lines) → IsEnded rules (ends.BadMessage status) first new (text ++ piece) (written ++ out)
+      pub ended_bad : (status : ℕ) → behind ≡ [] → Ends rules (Bad status) number first new (s.events ++ front) (written ++ out) (s.trail ++ lines) → IsEnded rules (ends.BadMessage status) number first new (text ++ piece) (written ++ out)
       ended_bad status none e = record {
         events = s.events ++ front;
         items = record { list = e.0.items; refusal = e.0.refusal };
@@ -175,10 +189,11 @@ module _ {A : Type 0} (rules : Rules A) (first : A) (stage : ParserState) (old :
         last = e.0.last;
         refused = e.0.refused;
         output = whole_so false e.0;
+        answered = whole_answered false e.0;
       }
 
       -- nothing follows a switch of protocols, and nothing was refused
-      pub ended_upgraded : Ends rules Upgraded first new (s.events ++ front) (written ++ out) (s.trail ++ lines) → IsEnded rules ends.Upgraded first new (text ++ piece) (written ++ out)
+      pub ended_upgraded : Ends rules Upgraded number first new (s.events ++ front) (written ++ out) (s.trail ++ lines) → IsEnded rules ends.Upgraded number first new (text ++ piece) (written ++ out)
       ended_upgraded e =
           let items : Items = record { list = e.items; refusal = e.refusal } in record {
             events = s.events ++ those;
@@ -195,10 +210,11 @@ module _ {A : Type 0} (rules : Rules A) (first : A) (stage : ParserState) (old :
               last = e.upgraded_is;
               bytes = e.output ∙ (sym (output_stops (s.events ++ front) behind e.items e.refusal e.upgraded_is (omega (arith, has_items e.items (s.events ++ front) e.requests))) ∙ ap (λ h. output_of h e.items e.refusal) (sym events_all));
             };
+            answered = whole_answered true e;
           }
 
       -- a write failed
-      pub ended_unwritten : EndsPart rules first new (s.events ++ front) (written ++ out) (s.trail ++ lines) → IsEnded rules ends.LinkFault first new (text ++ piece) (written ++ out)
+      pub ended_unwritten : EndsPart rules number first new (s.events ++ front) (written ++ out) (s.trail ++ lines) → IsEnded rules ends.LinkFault number first new (text ++ piece) (written ++ out)
       ended_unwritten e = record {
         events = s.events ++ front;
         items = record { list = e.items; refusal = e.refusal };
@@ -210,10 +226,11 @@ module _ {A : Type 0} (rules : Rules A) (first : A) (stage : ParserState) (old :
         last = e.last;
         refused = e.refused;
         output = e.output;
+        answered = e.answered;
       }
 
       -- out of memory for a refusal
-      pub ended_starved : EndsPart rules first new (s.events ++ front) (written ++ out) (s.trail ++ lines) → IsEnded rules ends.NoMemory first new (text ++ piece) (written ++ out)
+      pub ended_starved : EndsPart rules number first new (s.events ++ front) (written ++ out) (s.trail ++ lines) → IsEnded rules ends.NoMemory number first new (text ++ piece) (written ++ out)
       ended_starved e = record {
         events = s.events ++ front;
         items = record { list = e.items; refusal = e.refusal };
@@ -225,10 +242,11 @@ module _ {A : Type 0} (rules : Rules A) (first : A) (stage : ParserState) (old :
         last = e.last;
         refused = e.refused;
         output = e.output;
+        answered = e.answered;
       }
 
       -- a request found no place
-      pub ended_unplaced : EndsUnplaced rules first new (s.events ++ front) (written ++ out) (s.trail ++ lines) → IsEnded rules ends.NoPlace first new (text ++ piece) (written ++ out)
+      pub ended_unplaced : EndsUnplaced rules number first new (s.events ++ front) (written ++ out) (s.trail ++ lines) → IsEnded rules ends.NoPlace number first new (text ++ piece) (written ++ out)
       ended_unplaced e =
           let t = e.talks in
           let more = heard.Request e.request ∷ behind in
@@ -258,9 +276,10 @@ module _ {A : Type 0} (rules : Rules A) (first : A) (stage : ParserState) (old :
             last = plain_all t.items t.plain;
             refused = tt;
             output = bytes;
+            answered = omega (arith, e.answered, t.number_is);
           }
 
-    pub ended : (new : A) (number_now : ℕ) (end : TalkEnd) (out lines : List ℕ) → TurnsIn rules old number new number_now those out lines (Err end) → IsEnded rules (requests_end_of end) first new (text ++ piece) (written ++ out)
+    pub ended : (new : A) (number_now : ℕ) (end : TalkEnd) (out lines : List ℕ) → TurnsIn rules old number new number_now those out lines (Err end) → IsEnded rules (requests_end_of end) number first new (text ++ piece) (written ++ out)
     ended new number_now Closed out lines t = ended_closed new number_now out lines t.front t.rest t.cut t.over (t.turns first s.events written s.trail s.talks)
     ended new number_now Limit out lines t = ended_limit new number_now out lines t.front t.rest t.cut t.over (t.turns first s.events written s.trail s.talks)
     ended new number_now Upgraded out lines t = ended_upgraded new number_now out lines t.front t.rest t.cut (t.turns first s.events written s.trail s.talks)

@@ -19,6 +19,7 @@ use Rattle.pod_io.specs.declared.listen.ListenFault.{ListenFault}
 use Rattle.pod_io.specs.declared.listen.ListenFault.TheVariants as listens
 use Rattle.pod_keeper.specs.KeeperState.{KeeperState}
 use Rattle.pod_live.specs.Stores.{Covers, IsSafe, KeptSome}
+use Rattle.pod_live.specs.Takes.{TookChanges}
 use Rattle.pod_live.specs.Visits.{IsNewVisit, Meets, Visit}
 use Rattle.pod_records.specs.OpenedStores.{HasPodCause}
 use Rattle.published_view.specs.LookerState.{CountIncreasedByOne}
@@ -30,7 +31,7 @@ use Rattle.store_pipe.specs.declared.tokens.TableFault.{TableFault}
 use Rattle.store_pipe.specs.declared.tokens.TableFault.TheVariants as tables
 use Rattle.token_table.specs.Credentials.{AskedAgent}
 use Rattle.token_table.specs.declared.table_line.TokenEntry.{TokenEntry}
-use Rattle.pod_serve.specs.Desks.{GateView, IsDeskEnd, IsDeskServed}
+use Rattle.pod_serve.specs.Desks.{EachDeskServed, GateView, IsDeskEnd}
 use Rattle.pod_serve.specs.PoddRuns.{AreServed, DeskRun, ErrorSink, GivesBack, IsGateFault, IsServing, ListenView, RunsPodd}
 use Rattle.pod_serve.specs.PoddRuns.{desk_status, listen_status, served_status, view_status}
 use Rattle.pod_serve.specs.PoddSteps.{AreClosed, AreServedAs, AreUnserved, RunsListener, RunsTokens, told_status, told_statuses}
@@ -119,11 +120,8 @@ module _ (kept : History → Type 0) (first : ℕ) (may_give : ℕ → Type 0) (
   abbrev Met : S → S → Type 0
   Met one other = IsPrefix (session one).seen list × (gate other ≡ gate one) × (told other ≡ told one)
 
-  abbrev ServedAt : ℕ → S → S → Type 0
-  ServedAt number old mid = IsDeskServed kept first may_give asking link_view step number (session old) (session mid) (told mid) (gate_view (gate old)) (gate_view (gate mid))
-
-  abbrev ServedFrom : ℕ → List S → List S → Type 0
-  ServedFrom number old mid = (i : ℕ) (d : S) → i < length old → ServedAt (i + number) (slice_index_or old i d) (slice_index_or mid i d)
+  abbrev EachServed : ℕ → List S → List S → Type 0
+  EachServed = EachDeskServed kept first may_give asking link_view gate_view session gate told step
 
   pub record Runs (number : ℕ) (old mid new : List S) : Type 0 where
     pub desks : List (DeskRun G)
@@ -135,9 +133,9 @@ module _ (kept : History → Type 0) (first : ℕ) (may_give : ℕ → Type 0) (
     pub faulted : sum_by (λ desk. desk.after.faults) desks ≡ sum_by (λ one. (session one).faults) mid
     pub status : told_statuses (map told new) ≡ served_status (map (λ desk. desk.end) desks)
 
-  pub runs_of : (number : ℕ) (old mid new : List S) → length mid ≡ length old → ServedFrom number old mid → EachTo Met mid new
+  pub runs_of : (number : ℕ) (old mid new : List S) → EachServed number old mid → EachTo Met mid new
       → ((i : ℕ) (d : S) → i < length old → IsNewVisit [] (session (slice_index_or old i d))) → Runs number old mid new
-  runs_of number [] [] [] same served met fresh = record {
+  runs_of number [] [] [] served met fresh = record {
     desks = [];
     count = refl;
     gates_are = refl;
@@ -147,14 +145,13 @@ module _ (kept : History → Type 0) (first : ℕ) (may_give : ℕ → Type 0) (
     faulted = refl;
     status = refl;
   }
-  runs_of number [] [] (n ∷ ns) same served met fresh = absurd met
-  runs_of number [] (m ∷ ms) new same served met fresh = absurd (omega (arith, same))
-  runs_of number (o ∷ os) [] new same served met fresh = absurd (omega (arith, same))
-  runs_of number (o ∷ os) (m ∷ ms) [] same served met fresh = absurd met
-  runs_of number (o ∷ os) (m ∷ ms) (n ∷ ns) same served met fresh =
-      let here : ServedAt number o m = subst (λ k. ServedAt k o m) (omega arith) (served 0 o (omega arith)) in
-      let later : ServedFrom (number + 1) os ms = λ i d less. subst (λ k. ServedAt k (slice_index_or os i d) (slice_index_or ms i d)) (omega arith) (served (suc i) d (omega (arith, less))) in
-      let others = runs_of (number + 1) os ms ns (omega (arith, same)) later met.1 (λ i d less. fresh (suc i) d (omega (arith, less))) in
+  runs_of number [] [] (n ∷ ns) served met fresh = absurd met
+  runs_of number [] (m ∷ ms) new served met fresh = absurd served
+  runs_of number (o ∷ os) [] new served met fresh = absurd served
+  runs_of number (o ∷ os) (m ∷ ms) [] served met fresh = absurd met
+  runs_of number (o ∷ os) (m ∷ ms) (n ∷ ns) served met fresh =
+      let here = served.0 in
+      let others = runs_of (number + 1) os ms ns served.1 met.1 (λ i d less. fresh (suc i) d (omega (arith, less))) in
       let one : DeskRun G = record { opened = gate o; back = gate m; end = here.0; before = session o; after = session m } in
       let same_told : told n ≡ Some here.0 = met.0.2 ∙ here.1 in
       record {
@@ -239,7 +236,7 @@ failed_first NoMemory others (inl a) is = absurd (omega (arith, sym (ap (λ n. m
 failed_first NoMemory others (inr (inl a)) is = absurd (omega (arith, sym (ap (λ n. max 7 n) a) ∙ is))
 failed_first NoMemory others (inr (inr a)) is = inr a
 
-module _ {D G C : Type 0} (image : D → List ℕ → Type 0) (faults : D → ℕ) (may_give : ℕ → Type 0) (link_view : C → LinkView) (gate_view : G → GateView C) where
+module _ {D G C : Type 0} (image : D → List ℕ → Type 0) (moment : D → ℕ) (left_since : D → ℕ → List ℕ → Type 0) (faults : D → ℕ) (may_give : ℕ → Type 0) (link_view : C → LinkView) (gate_view : G → GateView C) where
   record Failed (gates : List G) : Type 0 where
     pub gate : G
     pub back : G
@@ -276,7 +273,7 @@ module _ {D G C : Type 0} (image : D → List ℕ → Type 0) (faults : D → �
       abbrev Why : Type 0 → Type 0 → ℕ → Type 0
       Why Read Disk = Causes Read Disk (CountIncreasedByOne old_places new_places) ListenFaults
 
-      serving_causes : (Read Disk : Type 0) (agents : List TokenEntry) (workers : ℕ) → IsServing image faults may_give link_view gate_view keeper left agents workers may_open old new status → Why Read Disk status
+      serving_causes : (Read Disk : Type 0) (agents : List TokenEntry) (workers : ℕ) → IsServing image moment left_since faults may_give link_view gate_view keeper left agents workers may_open old new status → Why Read Disk status
       serving_causes Read Disk agents workers s =
           let ends = map (λ desk. desk.end) s.served.desks in
           let gate_failed = λ (is : served_status ends ≡ 11).
@@ -293,34 +290,34 @@ module _ {D G C : Type 0} (image : D → List ℕ → Type 0) (faults : D → �
           subst (Why Read Disk) (sym s.served.status_is)
           (served_causes Read Disk (CountIncreasedByOne old_places new_places) ListenFaults (served_status ends) (served_statuses ends) (λ is. inr (gate_failed is)))
 
-      listener_causes : (Read Disk : Type 0) (agents : List TokenEntry) (workers : ℕ) → RunsListener image faults may_give link_view gate_view keeper left agents workers may_open old new old_places new_places status
+      listener_causes : (Read Disk : Type 0) (agents : List TokenEntry) (workers : ℕ) → RunsListener image moment left_since faults may_give link_view gate_view keeper left agents workers may_open old new old_places new_places status
           → Why Read Disk status
       listener_causes Read Disk agents workers (inl l) = subst (Why Read Disk) (sym l.status_is) (listen_causes Read Disk (CountIncreasedByOne old_places new_places) ListenFaults l.fault (λ is. inl (l.failed is)))
       listener_causes Read Disk agents workers (inr (inl v)) = subst (Why Read Disk) (sym v.status_is) (view_causes Read Disk (CountIncreasedByOne old_places new_places) ListenFaults v.fault v.refused)
       listener_causes Read Disk agents workers (inr (inr s)) = serving_causes Read Disk agents workers s
 
-      tokens_causes : (Disk : Type 0) (workers : ℕ) (tokens : TokenSource) (errors : ErrorSink) → RunsTokens image faults may_give link_view gate_view keeper left workers tokens errors may_open old new old_places new_places status
+      tokens_causes : (Disk : Type 0) (workers : ℕ) (tokens : TokenSource) (errors : ErrorSink) → RunsTokens image moment left_since faults may_give link_view gate_view keeper left workers tokens errors may_open old new old_places new_places status
           → Why (CountIncreased tokens.old_faults tokens.new_faults) Disk status
       tokens_causes Disk workers tokens errors (inl t) = subst (Why (CountIncreased tokens.old_faults tokens.new_faults) Disk) (sym t.tells.0)
           (table_causes (CountIncreased tokens.old_faults tokens.new_faults) Disk (CountIncreasedByOne old_places new_places) ListenFaults t.fault (λ is. (subst (λ f. HasTableCause f tokens) is t.cause).0))
       tokens_causes Disk workers tokens errors (inr t) = listener_causes (CountIncreased tokens.old_faults tokens.new_faults) Disk t.1.agents workers t.1.runs
 
-    pub run_causes : (moment : D → ℕ) (left_since : D → ℕ → List ℕ → Type 0) (content : D → Option (List ℕ)) (first second first_new second_new : D) (workers : ℕ) (tokens : TokenSource) (errors : ErrorSink)
-        → RunsPodd image faults may_give link_view gate_view moment left_since content first second first_new second_new workers tokens errors may_open old new old_places new_places status
+    pub run_causes : (content : D → Option (List ℕ)) (first second first_new second_new : D) (workers : ℕ) (tokens : TokenSource) (errors : ErrorSink)
+        → RunsPodd image moment left_since faults may_give link_view gate_view content first second first_new second_new workers tokens errors may_open old new old_places new_places status
         → Causes (CountIncreased tokens.old_faults tokens.new_faults) (CountIncreased (faults first) (faults first_new) ⊎ CountIncreased (faults second) (faults second_new)) (CountIncreasedByOne old_places new_places) ListenFaults status
-    run_causes moment left_since content first second first_new second_new workers tokens errors (inl u) =
+    run_causes content first second first_new second_new workers tokens errors (inl u) =
         let Disk = CountIncreased (faults first) (faults first_new) ⊎ CountIncreased (faults second) (faults second_new) in
         subst (Causes (CountIncreased tokens.old_faults tokens.new_faults) Disk (CountIncreasedByOne old_places new_places) ListenFaults) (sym u.status_is)
         (open_causes (CountIncreased tokens.old_faults tokens.new_faults) Disk (CountIncreasedByOne old_places new_places) ListenFaults u.fault
         (λ is. subst (HasPodCause (content first) (content second) (faults first) (faults first_new) (faults second) (faults second_new)) is u.cause))
-    run_causes moment left_since content first second first_new second_new workers tokens errors (inr r) =
+    run_causes content first second first_new second_new workers tokens errors (inr r) =
         tokens_causes r.keeper r.left (CountIncreased (faults first) (faults first_new) ⊎ CountIncreased (faults second) (faults second_new)) workers tokens errors r.runs
 
 -- ---- a store that was served and then closed
 
 -- both times all sessions saw one list
 pub met_both : {S P G T : Type 0} (us bs cs : List S) (session : S → Visit) (rest : S → P) (gate : P → G) (told : P → T) (one two : List Entry)
-    → EachTo (λ old new. Meets one (session old) (session new) × (rest new ≡ rest old)) us bs
+    → EachTo (λ old new. Meets one (session old) (session new) × (gate (rest new) ≡ gate (rest old)) × (told (rest new) ≡ told (rest old))) us bs
     → EachTo (λ old new. Meets two (session old) (session new) × (rest new ≡ rest old)) bs cs
     → EachTo (λ old new. IsPrefix (session old).seen two × (gate (rest new) ≡ gate (rest old)) × (told (rest new) ≡ told (rest old))) us cs
 met_both [] [] [] session rest gate told one two h k = tt
@@ -328,27 +325,26 @@ met_both [] [] (c ∷ cs) session rest gate told one two h k = absurd k
 met_both [] (b ∷ bs) cs session rest gate told one two h k = absurd h
 met_both (a ∷ us) [] cs session rest gate told one two h k = absurd h
 met_both (a ∷ us) (b ∷ bs) [] session rest gate told one two h k = absurd k
-met_both (a ∷ us) (b ∷ bs) (c ∷ cs) session rest gate told one two h k =
-    let same = k.0.1 ∙ h.0.1 in (
-      (subst (λ (list : List Entry). IsPrefix (session a).seen list) k.0.0.1 (prefix_trans (session a).seen (session b).seen (session c).seen h.0.0.0 k.0.0.0), ap gate same, ap told same),
-      met_both us bs cs session rest gate told one two h.1 k.1,
-    )
+met_both (a ∷ us) (b ∷ bs) (c ∷ cs) session rest gate told one two h k = (
+  (subst (λ (list : List Entry). IsPrefix (session a).seen list) k.0.0.1 (prefix_trans (session a).seen (session b).seen (session c).seen h.0.0.0 k.0.0.0), ap gate k.0.1 ∙ h.0.1, ap told k.0.1 ∙ h.0.2),
+  met_both us bs cs session rest gate told one two h.1 k.1,
+)
 
-pub same_changes : {S P : Type 0} (us bs : List S) (session : S → Visit) (rest : S → P) (list : List Entry) → EachTo (λ old new. Meets list (session old) (session new) × (rest new ≡ rest old)) us bs
-    → sum_by (λ one. (session one).changes) bs ≡ sum_by (λ one. (session one).changes) us
-same_changes [] [] session rest list h = refl
-same_changes [] (b ∷ bs) session rest list h = absurd h
-same_changes (a ∷ us) [] session rest list h = absurd h
-same_changes (a ∷ us) (b ∷ bs) session rest list h =
-    omega (arith, sum_first bs b (λ one. (session one).changes), sum_first us a (λ one. (session one).changes), h.0.0.2, same_changes us bs session rest list h.1)
+module _ {S G T : Type 0} (session : S → Visit) (gate : S → G) (told : S → T) (list : List Entry) where
+  abbrev AllMet : List S → List S → Type 0
+  AllMet = EachTo (λ old new. Meets list (session old) (session new) × (gate new ≡ gate old) × (told new ≡ told old))
 
-pub same_faults : {S P : Type 0} (us bs : List S) (session : S → Visit) (rest : S → P) (list : List Entry) → EachTo (λ old new. Meets list (session old) (session new) × (rest new ≡ rest old)) us bs
-    → sum_by (λ one. (session one).faults) bs ≡ sum_by (λ one. (session one).faults) us
-same_faults [] [] session rest list h = refl
-same_faults [] (b ∷ bs) session rest list h = absurd h
-same_faults (a ∷ us) [] session rest list h = absurd h
-same_faults (a ∷ us) (b ∷ bs) session rest list h =
-    omega (arith, sum_first bs b (λ one. (session one).faults), sum_first us a (λ one. (session one).faults), h.0.0.3, same_faults us bs session rest list h.1)
+  pub same_changes : (us bs : List S) → AllMet us bs → sum_by (λ one. (session one).changes) bs ≡ sum_by (λ one. (session one).changes) us
+  same_changes [] [] h = refl
+  same_changes [] (b ∷ bs) h = absurd h
+  same_changes (a ∷ us) [] h = absurd h
+  same_changes (a ∷ us) (b ∷ bs) h = omega (arith, sum_first bs b (λ one. (session one).changes), sum_first us a (λ one. (session one).changes), h.0.0.2, same_changes us bs h.1)
+
+  pub same_faults : (us bs : List S) → AllMet us bs → sum_by (λ one. (session one).faults) bs ≡ sum_by (λ one. (session one).faults) us
+  same_faults [] [] h = refl
+  same_faults [] (b ∷ bs) h = absurd h
+  same_faults (a ∷ us) [] h = absurd h
+  same_faults (a ∷ us) (b ∷ bs) h = omega (arith, sum_first bs b (λ one. (session one).faults), sum_first us a (λ one. (session one).faults), h.0.0.3, same_faults us bs h.1)
 
 -- a list whose items were lent and written
 pub refilled : {X : Type 0} (n : ℕ) (new items : List X) → length new ≡ length items → n ≡ length items → take n (new ++ drop (length new) items) ≡ new
@@ -356,13 +352,13 @@ refilled n new items e f =
     ap (λ ys. take n (new ++ ys)) (drop_all (length new) items (omega (arith, e))) ∙ ap (take n) (append-nil new) ∙ take_all n new (omega (arith, e, f))
 
 -- the desks of a store that was served and closed are those of a run
-pub served_as : {D G C S : Type 0} (old new later lent : List S) (session : S → Visit) (gate : S → G) (told : S → Option DeskEnd) (image : D → List ℕ → Type 0) (faults : D → ℕ) (may_give : ℕ → Type 0) (link_view : C → LinkView)
-    (gate_view : G → GateView C) (kept : History → Type 0) (first : ℕ) (safe : Type 0) (counted : ℕ) (asking : Request → AskedAgent) (left : KeeperState D) (gates : List G) (before after : ListenView G) (status : ℕ)
-    → AreClosed image faults may_give link_view gate_view kept first safe counted asking left session gate told old new
+pub served_as : {D G C S : Type 0} (old new later lent : List S) (session : S → Visit) (gate : S → G) (told : S → Option DeskEnd) (image : D → List ℕ → Type 0) (moment : D → ℕ) (left_since : D → ℕ → List ℕ → Type 0) (faults : D → ℕ) (may_give : ℕ → Type 0) (link_view : C → LinkView)
+    (gate_view : G → GateView C) (kept : History → Type 0) (first : ℕ) (safe : Type 0) (counted : ℕ) (began : KeeperState D → Type 0) (asking : Request → AskedAgent) (left : KeeperState D) (gates : List G) (before after : ListenView G) (status : ℕ)
+    → AreClosed image moment left_since faults may_give link_view gate_view kept first safe counted began asking left session gate told old new
     → ((i : ℕ) (d : S) → i < length old → IsNewVisit [] (session (slice_index_or old i d))) → map gate old ≡ gates → later ≡ new → lent ≡ later → GivesBack (map gate later) before after → status ≡ told_statuses (map told lent)
-    → AreServedAs image faults may_give link_view gate_view kept first safe counted asking left gates before after status
-served_as old new later lent session gate told image faults may_give link_view gate_view kept first safe counted asking left gates before after status closed fresh gates_are same same_lent back status_is =
-    let runs = runs_of kept first may_give asking image faults link_view gate_view session gate told closed.list (length old) 1 old closed.mid new closed.same closed.desks closed.met fresh in
+    → AreServedAs image moment left_since faults may_give link_view gate_view kept first safe counted began asking left gates before after status
+served_as old new later lent session gate told image moment left_since faults may_give link_view gate_view kept first safe counted began asking left gates before after status closed fresh gates_are same same_lent back status_is =
+    let runs = runs_of kept first may_give asking image faults link_view gate_view session gate told closed.list (length old) 1 old closed.mid new closed.desks closed.met fresh in
     record {
       desks = runs.desks;
       list = closed.list;
@@ -372,17 +368,18 @@ served_as old new later lent session gate told image faults may_give link_view g
       grown = closed.grown ∙ sym runs.changes;
       covered = subst (λ n. Covers counted n (faults left.first) (faults left.second)) (sym runs.faulted) closed.covered;
       still_safe = closed.still_safe;
+      took = subst (λ n. TookChanges image moment left_since began closed.list n left) (sym runs.faulted) closed.took;
       back = subst (λ backs. GivesBack backs before after) (ap (map gate) same ∙ sym runs.backs_are) back;
       status_is = status_is ∙ (ap (λ ds. told_statuses (map told ds)) (same_lent ∙ same) ∙ runs.status);
     }
 
 -- the gates were opened, and then served or not
-pub listened : {D G C : Type 0} (image : D → List ℕ → Type 0) (faults : D → ℕ) (may_give : ℕ → Type 0) (link_view : C → LinkView) (gate_view : G → GateView C) (keeper left : KeeperState D) (agents : List TokenEntry) (workers : ℕ)
+pub listened : {D G C : Type 0} (image : D → List ℕ → Type 0) (moment : D → ℕ) (left_since : D → ℕ → List ℕ → Type 0) (faults : D → ℕ) (may_give : ℕ → Type 0) (link_view : C → LinkView) (gate_view : G → GateView C) (keeper left : KeeperState D) (agents : List TokenEntry) (workers : ℕ)
     (gates : List G) (may_open : List G → Type 0) (old mid new : ListenView G) (old_places new_places status : ℕ) → may_open gates → length gates ≡ workers → mid.back ≡ old.back
-    → AreUnserved image faults may_give link_view gate_view keeper left gates mid new old_places new_places status
-    ⊎ AreServedAs image faults may_give link_view gate_view (KeptSome image keeper) keeper.next (IsSafe image keeper) (faults keeper.first + faults keeper.second) (asking_of (Table agents)) left gates mid new status
-    → RunsListener image faults may_give link_view gate_view keeper left agents workers may_open old new old_places new_places status
-listened image faults may_give link_view gate_view keeper left agents workers gates may_open old mid new old_places new_places status opened count same (inl u) =
+    → AreUnserved image moment left_since faults may_give link_view gate_view keeper left gates mid new old_places new_places status
+    ⊎ AreServedAs image moment left_since faults may_give link_view gate_view (KeptSome image keeper) keeper.next (IsSafe image keeper) (faults keeper.first + faults keeper.second) (λ (k : KeeperState D). keeper ≡ k) (asking_of (Table agents)) left gates mid new status
+    → RunsListener image moment left_since faults may_give link_view gate_view keeper left agents workers may_open old new old_places new_places status
+listened image moment left_since faults may_give link_view gate_view keeper left agents workers gates may_open old mid new old_places new_places status opened count same (inl u) =
     inr (inl (record {
       kept = u.kept;
       gates = gates;
@@ -391,7 +388,7 @@ listened image faults may_give link_view gate_view keeper left agents workers ga
       refused = u.refused;
       status_is = u.status_is;
     }))
-listened image faults may_give link_view gate_view keeper left agents workers gates may_open old mid new old_places new_places status opened count same (inr s) =
+listened image moment left_since faults may_give link_view gate_view keeper left agents workers gates may_open old mid new old_places new_places status opened count same (inr s) =
     inr (inr (record {
       gates = gates;
       opened = opened;
@@ -408,6 +405,7 @@ listened image faults may_give link_view gate_view keeper left agents workers ga
         back = s.back ∙ ap (option_map (λ back. back ++ reverse (map (λ desk. desk.back) s.desks))) same;
         status_is = s.status_is;
       };
+      took = record { taken = s.took.taken; entries = s.took.entries; faulted = s.took.faulted; so = s.took.so keeper refl };
     }))
 
 -- no desk has a gate yet

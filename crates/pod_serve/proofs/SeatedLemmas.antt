@@ -20,7 +20,7 @@ use Rattle.pod_path.specs.Norm.{norm}
 use Rattle.published_view.specs.LookerState.{NotNoPlace}
 use Rattle.published_view.specs.declared.fault.ViewFault.{ViewFault}
 use Rattle.published_view.specs.declared.fault.ViewFault.TheVariants as views
-use Rattle.pod_live.specs.Visits.{Changed, IsFaulted, IsTurnedAway, Looked, ReadAt, Visit}
+use Rattle.pod_live.specs.Visits.{Changed, FaultedAt, IsFaulted, IsTurnedAway, Looked, ReadAt, Visit}
 use Rattle.pod_reply.specs.Reply.{IsReply, agent_of}
 use Rattle.request_target.specs.Targets.{origin_form}
 use Rattle.reply_laws.specs.Granted.{is_change}
@@ -124,13 +124,22 @@ module _ (kept : History → Type 0) (first : ℕ) (request : Request) (asked : 
   )
 
   -- a change met a disk fault, which was counted on the session
-  pub change_faulted : is_change request.method ≡ true → IsFaulted old new → Came (Err DiskFault)
-  change_faulted changing fault = (
+  pub change_faulted : is_change request.method ≡ true → IsFaulted old new → FaultedAt kept old.seen request asked stamp → Came (Err DiskFault)
+  change_faulted changing fault at = (
     record { request = request; number = stamp.number; asked = asked; moment = stamp.moment.0; outcome = disk_fault },
     record { request_is = refl; number_is = refl; asked_is = refl },
     refl,
     record {
-      turn = (subst (λ (xs : List Entry). IsPrefix old.seen xs) (sym (ap (λ (v : Visit). v.seen) fault)) (prefix_self old.seen), changing);
+      turn = record {
+        changes = changing;
+        entries = at.entries;
+        seen_before = at.after_seen;
+        reply = at.reply;
+        entry = at.entry;
+        replies = at.replies;
+        entry_is = at.entry_is;
+        seen_after = subst (λ (xs : List Entry). IsPrefix old.seen xs) (sym (ap (λ (v : Visit). v.seen) fault)) (prefix_self old.seen);
+      };
       looks = ap (λ (v : Visit). v.looks) fault ∙ (omega arith ∙ ap (λ b. old.looks + (if b then 0 else 1)) (sym changing));
       changes = omega (arith, ap (λ (v : Visit). v.changes) fault);
       faults = ap (λ (v : Visit). v.faults) fault;

@@ -1,13 +1,17 @@
 -- The connections of a desk, one after the other.
-use Rattle.std.specs.Prelude.{◌≡◌, ◌≢◌, ◌⊎◌, ℕ, ◌+◌, List, [], ◌∷◌, ◌++◌, length, map}
+use Rattle.std.specs.Prelude.{◌≡◌, ◌≢◌, ◌⊎◌, ℕ, ◌+◌, List, [], ◌∷◌, ◌++◌, length, map, sum_by}
 use Rattle.std.specs.Prelude.{Option, Some}
 use Rattle.std.specs.List.{AllByRecursion}
 use Rattle.std.specs.Option.{option_map}
+use mathlib.Core.List.{IsPrefix}
 use Rattle.pod_base.specs.Counts.{CountIncreased}
+use Rattle.pod_base.specs.EachTo.{EachTo}
 use Rattle.pod_base.specs.declared.request.Request.{Request}
+use Rattle.pod_command.specs.declared.entry.Entry.{Entry}
 use Rattle.pod_core.specs.History.{History}
 use Rattle.pod_io.specs.Counts.{next_count}
-use Rattle.pod_live.specs.Visits.{Visit}
+use Rattle.pod_live.specs.Takes.{TakenItem, Took}
+use Rattle.pod_live.specs.Visits.{Meets, Visit}
 use Rattle.token_table.specs.Credentials.{AskedAgent}
 use Rattle.socket_wire.specs.Counted.{WireCounts}
 use Rattle.pod_serve.specs.Connections.{ConnServed}
@@ -98,3 +102,33 @@ module _ (kept : History → Type 0) (first : ℕ) (may_give : ℕ → Type 0)
   abbrev pub IsDeskServed : ℕ → Visit → Visit → Option DeskEnd → GateView C → GateView C → Type 0
   IsDeskServed number before after told old new = (end : DeskEnd) × (told ≡ Some end)
       × DeskServed number end before after old new
+
+module _ (kept : History → Type 0) (first : ℕ) (may_give : ℕ → Type 0)
+    (asking : Request → AskedAgent) {S G C : Type 0} (view : C → LinkView)
+    (gate_view : G → GateView C) (session : S → Visit) (gate : S → G)
+    (told : S → Option DeskEnd) where
+  -- Each of these desks was served. The first has this number.
+  abbrev pub EachDeskServed : ℕ → ℕ → List S → List S → Type 0
+  EachDeskServed step number [] [] = Unit {0}
+  EachDeskServed step number [] (now ∷ rest) = ⊥
+  EachDeskServed step number (desk ∷ others) [] = ⊥
+  EachDeskServed step number (desk ∷ others) (now ∷ rest) =
+      IsDeskServed kept first may_give asking view step number (session desk) (session now)
+      (told now) (gate_view (gate desk)) (gate_view (gate now))
+      × EachDeskServed step (number + 1) others rest
+
+  -- All desks were served, as those in `served` are, by the sessions of a store whose list began
+  -- with `opening`; they have all sessions of it. Afterwards all sessions have seen one list, to
+  -- which each added as many entries as it counts, and the desks are as they were. The changes that
+  -- were carried to the disks added that list; as many met a disk fault as the sessions count; and
+  -- `takes` holds of them.
+  pub record AreDesksServed (takes : List TakenItem → Type 0) (opening : List Entry)
+      (old new : List S) : Type 0 where
+    pub served : List S
+    pub desks : EachDeskServed (length old) 1 old served
+    pub list : List Entry
+    pub opening_is : IsPrefix opening list
+    pub grown : length list ≡ length opening + sum_by (λ desk. (session desk).changes) served
+    pub met : EachTo (λ one other. Meets list (session one) (session other)
+        × (gate other ≡ gate one) × (told other ≡ told one)) served new
+    pub took : Took takes list (sum_by (λ desk. (session desk).faults) served)

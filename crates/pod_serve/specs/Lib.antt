@@ -1,6 +1,7 @@
 -- what public clauses cite: one connection of many, the connections of many gates, and a run of
 -- `podd`
 pub mod Upgrades
+pub mod WorldRuns
 pub mod Served
 pub mod Connections
 pub mod Desks

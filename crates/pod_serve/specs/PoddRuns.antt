@@ -17,6 +17,7 @@ use Rattle.pod_io.specs.declared.listen.ListenFault.TheVariants as listens
 use Rattle.pod_keeper.specs.KeeperState.{KeeperState}
 use Rattle.pod_keeper.specs.OpenedPods.{IsOpened, OpensDisks}
 use Rattle.pod_live.specs.Stores.{Covers, IsSafe, KeptSome}
+use Rattle.pod_live.specs.Takes.{Leads, Took}
 use Rattle.pod_live.specs.Visits.{IsNewVisit, Visit}
 use Rattle.pod_records.specs.OpenedStores.{HasPodCause}
 use Rattle.published_view.specs.LookerState.{CountIncreasedByOne}
@@ -141,6 +142,9 @@ module _ {D G C : Type 0} (image : D → List ℕ → Type 0) (faults : D → �
     pub back : GivesBack (map (λ desk. desk.back) desks) old new
     pub status_is : status ≡ served_status (map (λ desk. desk.end) desks)
 
+module _ {D G C : Type 0} (image : D → List ℕ → Type 0) (moment : D → ℕ)
+    (left_since : D → ℕ → List ℕ → Type 0) (faults : D → ℕ) (may_give : ℕ → Type 0)
+    (link_view : C → LinkView) (gate_view : G → GateView C) where
   -- The listener opened these gates, and each was given back unserved.
   pub record AreGivenBack (gates : List G) (may_open : List G → Type 0) (old new : ListenView G)
       : Type 0 where
@@ -167,13 +171,20 @@ module _ {D G C : Type 0} (image : D → List ℕ → Type 0) (faults : D → �
     pub refused : fault ≡ views.NoPlace → CountIncreasedByOne old_places new_places
     pub status_is : status ≡ view_status fault
 
-  -- The connections of so many gates were served.
+  -- The connections of so many gates were served. The changes that were carried to the disks, in the
+  -- order of the store's lock, lead from the keeper to the one that is left: they added the entries
+  -- of the list, and as many met a disk fault as did of all sessions. At each moment each pair of
+  -- crash images represents the history with the entries of the changes before, or that with the
+  -- entry in doubt or the one under way (`moments_are_of_changes` of `pod_live`).
   pub record IsServing (keeper left : KeeperState D) (agents : List TokenEntry) (workers : ℕ)
       (may_open : List G → Type 0) (old new : ListenView G) (status : ℕ) : Type 0 where
     pub gates : List G
     pub opened : may_open gates
     pub count : length gates ≡ workers
-    pub served : AreAllServed keeper left agents gates old new status
+    pub served : AreAllServed image faults may_give link_view gate_view keeper left agents gates
+        old new status
+    pub took : Took (λ taken. Leads image moment left_since keeper taken left) served.list
+        (sum_by (λ desk. desk.after.faults) served.desks)
 
   -- The token table was read, and what came of the listener.
   pub record IsTabled (keeper left : KeeperState D) (workers : ℕ) (tokens : TokenSource)
@@ -195,8 +206,7 @@ module _ {D G C : Type 0} (image : D → List ℕ → Type 0) (faults : D → �
         errors.old_faults errors.new_faults
     pub listener : new ≡ old
 
-  module _ (moment : D → ℕ) (left_since : D → ℕ → List ℕ → Type 0) (content : D → Option (List ℕ))
-      (first second first_new second_new : D) where
+  module _ (content : D → Option (List ℕ)) (first second first_new second_new : D) where
     -- The store wasn't opened, and nothing else was done.
     pub record IsUnopened (tokens : TokenSource) (errors : ErrorSink) (old new : ListenView G)
         (status : ℕ) : Type 0 where

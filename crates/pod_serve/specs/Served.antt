@@ -25,6 +25,7 @@ use Rattle.reply_laws.specs.Granted.{is_change}
 use Rattle.token_table.specs.Credentials.{AskedAgent}
 use Rattle.pod_serve.specs.declared.requests_end.RequestsEnd.{RequestsEnd}
 use Rattle.pod_serve.specs.declared.requests_end.RequestsEnd.TheVariants as ends
+use Rattle.pod_serve.specs.WorldRuns.{IsRun}
 use Rattle.pod_serve.specs.declared.conn_end.TheConstants.{QUIET_LIMIT}
 
 -- What a link shows: the bytes that are left to be read and those that it has sent, where it shows
@@ -85,6 +86,43 @@ IsHeard ends.Quiet read heard left = (rest : ℕ) × Messages read heard rest ×
 IsHeard ends.NoPlace read heard left = (rest : ℕ) × Messages read heard rest
 IsHeard ends.LinkFault read heard left = Hears read heard
 IsHeard ends.NoMemory read heard left = HearsFirst read heard
+
+-- ---- the reads of a connection
+
+-- the bytes of pieces, one after the other
+abbrev pub pieces_text : List (List ℕ) → List ℕ
+pieces_text [] = []
+pieces_text (piece ∷ pieces) = piece ++ pieces_text pieces
+
+-- Each request of a text is one of the first `count` of its connection, and none of its events ends
+-- the connection.
+pub record IsTakenUp (count : ℕ) (text : List ℕ) : Type 0 where
+  pub events : List Heard
+  pub rest : ℕ
+  pub messages : Messages text events rest
+  pub stays : StaysOpen 0 events
+  pub answered : length (requests_of events) ≤ count
+
+-- What is read after a text, in pieces that have bytes. Before each of them all that was read until
+-- then was taken up: the connection has `count` items, and an item for each of its requests.
+abbrev pub ArePieces : ℕ → List ℕ → List (List ℕ) → Type 0
+ArePieces count text [] = Unit {0}
+ArePieces count text (piece ∷ pieces) = IsTakenUp count text × (0 < length piece)
+    × ArePieces count (text ++ piece) pieces
+
+-- All that was read, in pieces: one for each read of the link that gave bytes, in order. In a world
+-- each is the event Arrive. So many of the reads that were counted found the end.
+pub record IsReadIn (count ended : ℕ) (read : List ℕ) (old new : ℕ) : Type 0 where
+  pub pieces : List (List ℕ)
+  pub text : pieces_text pieces ≡ read
+  pub in_turn : ArePieces count [] pieces
+  pub counted : new < 2 ^ 64 - 1 → new ≡ old + (length pieces + ended)
+
+-- how many reads found the end of a connection
+abbrev pub end_reads : RequestsEnd → ℕ
+end_reads ends.PeerEnded = 1
+end_reads (ends.CutShort rest) = 1
+end_reads _ = 0
 
 -- ---- what was written
 
@@ -176,7 +214,8 @@ module _ (kept : History → Type 0) (first : ℕ) (may_give : ℕ → Type 0)
   -- The connection of that number was served by a session, and ended so. The bytes that were
   -- written are the output of its items over the events of the bytes that were read, or a part of
   -- it. The items are a session over each history that was kept with any entries that continue
-  -- those which the session has then seen, from what it had seen before on.
+  -- those which the session has then seen, from what it had seen before on. In a world all of this
+  -- is a run of events: an Arrive for each read, and a Look or a change's events for each item.
   pub record RequestsServed (conn : ℕ) (end : RequestsEnd) (before after : Visit) (old new : LinkView)
       : Type 0 where
     pub read : List ℕ
@@ -184,6 +223,11 @@ module _ (kept : History → Type 0) (first : ℕ) (may_give : ℕ → Type 0)
     pub written : List ℕ
     pub items : Items
     pub reads : Reads read old.rest new.rest
+    pub arrivals : IsReadIn (length items.list) (end_reads end) read old.counts.reads
+        new.counts.reads
+    pub run : (all : List Heard) (rest : ℕ) → Messages read all rest → (place : ℕ)
+        → place ≤ first + length before.seen → IsRun kept may_give asking conn after.seen place
+        arrivals.pieces items.list items.refusal read all
     pub hears : IsHeard end read events new.rest
     pub walk : Walk kept first conn may_give before.seen items.list after.seen
     pub session : (history : History) → kept history → (list : List Entry)

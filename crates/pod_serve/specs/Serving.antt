@@ -25,7 +25,7 @@ use Rattle.pod_pipe.specs.Streams.{Reads}
 use Rattle.reply_laws.specs.Granted.{is_change}
 use Rattle.token_table.specs.Credentials.{AskedAgent}
 use Rattle.pod_serve.specs.Served.{HasCause, IsAllWritten, IsHeard, IsWritten, IsWrittenUpTo, Items}
-use Rattle.pod_serve.specs.Served.{LinkView, MeetsEnd, changes_in, faults_in, faults_on, looks_in}
+use Rattle.pod_serve.specs.Served.{IsReadIn, LinkView, MeetsEnd, changes_in, end_reads, faults_in, faults_on, looks_in}
 use Rattle.pod_serve.specs.Served.{looks_on}
 use Rattle.pod_serve.specs.declared.requests_end.RequestsEnd.{RequestsEnd}
 use Rattle.pod_serve.specs.declared.requests_end.RequestsEnd.TheVariants as ends
@@ -156,8 +156,10 @@ module _ {A : Type 0} (rules : Rules A) where
       ⊎ ((request : Request) × rules.passes request mid new)
   IsLeft _ mid new events items written = new ≡ mid
 
-  -- The connection ended in a text, and these bytes were written.
-  pub record IsEnded (end : RequestsEnd) (first new : A) (read written : List ℕ) : Type 0 where
+  -- The connection ended in a text, and these bytes were written. So many requests had been answered
+  -- before its last piece.
+  pub record IsEnded (end : RequestsEnd) (number : ℕ) (first new : A) (read written : List ℕ)
+      : Type 0 where
     pub events : List Heard
     pub items : Items
     pub hears : (left : Option (List ℕ)) → IsHeard end read events left
@@ -168,21 +170,22 @@ module _ {A : Type 0} (rules : Rules A) where
     pub last : UpgradesLast items.list
     pub refused : IfSome items.refusal (IsRefused rules.may_give events items.list)
     pub output : IsOutput end events items written
+    pub answered : number ≤ length items.list
 
-  -- what an answered piece leads to
-  abbrev pub AfterPiece : Result (Unit {0}) TalkEnd → A → ParserState → A → ℕ → List ℕ → List ℕ
+  -- what an answered piece leads to, before which so many requests had been answered
+  abbrev pub AfterPiece : Result (Unit {0}) TalkEnd → ℕ → A → ParserState → A → ℕ → List ℕ → List ℕ
       → Type 0
-  AfterPiece (Ok _) first stage now number text written =
-      IsAnswered first stage now number text written
-  AfterPiece (Err end) first stage now number text written =
-      IsEnded (requests_end_of end) first now text written
+  AfterPiece (Ok _) before first stage now number text written =
+      IsAnswered first stage now number text written × (before ≤ number)
+  AfterPiece (Err end) before first stage now number text written =
+      IsEnded (requests_end_of end) before first now text written
 
   -- A piece was answered with these bytes, whatever was answered before it.
   abbrev pub AnswersPiece : ParserState → ParserState → A → ℕ → A → ℕ → List ℕ → List ℕ
       → Result (Unit {0}) TalkEnd → Type 0
   AnswersPiece stage stage_now old number new number_now piece out result =
       (first : A) (text written : List ℕ) → IsAnswered first stage old number text written
-      → AfterPiece result first stage_now new number_now (text ++ piece) (written ++ out)
+      → AfterPiece result number first stage_now new number_now (text ++ piece) (written ++ out)
 
   -- ---- a connection
 
@@ -193,6 +196,7 @@ module _ {A : Type 0} (rules : Rules A) where
     pub text : List ℕ
     pub written : List ℕ
     pub reads : Reads text start.rest view.rest
+    pub arrivals : IsReadIn number 0 text start.counts.reads view.counts.reads
     pub answered : IsAnswered first stage now number text written
     pub writes : ExtendsBy written start.sent (taken_with waiting view.sent)
     pub more : List ℕ
@@ -210,6 +214,7 @@ module _ {A : Type 0} (rules : Rules A) where
     pub text : List ℕ
     pub written : List ℕ
     pub reads : Reads (text ++ piece) start.rest view.rest
+    pub arrivals : IsReadIn number 0 (text ++ piece) start.counts.reads view.counts.reads
     pub answered : IsAnswered first stage now number text written
     pub writes : ExtendsBy written start.sent view.sent
     pub ended : view.counts.ends ≡ start.counts.ends
@@ -225,6 +230,8 @@ module _ {A : Type 0} (rules : Rules A) where
     pub writes : ExtendsBy written old.sent now.sent
     pub events : List Heard
     pub items : Items
+    pub arrivals : IsReadIn (length items.list) (end_reads end) read old.counts.reads
+        now.counts.reads
     pub hears : IsHeard end read events now.rest
     pub mid : A
     pub are_items : AreItems rules first mid items.list

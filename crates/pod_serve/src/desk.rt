@@ -1,12 +1,8 @@
 //! [`serve`]: the connections of many gates, beside each other.
 ghost use Rattle.std.specs.Prelude.{◌≡◌, ◌+◌, ◌≢◌, ◌⊎◌, ◌<◌, false, true, if◌then◌else◌, length};
-ghost use Rattle.std.specs.Prelude.{slice_index_or, sum_by, ℕ, List as ListOf};
-ghost use mathlib.Core.List.{IsPrefix};
+ghost use Rattle.std.specs.Prelude.{slice_index_or, ℕ};
 ghost use Rattle.conn_talk.specs.Agents.{asking_of};
-ghost use Rattle.pod_base.specs.EachTo.{EachTo};
-ghost use Rattle.pod_command.specs.declared.entry.Entry.{Entry};
-ghost use Rattle.pod_live.specs.Visits.{Meets};
-ghost use Rattle.pod_serve.specs.Desks.{DeskServed, IsDeskServed, gate_view_of};
+ghost use Rattle.pod_serve.specs.Desks.{AreDesksServed, DeskServed, IsDeskServed, gate_view_of};
 ghost use Rattle.pod_serve.specs.Turns.{NextServed};
 ghost use Rattle.pod_serve.specs.Served.{link_view_of};
 
@@ -198,7 +194,8 @@ fn serve_beside<
 /// i + 1, i + 1 + W and so on, where W is the number of desks, 1 to 64.
 ///
 /// The desks hold all sessions of the store. Afterwards all of these have seen one list of entries,
-/// which has as many as the sessions have added.
+/// which has as many as the sessions have added. The changes that were carried to the disks, in the
+/// order of the store's lock, have added that list, and are steps of its keeper.
 pub fn serve<
     N: ViewName<CommittedEntry> + StoreName + Send + Sync,
     L: Rounds<N> + Sync,
@@ -208,18 +205,10 @@ pub fn serve<
 >(rt: &R, alloc: Global, live: &L, agents: &Agents, desks: &mut [Seat<Post<G>, N>], clock: &C)
     requires all { length desks.old ≡ N.parts }
     requires few { (0 < length desks.old) × (length desks.old < 65) }
-    ensures { (list : ListOf Entry) × (mid : ListOf _) × IsPrefix N.opening list
-        × (length list ≡ length N.opening + sum_by (λ s. s.session.changes) mid)
-        × ((i : ℕ) (d : _) → i < length desks.old
-        → IsDeskServed N.kept N.opened.next (C.may_give clock.now) (asking_of agents.now)
-        (link_view_of G.Conn.rest G.Conn.sent G.Conn.counts) (length desks.old) (i + 1)
-        (slice_index_or desks.old i d).session (slice_index_or mid i d).session
-        (slice_index_or mid i d).rest.end
-        (gate_view_of G.rest G.back G.faults G.given G.ends
-        (slice_index_or desks.old i d).rest.gate)
-        (gate_view_of G.rest G.back G.faults G.given G.ends (slice_index_or mid i d).rest.gate))
-        × EachTo (λ old new. Meets list old.session new.session × (new.rest ≡ old.rest))
-        mid desks.new }
+    ensures { AreDesksServed N.kept N.opened.next (C.may_give clock.now) (asking_of agents.now)
+        (link_view_of G.Conn.rest G.Conn.sent G.Conn.counts)
+        (gate_view_of G.rest G.back G.faults G.given G.ends) (λ desk. desk.session)
+        (λ desk. desk.rest.gate) (λ desk. desk.rest.end) L.takes N.opening desks.old desks.new }
 {
     serve_beside(rt, &alloc, live, agents, desks, clock);
     live.gather(rt, desks);

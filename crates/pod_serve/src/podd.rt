@@ -6,7 +6,7 @@ ghost use Rattle.conn_talk.specs.Agents.{asking_of};
 ghost use Rattle.pod_base.specs.Counts.{CountIncreased};
 ghost use Rattle.pod_core.specs.History.{History};
 ghost use Rattle.pod_keeper.specs.Kept.{StandsForSome};
-ghost use Rattle.pod_keeper.specs.KeeperState.{version_in};
+ghost use Rattle.pod_keeper.specs.KeeperState.{KeeperState, version_in};
 ghost use Rattle.pod_live.specs.Stores.{IsSafe, KeptSome};
 ghost use Rattle.pod_live.specs.Visits.{IsNewVisit};
 ghost use Rattle.podd_words.specs.Readings.{reading};
@@ -25,7 +25,7 @@ use pod_base::{List, Mem};
 use pod_disk::{Disk, Disks, Place};
 use pod_io::{Clock, Gate, Listen, ListenFault, Sink, Source};
 use pod_keeper::{Keeper, NotOpened};
-use pod_live::{CommittedEntry, Live, Names, NotLive, Seat, Session, StoreName};
+use pod_live::{CommittedEntry, KeeperName, Live, Names, NotLive, Seat, Session, StoreName};
 use pod_pipe::Status;
 use podd_words::{Settings, read};
 use published_view::{Places, ViewFault, ViewName};
@@ -153,7 +153,7 @@ fn status_of_view(fault: ViewFault) -> Status
 
 /// Serves all desks, closes the store, and returns its keeper.
 fn serve_desks<
-    N: ViewName<CommittedEntry> + StoreName + Send + Sync,
+    N: ViewName<CommittedEntry> + StoreName + KeeperName<D> + Send + Sync,
     D: Disk + Send,
     G: Gate + Send,
     C: Clock + Sync,
@@ -169,10 +169,10 @@ fn serve_desks<
     requires all { length desks.old ≡ N.parts }
     requires few { (0 < length desks.old) × (length desks.old < 65) }
     requires opening { N.opening ≡ [] }
-    ensures { AreClosed D.image D.faults (C.may_give clock.now)
+    ensures { AreClosed D.image D.moment D.left_since D.faults (C.may_give clock.now)
         (link_view_of G.Conn.rest G.Conn.sent G.Conn.counts)
         (gate_view_of G.rest G.back G.faults G.given G.ends) N.kept N.opened.next N.safe N.counted
-        (asking_of agents.now) result (λ desk. desk.session) (λ desk. desk.rest.gate)
+        N.began (asking_of agents.now) result (λ desk. desk.session) (λ desk. desk.rest.gate)
         (λ desk. desk.rest.end) desks.old desks.new }
 {
     serve(rt, alloc, &live, agents, desks, clock);
@@ -181,7 +181,7 @@ fn serve_desks<
 
 /// Serves gates by the sessions of a store, closes the store, and gives the gates back.
 fn serve_live<
-    N: ViewName<CommittedEntry> + StoreName + Send + Sync,
+    N: ViewName<CommittedEntry> + StoreName + KeeperName<D> + Send + Sync,
     D: Disk + Send,
     O: Listen,
     C: Clock + Sync,
@@ -207,10 +207,10 @@ where
     requires few { (0 < length gates.items) × (length gates.items < 65) }
     requires opening { N.opening ≡ [] }
     requires room { length gates.items ≤ O.room listen.old }
-    ensures { AreServedAs D.image D.faults (C.may_give clock.now)
+    ensures { AreServedAs D.image D.moment D.left_since D.faults (C.may_give clock.now)
         (link_view_of O.Gate.Conn.rest O.Gate.Conn.sent O.Gate.Conn.counts)
         (gate_view_of O.Gate.rest O.Gate.back O.Gate.faults O.Gate.given O.Gate.ends)
-        N.kept N.opened.next N.safe N.counted (asking_of agents.now) result.1 gates.items
+        N.kept N.opened.next N.safe N.counted N.began (asking_of agents.now) result.1 gates.items
         (listen_view_of O.back O.faults listen.old) (listen_view_of O.back O.faults listen.new)
         result.0.0 }
 {
@@ -223,7 +223,7 @@ where
 
 /// Publishes the versions of a keeper under these names, and serves gates by its sessions.
 fn serve_gates<
-    N: ViewName<CommittedEntry> + StoreName + Send + Sync,
+    N: ViewName<CommittedEntry> + StoreName + KeeperName<D> + Send + Sync,
     D: Disk + Send,
     O: Listen,
     C: Clock + Sync,
@@ -250,18 +250,19 @@ where
     requires kept { (history : History) → N.kept history → KeptSome D.image keeper history }
     requires stands { StandsForSome D.image keeper }
     requires safe { N.safe → IsSafe D.image keeper }
+    requires began { (old : KeeperState D) → N.began old → keeper ≡ old }
     requires counted { N.counted ≡ D.faults keeper.first + D.faults keeper.second }
     requires few { (0 < length gates.items) × (length gates.items < 65) }
     requires room { length gates.items ≤ O.room listen.old }
-    ensures { AreUnserved D.image D.faults (C.may_give clock.now)
+    ensures { AreUnserved D.image D.moment D.left_since D.faults (C.may_give clock.now)
         (link_view_of O.Gate.Conn.rest O.Gate.Conn.sent O.Gate.Conn.counts)
         (gate_view_of O.Gate.rest O.Gate.back O.Gate.faults O.Gate.given O.Gate.ends)
         keeper result.1 gates.items (listen_view_of O.back O.faults listen.old)
         (listen_view_of O.back O.faults listen.new) places.old places.new result.0.0
-        ⊎ AreServedAs D.image D.faults (C.may_give clock.now)
+        ⊎ AreServedAs D.image D.moment D.left_since D.faults (C.may_give clock.now)
         (link_view_of O.Gate.Conn.rest O.Gate.Conn.sent O.Gate.Conn.counts)
         (gate_view_of O.Gate.rest O.Gate.back O.Gate.faults O.Gate.given O.Gate.ends)
-        N.kept N.opened.next N.safe N.counted (asking_of agents.now) result.1 gates.items
+        N.kept N.opened.next N.safe N.counted N.began (asking_of agents.now) result.1 gates.items
         (listen_view_of O.back O.faults listen.old) (listen_view_of O.back O.faults listen.new)
         result.0.0 }
 {
@@ -298,16 +299,17 @@ where
     requires stands { StandsForSome D.image keeper }
     requires few { (0 < length gates.items) × (length gates.items < 65) }
     requires room { length gates.items ≤ O.room listen.old }
-    ensures { AreUnserved D.image D.faults (C.may_give clock.now)
+    ensures { AreUnserved D.image D.moment D.left_since D.faults (C.may_give clock.now)
         (link_view_of O.Gate.Conn.rest O.Gate.Conn.sent O.Gate.Conn.counts)
         (gate_view_of O.Gate.rest O.Gate.back O.Gate.faults O.Gate.given O.Gate.ends)
         keeper result.1 gates.items (listen_view_of O.back O.faults listen.old)
         (listen_view_of O.back O.faults listen.new) places.old places.new result.0.0
-        ⊎ AreServedAs D.image D.faults (C.may_give clock.now)
+        ⊎ AreServedAs D.image D.moment D.left_since D.faults (C.may_give clock.now)
         (link_view_of O.Gate.Conn.rest O.Gate.Conn.sent O.Gate.Conn.counts)
         (gate_view_of O.Gate.rest O.Gate.back O.Gate.faults O.Gate.given O.Gate.ends)
         (KeptSome D.image keeper) keeper.next (IsSafe D.image keeper)
-        (D.faults keeper.first + D.faults keeper.second) (asking_of (Agents.Table table)) result.1
+        (D.faults keeper.first + D.faults keeper.second) (λ (k : KeeperState D). keeper ≡ k)
+        (asking_of (Agents.Table table)) result.1
         gates.items (listen_view_of O.back O.faults listen.old)
         (listen_view_of O.back O.faults listen.new) result.0.0 }
 {
@@ -333,7 +335,7 @@ where
     O::Gate: Send,
     requires workers { (0 < settings.workers) × (settings.workers < 65) }
     requires stands { StandsForSome D.image keeper }
-    ensures { RunsListener D.image D.faults (C.may_give clock.now)
+    ensures { RunsListener D.image D.moment D.left_since D.faults (C.may_give clock.now)
         (link_view_of O.Gate.Conn.rest O.Gate.Conn.sent O.Gate.Conn.counts)
         (gate_view_of O.Gate.rest O.Gate.back O.Gate.faults O.Gate.given O.Gate.ends)
         keeper result.1 table settings.workers (O.may_open listen.old)
@@ -369,7 +371,7 @@ where
     O::Gate: Send,
     requires workers { (0 < settings.workers) × (settings.workers < 65) }
     requires stands { StandsForSome D.image keeper }
-    ensures { RunsTokens D.image D.faults (C.may_give clock.now)
+    ensures { RunsTokens D.image D.moment D.left_since D.faults (C.may_give clock.now)
         (link_view_of O.Gate.Conn.rest O.Gate.Conn.sent O.Gate.Conn.counts)
         (gate_view_of O.Gate.rest O.Gate.back O.Gate.faults O.Gate.given O.Gate.ends)
         keeper result.1 settings.workers
@@ -406,10 +408,10 @@ fn run_store<
 where
     O::Gate: Send,
     requires { (0 < settings.workers) × (settings.workers < 65) }
-    ensures { RunsPodd D.image D.faults (C.may_give clock.now)
+    ensures { RunsPodd D.image D.moment D.left_since D.faults (C.may_give clock.now)
         (link_view_of O.Gate.Conn.rest O.Gate.Conn.sent O.Gate.Conn.counts)
         (gate_view_of O.Gate.rest O.Gate.back O.Gate.faults O.Gate.given O.Gate.ends)
-        D.moment D.left_since D.content disks.first disks.second result.1.first result.1.second
+        D.content disks.first disks.second result.1.first result.1.second
         settings.workers (tokens_of T.rest T.faults T.reads T.ends tokens.old tokens.new)
         (errors_of E.taken E.faults errors.old errors.new) (O.may_open listen.old)
         (listen_view_of O.back O.faults listen.old) (listen_view_of O.back O.faults listen.new)
@@ -457,10 +459,10 @@ where
     ensures words { (result.0 ≡ 2) ↔ (reading (map string_bytes words.now) ≡ None) }
     ensures runs { IfSome (reading (map string_bytes words.now)) (λ settings.
         IfSome place.old.disks (λ old. IfSome place.new.disks (λ new.
-        RunsPodd D.image D.faults (C.may_give clock.now)
+        RunsPodd D.image D.moment D.left_since D.faults (C.may_give clock.now)
         (link_view_of O.Gate.Conn.rest O.Gate.Conn.sent O.Gate.Conn.counts)
         (gate_view_of O.Gate.rest O.Gate.back O.Gate.faults O.Gate.given O.Gate.ends)
-        D.moment D.left_since D.content old.first old.second new.first new.second settings.workers
+        D.content old.first old.second new.first new.second settings.workers
         (tokens_of T.rest T.faults T.reads T.ends place.old.tokens place.new.tokens)
         (errors_of E.taken E.faults errors.old errors.new) (O.may_open listen.old)
         (listen_view_of O.back O.faults listen.old) (listen_view_of O.back O.faults listen.new)

@@ -33,7 +33,7 @@ use Rattle.token_table.specs.Credentials.{AskedAgent}
 
 -- ---- lists
 
-times_append : (place : ℕ) (xs ys : List Item) → times_added place (xs ++ ys) ≡ times_added place xs + times_added place ys
+pub times_append : (place : ℕ) (xs ys : List Item) → times_added place (xs ++ ys) ≡ times_added place xs + times_added place ys
 times_append place [] ys = omega arith
 times_append place (x ∷ xs) ys = omega (arith, times_append place xs ys)
 
@@ -41,7 +41,7 @@ changes_append : (xs ys : List Item) → changes_in (xs ++ ys) ≡ changes_in xs
 changes_append [] ys = omega arith
 changes_append (x ∷ xs) ys = omega (arith, changes_append xs ys)
 
-all_append : {X : Type 0} (P : X → Type 0) (xs ys : List X) → AllByRecursion P xs → AllByRecursion P ys → AllByRecursion P (xs ++ ys)
+pub all_append : {X : Type 0} (P : X → Type 0) (xs ys : List X) → AllByRecursion P xs → AllByRecursion P ys → AllByRecursion P (xs ++ ys)
 all_append P [] ys h k = k
 all_append P (x ∷ xs) ys h k = (h.0, all_append P xs ys h.1 k)
 
@@ -127,7 +127,7 @@ module _ (kept : History → Type 0) (first conn : ℕ) (may_give : ℕ → Type
   turn_longer clock before after item (answered other reply) t =
       omega (arith, prefix_length before t.entries t.seen_before, length-append t.entries (option_to_list reply.entry), prefix_length (t.entries ++ option_to_list reply.entry) after t.seen_after)
   turn_longer clock before after item no_memory t = prefix_length before after t
-  turn_longer clock before after item disk_fault t = prefix_length before after t.0
+  turn_longer clock before after item disk_fault t = prefix_length before after t.seen_after
 
   walk_none_before : (items : List Item) (before after : List Entry) → Walk kept first conn may_give before items after → (place : ℕ) → place < first + length before → times_added place items ≡ 0
   walk_none_before [] before after w place less = refl
@@ -189,13 +189,13 @@ module _ (kept : History → Type 0) (first conn : ℕ) (may_give : ℕ → Type
 -- ---- the connections of one desk
 
 module _ (kept : History → Type 0) (first : ℕ) (may_give : ℕ → Type 0) (asking : Request → AskedAgent) {C : Type 0} (view : C → LinkView) (step : ℕ) where
-  abbrev AreConns : ℕ → Visit → List (ServedLink C) → Visit → Type 0
+  abbrev pub AreConns : ℕ → Visit → List (ServedLink C) → Visit → Type 0
   AreConns number before links after = Conns kept first may_give asking view step number before links after
 
   abbrev its_items : (number : ℕ) (before : Visit) (links : List (ServedLink C)) (after : Visit) → AreConns number before links after → List Item
   its_items number before links after c = conn_items kept first may_give asking view step number before links after c
 
-  conns_later : (number : ℕ) (before : Visit) (links : List (ServedLink C)) (after : Visit) → AreConns number before links after → IsPrefix before.seen after.seen
+  pub conns_later : (number : ℕ) (before : Visit) (links : List (ServedLink C)) (after : Visit) → AreConns number before links after → IsPrefix before.seen after.seen
   conns_later number before [] after c = subst (λ (v : Visit). IsPrefix before.seen v.seen) (sym c) (prefix_self before.seen)
   conns_later number before (one ∷ others) after c =
       prefix_trans before.seen c.0.seen after.seen (walk_later kept first number may_give c.1.items.list before.seen c.0.seen c.1.walk) (conns_later (number + step) c.0 others after c.2)
@@ -279,7 +279,7 @@ total f [] = 0
 total f (x ∷ xs) = f x + total f xs
 
 -- numbers of different desks differ
-apart : (s t step i j : ℕ) → s < t → t < s + step → s + i * step ≡ t + j * step → ⊥
+pub apart : (s t step i j : ℕ) → s < t → t < s + step → s + i * step ≡ t + j * step → ⊥
 apart s t step i j after within same = elim (leb_tells i j) [
   | inl w ↦ omega (arith, same, after, mul-le-mul_right step w.1)
   | inr w ↦ let more : j + 1 ≤ i = omega (arith, w.1) in omega (arith, same, within, mul-le-mul_right step more)

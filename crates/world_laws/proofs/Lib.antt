@@ -1,5 +1,6 @@
+-- kept for the crates above
+pub mod WorldLists
 -- internal
-mod WorldLists
 mod WorldSessions
 mod WorldLaw
 mod NextEntries

@@ -1,4 +1,4 @@
-use Rattle.std.proofs.Common.{[], ◌+◌}
+use Rattle.std.proofs.Common.{◌≡◌, [], ◌+◌}
 use Rattle.pod_core.specs.History.{History}
 use Rattle.pod_keeper.specs.KeeperState.{version_in}
 use Rattle.pod_keeper.proofs.HistoryLaws.{kept_is_opened}
@@ -19,3 +19,6 @@ ghosts-serve_once-N-StoreName g a = record {
   faults = a.names.faults.name;
   parts = a.names.changes.parts;
 }
+
+abbrev pub ghosts-serve_once-N-KeeperName : goal.ghosts-serve_once-N-KeeperName
+ghosts-serve_once-N-KeeperName g a = record { began = λ k. a.keeper ≡ k }

@@ -13,4 +13,4 @@ returns-in-Err-NoMemory-clause-turned g c =
 
 pub returns-in-Err-DiskFault-clause-turned : goal.returns-in-Err-DiskFault-clause-turned
 returns-in-Err-DiskFault-clause-turned g c =
-    change_faulted g.N.StoreName.kept g.N.StoreName.opened.next c.args.request.now (asked_view c.args.asked.now) c.args.stamp c.args.session.now c.commit.new.session c.requires (c.in-Err-DiskFault.ensures.fault (ap (λ e. Err e) c.in-Err-DiskFault.field-0-is))
+    change_faulted g.N.StoreName.kept g.N.StoreName.opened.next c.args.request.now (asked_view c.args.asked.now) c.args.stamp c.args.session.now c.commit.new.session c.requires (c.in-Err-DiskFault.ensures.fault (ap (λ e. Err e) c.in-Err-DiskFault.field-0-is)) (c.in-Err-DiskFault.ensures.fault_at (ap (λ e. Err e) c.in-Err-DiskFault.field-0-is))

@@ -26,5 +26,5 @@ returns-in-Bad-clause-turns g c =
       told.1,
       nothing_added (g.E.Sink.taken c.args.errors.now),
       λ first before written trail t.
-          subst (λ one. Ends rules c.refuse.result first c.args.answers.now (before ++ one ∷ []) (written ++ told.0) (trail ++ [])) (sym c.in-Bad.is) (told.2 first before written trail t),
+          subst (λ one. Ends rules c.refuse.result c.args.self.now.number first c.args.answers.now (before ++ one ∷ []) (written ++ told.0) (trail ++ [])) (sym c.in-Bad.is) (told.2 first before written trail t),
     )

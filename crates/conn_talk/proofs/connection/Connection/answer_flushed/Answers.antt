@@ -34,7 +34,7 @@ returns-then-last-clause-turns g c =
       told.4.whole.0,
       told.4.whole.1,
       λ first before written trail t.
-          subst (λ end. Ends rules end first c.answer_one.new.answers (before ++ heard.Request c.args.request.now ∷ []) (written ++ told.0) (trail ++ told.1)) (sym c.end_after.ensures)
+          subst (λ end. Ends rules end c.args.self.now.number first c.answer_one.new.answers (before ++ heard.Request c.args.request.now ∷ []) (written ++ told.0) (trail ++ told.1)) (sym c.end_after.ensures)
           (ends_last rules first c.args.answers.now c.args.self.now.number before written trail t c.answer_one.new.answers c.args.request.now told.0 told.1 told.2 turned plain last c.requires.few),
     )
 

@@ -1,4 +1,4 @@
-use Rattle.std.proofs.Common.{◌≡◌, ◌+◌, List, ap, arith, length, subst, sym}
+use Rattle.std.proofs.Common.{◌≡◌, ◌+◌, ℕ, List, ap, arith, length, subst, sym}
 use Rattle.std.specs.Prelude.{sum_by}
 use mathlib.Core.List.{IsPrefix}
 use Rattle.pod_base.specs.EachTo.{EachTo}
@@ -7,6 +7,7 @@ use Rattle.pod_core.specs.History.{History, longer}
 use Rattle.pod_live.specs.declared.session.Seat.{Seat}
 use Rattle.pod_live.specs.Locks.{LockState}
 use Rattle.pod_live.specs.Stores.{KeptSome}
+use Rattle.pod_live.specs.Takes.{TookChanges}
 use Rattle.pod_live.specs.Visits.{Meets}
 use Rattle.pod_live.proofs.live.Live+N+D.close.Goals as goal
 
@@ -21,8 +22,11 @@ returns g c =
     let faults = ap (λ (s : LockState g.row.D.Denot). s.faults) c.locked-2.view_is in
     let stands = λ (h : History) (k : g.N.StoreName.kept h). subst (λ (entries : List Entry). KeptSome g.D.Disk.image c.locked-2.inside.keeper (longer h entries)) (sym c.tell-front.ensures.list) (c.locked-2.invariant.0.stands h k) in
     let opening = subst (λ (entries : List Entry). IsPrefix g.N.ViewName.opening entries) (sym c.tell-front.ensures.list) c.tell-front.ensures.opening in
+    let Took = λ (entries : List Entry) (n : ℕ). TookChanges g.D.Disk.image g.D.Disk.moment g.D.Disk.left_since g.N.KeeperName.began entries n c.locked-2.inside.keeper in
+    let booked : c.locked-2.inside.faults.total ≡ sum_by (λ (s : Seat g.row.X.Denot g.row.N.Denot). s.session.faults) c.args.seats.now = omega (arith, faults, c.audit.ensures.faults, c.empty-of_faults.ensures.amount) in
+    let took = subst (λ (n : ℕ). Took list n) booked (subst (λ (entries : List Entry). Took entries c.locked-2.inside.faults.total) (sym c.tell-front.ensures.list) c.locked-2.invariant.5) in
     record {
-      one_list = (list, opening, stands, grown, met);
+      one_list = (list, opening, stands, grown, met, took);
       stands = c.locked-2.invariant.0.some;
       safe = c.locked-2.invariant.0.still_safe;
       faults = λ first second. omega (arith, faults, c.audit.ensures.faults, c.empty-of_faults.ensures.amount, c.locked-2.invariant.0.covers first second);

@@ -1,4 +1,4 @@
-use Rattle.std.proofs.Common.{◌≡◌, ◌+◌, List, ap, arith, length, subst, sym}
+use Rattle.std.proofs.Common.{◌≡◌, ◌+◌, ◌∙◌, List, ap, arith, length, subst, sym}
 use Rattle.std.specs.Prelude.{sum_by}
 use mathlib.Core.List.{IsPrefix}
 use Rattle.pod_base.specs.EachTo.{EachTo}
@@ -17,4 +17,7 @@ returns g c =
     let changes = ap (λ (s : LockState g.row.D.Denot). s.changes) c.locked-2.view_is in
     let grown : length list ≡ length g.N.ViewName.opening + sum_by (λ (s : Seat g.row.X.Denot g.row.N.Denot). s.session.changes) c.args.seats.now = omega (arith, listed, changes, c.locked-2.invariant.0.grown, c.audit.ensures.changes, c.empty-of_changes.ensures.amount) in
     let opening = subst (λ (entries : List Entry). IsPrefix g.N.ViewName.opening entries) (sym c.tell-front.ensures.list) c.tell-front.ensures.opening in
-    record { one_list = (list, opening, grown, met) }
+    let faults = ap (λ (s : LockState g.row.D.Denot). s.faults) c.locked-2.view_is in
+    let took = c.locked-2.invariant.5 in
+    let booked : c.locked-2.inside.faults.total ≡ sum_by (λ (s : Seat g.row.X.Denot g.row.N.Denot). s.session.faults) c.args.seats.now = omega (arith, faults, c.audit.ensures.faults, c.empty-of_faults.ensures.amount) in
+    record { one_list = (list, opening, grown, met, record { taken = took.taken; entries = took.entries ∙ sym c.tell-front.ensures.list; faulted = took.faulted ∙ booked; so = (c.locked-2.inside.keeper, took.so) }) }

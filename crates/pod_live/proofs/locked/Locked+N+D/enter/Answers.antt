@@ -1,12 +1,16 @@
-use Rattle.std.proofs.Common.{◌≡◌, ◌+◌, ◌++◌, [], ◌∷◌, ◌∙◌, ap, sym, subst, List, ℕ, rules}
+use Rattle.std.proofs.Common.{◌≡◌, ◌+◌, ◌++◌, [], ◌∷◌, ◌∙◌, ap, sym, subst, List, ℕ, Some, rules}
 use Rattle.std.specs.Arc.{arc_value}
 use Rattle.pod_command.specs.Bare.{bare_entry}
 use Rattle.pod_command.specs.declared.entry.Entry.{Entry}
 use Rattle.pod_keeper.specs.KeeperState.{version_in}
 use Rattle.pod_live.specs.declared.shown.Shown.{Shown}
 use Rattle.pod_live.specs.Locks.{LockState, IsBooked}
+use Rattle.pod_live.specs.Locks.{PlansEntry}
+use Rattle.pod_live.specs.Takes.{TookChanges}
 use Rattle.pod_live.proofs.BookLemmas.{booked_grown, booked_faulted, stands_next}
+use Rattle.pod_live.proofs.TakeLemmas.{took_faulted, took_grown}
 use Rattle.pod_pages.specs.State.{states_after, state_after}
+use Rattle.token_table.specs.Credentials.{asked_view}
 use Rattle.pod_live.proofs.locked.Locked+N+D.enter.Goals as goal
 
 pub publish-requires : goal.publish-requires
@@ -38,7 +42,12 @@ invariant_of-self-2 g c =
     let in_list : c.publish.new.self.list ≡ before ++ bare_entry planned.entry ∷ [] = published ∙ ap (λ (entry : Entry). before ++ bare_entry entry ∷ []) c.in-Ok-carry.ensures.entry in
     let Booked = λ (list : List Entry) (changes : ℕ). IsBooked g.D.Disk.image g.D.Disk.faults N.kept N.safe N.opened g.N.ViewName.opening N.counted (record { keeper = c.carry.new.self; list = list; changes = changes; faults = c.self.inside.faults.total }) in
     let listed = subst (λ (list : List Entry). Booked list (c.self.inside.changes.total + 1)) (sym in_list) grown in
-    (subst (λ (changes : ℕ). Booked c.publish.new.self.list changes) (sym c.add-2.ensures.total) listed, c.self.invariant.1, c.self.invariant.2, c.self.invariant.3, c.self.invariant.4)
+    let asked = asked_view c.args.asked.now in
+    let plans = subst (λ (s : LockState g.row.D.Denot). PlansEntry g.D.Disk.image s.keeper c.args.request.now asked c.args.stamp (Some (bare_entry planned.entry))) (sym c.self.view_is) c.requires.plans in
+    let took = took_grown g.D.Disk.image g.D.Disk.moment g.D.Disk.left_since g.N.KeeperName.began keeper c.carry.new.self before c.self.inside.faults.total c.self.invariant.5 c.args.request.now asked c.args.stamp (bare_entry planned.entry) plans
+    c.carry.ensures.pairs c.carry.ensures.sure c.carry.ensures.long c.in-Ok-carry.ensures.grown in
+    let Took = λ (list : List Entry). TookChanges g.D.Disk.image g.D.Disk.moment g.D.Disk.left_since g.N.KeeperName.began list c.self.inside.faults.total c.carry.new.self in
+    (subst (λ (changes : ℕ). Booked c.publish.new.self.list changes) (sym c.add-2.ensures.total) listed, c.self.invariant.1, c.self.invariant.2, c.self.invariant.3, c.self.invariant.4, subst Took (sym in_list) took)
 
 pub invariant_of-self : goal.invariant_of-self
 invariant_of-self g c =
@@ -50,4 +59,11 @@ invariant_of-self g c =
     let list : c.prepare.new.self.list ≡ before = search rules in
     let Booked = λ (list : List Entry) (faults : ℕ). IsBooked g.D.Disk.image g.D.Disk.faults N.kept N.safe N.opened g.N.ViewName.opening N.counted (record { keeper = c.carry.new.self; list = list; changes = c.self.inside.changes.total; faults = faults }) in
     let listed = subst (λ (list : List Entry). Booked list (c.self.inside.faults.total + 1)) (sym list) failed in
-    (subst (λ (faults : ℕ). Booked c.prepare.new.self.list faults) (sym c.add.ensures.total) listed, c.self.invariant.1, c.self.invariant.2, c.self.invariant.3, c.self.invariant.4)
+    let asked = asked_view c.args.asked.now in
+    let entry = bare_entry c.args.planned.entry in
+    let plans = subst (λ (s : LockState g.row.D.Denot). PlansEntry g.D.Disk.image s.keeper c.args.request.now asked c.args.stamp (Some entry)) (sym c.self.view_is) c.requires.plans in
+    let took = took_faulted g.D.Disk.image g.D.Disk.moment g.D.Disk.left_since g.N.KeeperName.began c.self.inside.keeper c.carry.new.self before c.self.inside.faults.total c.self.invariant.5 c.args.request.now asked c.args.stamp entry plans
+    c.carry.ensures.pairs c.carry.ensures.sure c.carry.ensures.long c.in_default-carry.ensures.fault in
+    let Took = λ (list : List Entry) (faults : ℕ). TookChanges g.D.Disk.image g.D.Disk.moment g.D.Disk.left_since g.N.KeeperName.began list faults c.carry.new.self in
+    let took_here = subst (λ (list : List Entry). Took list (c.self.inside.faults.total + 1)) (sym list) took in
+    (subst (λ (faults : ℕ). Booked c.prepare.new.self.list faults) (sym c.add.ensures.total) listed, c.self.invariant.1, c.self.invariant.2, c.self.invariant.3, c.self.invariant.4, subst (λ (faults : ℕ). Took c.prepare.new.self.list faults) (sym c.add.ensures.total) took_here)
