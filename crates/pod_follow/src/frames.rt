@@ -1,8 +1,9 @@
 //! Frames: a length and a body.
-ghost use Rattle.std.specs.Prelude.{◌≡◌};
+ghost use Rattle.std.specs.Prelude.{◌≡◌, ◌++◌, IfSome, None};
 ghost use Rattle.std.specs.Option.{option_map};
 ghost use Rattle.pod_command.specs.Readers.{number_at, piece_at};
 ghost use Rattle.pod_command.specs.StoredForms.{number_bytes};
+ghost use Rattle.pod_follow.specs.Frames.{HasNoFrame, frame_of};
 
 /// The length of a body, as its frame begins: eight bytes, the greatest first.
 #[tactic(auto, unfolding(pod_command::specs::StoredForms::number_bytes))]
@@ -12,9 +13,10 @@ pub fn frame_head(len: u64) -> [u8; 8]
     len.to_be_bytes()
 }
 
-/// A number with which bytes begin, and what follows it.
+/// A number with which bytes begin, and what follows it; none where there are fewer than eight
+/// bytes.
 #[tactic(auto, unfolding(pod_command::specs::Readers::number_at))]
-fn split_number(bytes: &[u8]) -> Option<(u64, &[u8])>
+pub fn split_number(bytes: &[u8]) -> Option<(u64, &[u8])>
     ensures { option_map (λ r. (r.0, r.1.now)) result ≡ number_at bytes.entry.now }
 {
     if bytes.len() < 8 {
@@ -25,10 +27,9 @@ fn split_number(bytes: &[u8]) -> Option<(u64, &[u8])>
     Some((number, rest))
 }
 
-/// The body of the frame with which bytes begin, and what follows the frame; none where they don't
-/// begin with a whole frame. It takes no memory, whatever length the frame claims.
+/// So many bytes after their number, and what follows them; none where they aren't all there.
 #[tactic(auto, unfolding(pod_command::specs::Readers::piece_at))]
-pub fn split_frame(bytes: &[u8]) -> Option<(&[u8], &[u8])>
+pub fn split_piece(bytes: &[u8]) -> Option<(&[u8], &[u8])>
     ensures { option_map (λ r. (r.0.now, r.1.now)) result ≡ piece_at bytes.entry.now }
 {
     let (len, rest) = split_number(bytes)?;
@@ -36,4 +37,13 @@ pub fn split_frame(bytes: &[u8]) -> Option<(&[u8], &[u8])>
         return None;
     }
     Some(rest.split_at(len as usize))
+}
+
+/// The body of the frame with which bytes begin, and what follows the frame; none where they don't
+/// begin with a whole frame. It takes no memory, whatever length the frame claims.
+pub fn split_frame(bytes: &[u8]) -> Option<(&[u8], &[u8])>
+    ensures some { IfSome result (λ r. bytes.entry.now ≡ frame_of r.0.now ++ r.1.now) }
+    ensures none { result ≡ None → HasNoFrame bytes.entry.now }
+{
+    split_piece(bytes)
 }

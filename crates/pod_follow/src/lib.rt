@@ -28,4 +28,4 @@ mod frames;
 pub mod laws;
 
 pub use follower::{Follower, StartFault, Took};
-pub use frames::{frame_head, split_frame};
+pub use frames::{frame_head, split_frame, split_number, split_piece};

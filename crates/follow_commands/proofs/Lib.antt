@@ -1,0 +1,4 @@
+-- internal
+mod Ended
+mod ReportLemmas
+mod ShipLemmas
