@@ -5,3 +5,4 @@ mod Makers
 mod Histories
 mod Acknowledged
 mod Progress
+mod Events

@@ -13,7 +13,10 @@
 //! pod at each of its places is well-formed ([`well_formed_histories`]). Whatever the events of a
 //! world, each entry that is published was acknowledged by the response of its item, once, and all
 //! entries but the last at most are published ([`each_change_once`]). A world at rest has each step
-//! of a change that has a reply with an entry, up to its publication ([`changes_may_complete`]).
+//! of a change that has a reply with an entry, up to its publication ([`changes_may_complete`]). While
+//! it hasn't stopped, bytes may arrive on each connection, a read that has a reply may be answered at
+//! each place that it may look at, a malformed message may be refused, and the world may stop
+//! ([`events_may_come`]).
 //!
 //! The functions do nothing: their contracts are the laws. They depend on `pod_core` for the
 //! definitions, on `session_laws` and `reply_laws` for what follows of one agent and of one reply.
@@ -22,7 +25,9 @@
 ghost use Rattle.history_laws.specs.Acknowledged.{EntriesAreAcknowledged, EntriesArePublishedOnce};
 ghost use Rattle.history_laws.specs.Entries.{EachPodIsWellFormed, EntryHasOneItem};
 ghost use Rattle.history_laws.specs.Entries.{WorldsHaveHistories};
-ghost use Rattle.history_laws.specs.Progress.{ChangesMayComplete, GatesMayFail, RepairsMayComplete};
+ghost use Rattle.history_laws.specs.Progress.{BytesMayArrive, ChangesMayComplete, GatesMayFail};
+ghost use Rattle.history_laws.specs.Progress.{MessagesMayBeRefused, ReadsMayBeAnswered};
+ghost use Rattle.history_laws.specs.Progress.{RepairsMayComplete, WorldsMayStop};
 ghost use Rattle.history_laws.specs.SameRequests.{SameItems, SameSessions, SameSessionsOverAlike};
 
 use pod_io::Clock;
@@ -65,6 +70,17 @@ pub fn changes_may_complete<C: Clock>(clock: &C)
     ensures completes { ChangesMayComplete (C.may_give clock.now) }
     ensures repaired { RepairsMayComplete (C.may_give clock.now) }
     ensures fails { GatesMayFail (C.may_give clock.now) }
+{
+    let _clock = clock;
+}
+
+/// A world that hasn't stopped has the other steps: bytes arrive, a read is answered at a place that
+/// its connection may look at, a malformed message is refused, and the world stops.
+pub fn events_may_come<C: Clock>(clock: &C)
+    ensures arrives { BytesMayArrive (C.may_give clock.now) }
+    ensures reads { ReadsMayBeAnswered (C.may_give clock.now) }
+    ensures refuses { MessagesMayBeRefused (C.may_give clock.now) }
+    ensures stops { WorldsMayStop (C.may_give clock.now) }
 {
     let _clock = clock;
 }

@@ -1,13 +1,20 @@
 -- Requests have replies, whatever the pod.
-use Rattle.std.specs.Prelude.{◌≡◌, ℕ, List, Ok}
+use Rattle.std.specs.Prelude.{◌≡◌, ℕ, ◌<◌, List, All, IfSome, Result, Ok}
 use Rattle.pod_base.specs.declared.method.Method.{Method}
 use Rattle.pod_base.specs.declared.method.Method.TheVariants as methods
 use Rattle.pod_base.specs.declared.moment.Stamp.{Stamp}
 use Rattle.pod_base.specs.declared.request.Request.{Request}
+use Rattle.patch_outcome.specs.Outcomes.{HasGraphs}
+use Rattle.patch_outcome.specs.declared.refusal.PatchRefusal.{PatchRefusal}
+use Rattle.pod_reply.specs.PatchReplies.{IsBodyOutcome, patched_triples}
 use Rattle.pod_reply.specs.Replies.{Reply}
 use Rattle.pod_reply.specs.Reply.{IsReply}
-use Rattle.pod_rows.specs.Pod.{Pod}
-use Rattle.request_body.specs.Bodies.{Outcome}
+use Rattle.pod_rows.specs.Pod.{Pod, row_at}
+use Rattle.pod_rows.specs.WellFormed.{WellFormed}
+use Rattle.rdf_graph.specs.declared.change.Change.{Change}
+use Rattle.request_body.specs.Bodies.{Means, Outcome}
+use Rattle.request_body.specs.declared.body.RequestBody.{RequestBody}
+use Rattle.request_fields.specs.PartFields.{slug}
 use Rattle.request_target.specs.Admission.{admitted}
 use Rattle.request_target.specs.declared.target.Target.TheVariants.{Resource}
 use Rattle.token_table.specs.Credentials.{AskedAgent}
@@ -41,4 +48,33 @@ PutsHaveReplies = (pod : Pod) (request : Request) (asked : AskedAgent) (seq : �
     → request.method ≡ methods.Put
     → ((path : List ℕ) → admitted pod.base request asked ≡ Ok (Resource path)
     → (outcome : Outcome) × BodyMeans pod request path outcome)
+    → SomeReply pod request asked seq stamp
+
+abbrev pub AreBytes : List ℕ → Type 0
+AreBytes text = All (λ byte. byte < 256) text
+
+-- So has a POST on every well-formed pod whose body is a content or has a fault, whatever its
+-- relative references are resolved against: its member has a name, or the first free one passes a
+-- limit of paths.
+abbrev pub PostsHaveReplies : Type 0
+PostsHaveReplies = (pod : Pod) (request : Request) (asked : AskedAgent) (seq : ℕ) (stamp : Stamp)
+    → WellFormed pod → request.method ≡ methods.Post → IfSome (slug request.fields) AreBytes
+    → ((path base : List ℕ) → admitted pod.base request asked ≡ Ok (Resource path)
+    → (outcome : Outcome) × Means base path request outcome)
+    → SomeReply pod request asked seq stamp
+
+-- what a body does to the graph of a row, or why it does nothing
+pub record SomeChange (pod : Pod) (path : List ℕ) (body : RequestBody) : Type 0 where
+  pub outcome : Result Change PatchRefusal
+  pub is : IsBodyOutcome body path (patched_triples (row_at pod.rows path)) outcome
+  pub graphs : HasGraphs outcome
+
+-- So has a PATCH whose body has a fault, or has an outcome at the graph of the path.
+abbrev pub PatchesHaveReplies : Type 0
+PatchesHaveReplies = (pod : Pod) (request : Request) (asked : AskedAgent) (seq : ℕ) (stamp : Stamp)
+    → request.method ≡ methods.Patch
+    → ((path : List ℕ) → admitted pod.base request asked ≡ Ok (Resource path)
+    → (outcome : Outcome) × BodyMeans pod request path outcome)
+    → ((path : List ℕ) (body : RequestBody) → BodyMeans pod request path (Ok body)
+    → SomeChange pod path body)
     → SomeReply pod request asked seq stamp

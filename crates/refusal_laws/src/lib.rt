@@ -12,8 +12,10 @@
 //! isn't granted, each reply is the refusal of access (`access`). So no refusal of a later rank
 //! is the reply where an earlier condition holds.
 //!
-//! Every request of a method that takes no body has a reply, on every pod, and so has a PUT whose
-//! body is a content or has a fault ([`some_reply`]).
+//! Every request of a method that takes no body has a reply, on every pod ([`some_reply`]). So have a
+//! PUT and a POST whose body is a content or has a fault, a POST on well-formed pods, where its
+//! member always has a name or passes a limit; and a PATCH whose body has a fault, or an outcome at
+//! the graph that it changes.
 //!
 //! The functions do nothing: their contracts are the laws. They depend on `pod_reply` for the
 //! definition of a reply, and on `request_target` and `request_body` for the first ranks.
@@ -21,7 +23,8 @@
 
 ghost use Rattle.refusal_laws.specs.Order.{AccessComesThird, AdmissionComesFirst};
 ghost use Rattle.refusal_laws.specs.Order.{BodyComesSecond};
-ghost use Rattle.refusal_laws.specs.SomeReplies.{BodilessHaveReplies, PutsHaveReplies};
+ghost use Rattle.refusal_laws.specs.SomeReplies.{BodilessHaveReplies, PatchesHaveReplies};
+ghost use Rattle.refusal_laws.specs.SomeReplies.{PostsHaveReplies, PutsHaveReplies};
 
 /// Refusals come in the order target, token, method, body, access, and only then what depends on
 /// the pod.
@@ -33,9 +36,12 @@ pub fn refusals_in_order()
     pod_reply::laws::one_reply();
 }
 
-/// Requests have replies: every one of a method that takes no body, and every PUT whose body is a
-/// content or has a fault. Each has one at most, too.
+/// Requests have replies: every one of a method that takes no body; every PUT, and on well-formed
+/// pods every POST, whose body is a content or has a fault; every PATCH whose body has a fault or
+/// an outcome. Each has one at most, too.
 pub fn some_reply()
     ensures bodiless { BodilessHaveReplies }
     ensures puts { PutsHaveReplies }
+    ensures posts { PostsHaveReplies }
+    ensures patches { PatchesHaveReplies }
 {}

@@ -1,0 +1,4 @@
+-- internal
+mod Stems
+mod MemberNames
+mod PostReplies
