@@ -1,8 +1,9 @@
-//! Cases of a request's fields. It reads one case from each line of standard input, and prints the
-//! line with what the libraries answer as one more field. `stdin` has the cases, and `stdout` what
-//! is expected of them, worked out by hand from RFC 9110 and RFC 6455.
+//! Cases of the messages of HTTP: what a request's fields say, and the responses of a pod. It reads
+//! one case from each line of standard input, and prints the line with what the libraries answer as
+//! one more field. `stdin` has the cases, and `stdout` what is expected of them, worked out by hand
+//! from RFC 9110, RFC 8288, RFC 6455 and the table of response fields.
 //!
-//! The first field names the kind of the case:
+//! The first field names the kind of the case. A FIELD is a name, `: ` and a value.
 //!
 //! | Fields | Answer |
 //! |---|---|
@@ -18,17 +19,24 @@
 //! | `unnamed` CONTAINER KIND ROW.. | that without a slug |
 //! | `tokens` TABLE | whether a text is a token table |
 //! | `agent` TABLE FIELD.. | who makes a request |
-//! | `upgrade` KEY | the key that accepts an upgrade |
+//! | `accept-key` KEY | the key that accepts an upgrade |
 //!
 //! The resource of `judge` was changed at SECOND and has tags with these MARKS. There is none where
-//! SECOND is `none`.
+//! SECOND is `none`. [`forms`] has the cases of a request's form, [`responses`] those of responses.
 #![tactic(auto)]
 
 mod accepts;
+mod admitted;
+mod forms;
 mod lists;
+mod made;
 mod names;
 mod preconditions;
+mod print;
 mod ranges;
+mod read;
+mod refused;
+mod responses;
 mod tokens;
 mod upgrades;
 
@@ -59,8 +67,8 @@ fn answer(alloc: Global, fields: &[&str]) -> Result<String, AllocError> {
         }
         ["tokens", table] => tokens::table(alloc, table),
         ["agent", table, lines @ ..] => tokens::agent(alloc, table, lines),
-        ["upgrade", key] => upgrades::answer(alloc, key),
-        _ => String::from_str(alloc, "no case"),
+        ["accept-key", key] => upgrades::answer(alloc, key),
+        _ => forms::answer(alloc, fields),
     }
 }
 

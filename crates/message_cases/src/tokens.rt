@@ -1,8 +1,8 @@
 //! Token tables, and who makes a request.
 
-use crate::preconditions::add_field;
+use crate::preconditions::fields_of;
 use case_lines::bytes;
-use pod_base::{Fields, Mem, NoMemory};
+use pod_base::{Fields, NoMemory};
 use std::alloc::{AllocError, Global};
 use token_table::{Asked, TokenFault, Tokens};
 
@@ -21,15 +21,6 @@ pub(crate) fn table(alloc: Global, text: &str) -> Result<String, AllocError> {
         Ok(_tokens) => String::from_str(alloc, "a table"),
         Err(fault) => show_fault(alloc, fault),
     }
-}
-
-/// The fields of some lines.
-fn fields_of(alloc: Global, lines: &[&str]) -> Mem<Fields> {
-    let mut fields = Fields::new(alloc);
-    for line in lines {
-        add_field(alloc, &mut fields, line)?;
-    }
-    Ok(fields)
 }
 
 /// Who makes a request with these fields.

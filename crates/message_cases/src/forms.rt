@@ -1,9 +1,4 @@
-//! Cases of what a request's fields say about its form. It reads one case from each line of
-//! standard input, and prints the line with what the library answers as one more field. `stdin` has
-//! the cases, and `stdout` what is expected of them, worked out by hand from RFC 9110, RFC 8288 and
-//! RFC 6455.
-//!
-//! The first field names the kind of the case. A FIELD is a name, `: ` and a value.
+//! Cases of what a request's fields say about its form. A FIELD is a name, `: ` and a value.
 //!
 //! | Fields | Answer |
 //! |---|---|
@@ -12,19 +7,16 @@
 //! | `upgrade` METHOD MINOR FIELD.. | the key of an upgrade, or `none` |
 //! | `slug` FIELD.. | the first Slug, or `none` |
 //! | `range` TAG FIELD.. | the only Range, or `none`, and whether If-Range lets it count for TAG |
-#![tactic(auto)]
 
-mod reading;
-
+use crate::preconditions::fields_of;
+use crate::responses;
 use case_lines::{bytes, shown};
-use case_values::method_of;
-use pod_base::{Bytes, Fields, NoMemory, Request};
-use reading::read_fields;
+use case_values::{known, method_of};
+use pod_base::{Bytes, Fields, Mem, Request};
 use request_fields::{
     allows_ranges, body_type, content_type, links_to_container, range, slug, upgrade_key,
 };
 use std::alloc::{AllocError, Global};
-use std::io;
 
 /// Bytes as a field, or `none`.
 fn shown_or_none(alloc: Global, value: Option<&[u8]>) -> Result<String, AllocError> {
@@ -54,46 +46,47 @@ fn show_range(alloc: Global, fields: &Fields, tag: &str) -> Result<String, Alloc
     format!(in alloc; "{value} {allowed}")
 }
 
+/// The request with a method, a minor version and the fields of some lines.
+fn request_of(alloc: Global, method: &str, minor: &str, lines: &[&str]) -> Mem<Request> {
+    Ok(Request {
+        method: method_of(method),
+        target: Bytes::of(alloc, b"/")?,
+        minor: minor.parse::<u8>().unwrap_or(0),
+        fields: fields_of(alloc, lines)?,
+        body: Bytes::of(alloc, b"")?,
+    })
+}
+
 /// The key of an upgrade.
 fn show_key(
     alloc: Global,
     method: &str,
     minor: &str,
-    fields: Fields,
+    lines: &[&str],
 ) -> Result<String, AllocError> {
-    let (Ok(target), Ok(body)) = (Bytes::of(alloc, b"/"), Bytes::of(alloc, b"")) else {
-        return Err(AllocError);
-    };
-    let request = Request {
-        method: method_of(method),
-        target,
-        minor: minor.parse::<u8>().unwrap_or(0),
-        fields,
-        body,
-    };
+    let request = known(request_of(alloc, method, minor, lines))?;
     shown_or_none(alloc, upgrade_key(&request))
 }
 
-/// What the library answers to the fields of a case.
-fn answer(alloc: Global, words: &[&str]) -> Result<String, AllocError> {
-    match words {
-        ["type", lines @ ..] => show_type(alloc, &read_fields(alloc, lines)?),
-        ["container", lines @ ..] => {
-            let fields = read_fields(alloc, lines)?;
-            format!(in alloc; "{}", links_to_container(&fields))
-        }
-        ["upgrade", method, minor, lines @ ..] => {
-            show_key(alloc, method, minor, read_fields(alloc, lines)?)
-        }
-        ["slug", lines @ ..] => {
-            let fields = read_fields(alloc, lines)?;
-            shown_or_none(alloc, slug(&fields))
-        }
-        ["range", tag, lines @ ..] => show_range(alloc, &read_fields(alloc, lines)?, tag),
-        _ => String::from_str(alloc, "no case"),
+/// What the library answers to a call on the fields of some lines.
+fn form(alloc: Global, call: &str, tag: &str, lines: &[&str]) -> Result<String, AllocError> {
+    let fields = known(fields_of(alloc, lines))?;
+    match call {
+        "type" => show_type(alloc, &fields),
+        "container" => format!(in alloc; "{}", links_to_container(&fields)),
+        "slug" => shown_or_none(alloc, slug(&fields)),
+        _ => show_range(alloc, &fields, tag),
     }
 }
 
-fn main(rt: HostRuntime) -> io::Result<()> {
-    case_lines::run(&rt, answer)
+/// What the library answers to the fields of a case.
+pub(crate) fn answer(alloc: Global, words: &[&str]) -> Result<String, AllocError> {
+    match words {
+        ["type", lines @ ..] => form(alloc, "type", "", lines),
+        ["container", lines @ ..] => form(alloc, "container", "", lines),
+        ["slug", lines @ ..] => form(alloc, "slug", "", lines),
+        ["range", tag, lines @ ..] => form(alloc, "range", tag, lines),
+        ["upgrade", method, minor, lines @ ..] => show_key(alloc, method, minor, lines),
+        _ => responses::answer(alloc, words),
+    }
 }

@@ -7,7 +7,7 @@ use Rattle.std.proofs.lemmas.List.{length-map, get_or-map}
 use Rattle.std.proofs.lemmas.List.Folds.{Any-from_list_any}
 use Rattle.std.proofs.lemmas.Slice.Eq.{bytes_eq-Decides}
 use Rattle.slug_naming.specs.Names.{HasFewRows}
-use Rattle.field_cases.specs.Rows.{is_row_of}
+use Rattle.message_cases.specs.Rows.{is_row_of}
 
 pub few_rows : (texts : List (Bor (List ℕ))) → length texts ≤ 65_536 → HasFewRows (is_row_of texts)
 few_rows texts few = (

@@ -1,6 +1,4 @@
-//! Cases of the responses of a pod. It reads one case from each line of standard input, and prints
-//! the line with what the libraries answer as one more field. `stdin` has the cases, and `stdout`
-//! what is expected of them, worked out by hand from the table of response fields and RFC 9110.
+//! Cases of the responses of a pod.
 //!
 //! The base is `https://pod.example/`, and every response was made at the moment 784,111,777. A
 //! response is its status, its fields, each after `|`, and its body after `||`.
@@ -23,19 +21,12 @@
 //! | `not-allowed` PATH | the refusal of a method that the path doesn't take |
 //! | `unsupported` METHOD PATH | the refusal of a body of another type |
 //! | `unsatisfiable` SIZE | the refusal of ranges that lie outside the body |
-#![tactic(auto)]
 
-mod admitted;
-mod made;
-mod print;
-mod read;
-mod refused;
-
+use crate::{admitted, made, read, refused};
 use std::alloc::{AllocError, Global};
-use std::io;
 
 /// What the library answers to the fields of a case.
-fn answer(alloc: Global, fields: &[&str]) -> Result<String, AllocError> {
+pub(crate) fn answer(alloc: Global, fields: &[&str]) -> Result<String, AllocError> {
     match fields {
         ["date", second] => read::date(alloc, second),
         ["allowed", method, path] => made::allowed(alloc, method, path),
@@ -51,8 +42,4 @@ fn answer(alloc: Global, fields: &[&str]) -> Result<String, AllocError> {
         ["admit", method, target, asked] => admitted::answer(alloc, method, target, asked),
         _ => refused::answer(alloc, fields),
     }
-}
-
-fn main(rt: HostRuntime) -> io::Result<()> {
-    case_lines::run(&rt, answer)
 }

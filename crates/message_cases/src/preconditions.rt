@@ -51,7 +51,7 @@ fn value_of(alloc: Global, text: &str) -> Result<Vec<u8>, AllocError> {
 }
 
 /// Appends the field that `name: value` is.
-pub(crate) fn add_field(alloc: Global, fields: &mut Fields, line: &str) -> Mem<()> {
+fn add_field(alloc: Global, fields: &mut Fields, line: &str) -> Mem<()> {
     let (name, value) = line.split_once(": ").unwrap_or((line, ""));
     let value = value_of(alloc, value)?;
     let name = Text::of(alloc, name)?;
@@ -59,13 +59,18 @@ pub(crate) fn add_field(alloc: Global, fields: &mut Fields, line: &str) -> Mem<(
     fields.add(alloc, Field { name, value })
 }
 
-/// The preconditions among the fields of some lines.
-fn read(alloc: Global, lines: &[&str]) -> Mem<Conditions> {
+/// The fields of some lines.
+pub(crate) fn fields_of(alloc: Global, lines: &[&str]) -> Mem<Fields> {
     let mut fields = Fields::new(alloc);
     for line in lines {
         add_field(alloc, &mut fields, line)?;
     }
-    read_conditions(alloc, &fields)
+    Ok(fields)
+}
+
+/// The preconditions among the fields of some lines.
+fn read(alloc: Global, lines: &[&str]) -> Mem<Conditions> {
+    read_conditions(alloc, &fields_of(alloc, lines)?)
 }
 
 /// The verdict on a resource that was changed at that second and has tags with these marks.

@@ -2,7 +2,7 @@
 
 ghost use Rattle.std.specs.Prelude.{◌≡◌, ◌≤◌, true, length};
 ghost use Rattle.pod_path.specs.Hierarchy.{is_container};
-ghost use Rattle.field_cases.specs.Rows.{is_row_of};
+ghost use Rattle.message_cases.specs.Rows.{is_row_of};
 ghost use Rattle.slug_naming.specs.declared.names.TheConstants.{ROW_LIMIT};
 
 use case_lines::bytes;
