@@ -29,9 +29,8 @@ Unchanged old new = old ≡ new
 abbrev pub EachImage : (List ℕ → Type 0) → (List ℕ → Type 0) → Type 0
 EachImage images P = (c : List ℕ) → images c → P c
 
--- One call. EachImage image after it is one from before it after this step. A crash since an
--- earlier moment may have left what it might have left before, or one of the images now, and
--- nothing else.
+-- One call. Each image after it is one from before it after this step. A crash since an earlier
+-- moment may have left what it might have left before, or one of the images now, and nothing else.
 pub record Passes {D : Type 0} (image : D → List ℕ → Type 0) (moment : D → ℕ) (left_since : D → ℕ
     → List ℕ → Type 0) (Step : List ℕ → List ℕ → Type 0) (old new : D) : Type 0 where
   pub images : (c : List ℕ) → image new c → (d : List ℕ) × image old d × Step d c

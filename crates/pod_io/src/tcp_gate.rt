@@ -12,8 +12,9 @@ use std::time::{Clock, Duration};
 /// How often a connection is accepted until one is given.
 const TRY_LIMIT: usize = 65536;
 
-/// How many of these tries may be followed by a wait.
-const WAIT_LIMIT: usize = 100;
+/// How many of these tries may be followed by a wait, so that a gate waits an hour in all for
+/// what the host lacks, such as descriptors.
+const WAIT_LIMIT: usize = 36000;
 
 /// How long each of these waits is, in milliseconds.
 const WAIT: u64 = 100;
