@@ -18,6 +18,7 @@ mod pattern;
 mod search;
 mod size;
 mod solution_mappings;
+mod steps;
 mod term;
 mod term_order;
 #[cfg(test)]
@@ -36,6 +37,7 @@ pub use patch::{Patch, PatchFault, instantiate, the_mapping};
 pub use pattern::{Found, Mapping, Pattern, Slot};
 pub use size::TRIPLES_LIMIT;
 pub use solution_mappings::solutions;
+pub use steps::STEP_LIMIT;
 pub use term::{Term, Written, copy_iri};
 pub use triple::Triple;
 pub use triple_line::Line;

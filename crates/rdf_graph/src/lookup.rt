@@ -9,6 +9,7 @@ ghost use Rattle.rdf_graph.specs.declared.triple.Triple.{Triple};
 use crate::free_variables::has_variable;
 use crate::matching::{has_terms, subject_range};
 use crate::pattern::{Pattern, Slot};
+use crate::steps::Steps;
 use crate::term::Term;
 use crate::triple::Triple;
 use pod_base::Mem;
@@ -62,27 +63,26 @@ impl<'a> Candidates<'a> {
         }
     }
 
-    /// How many candidates have these terms, where they are given, counted up to a bound.
+    /// How many candidates have these terms, where they are given, counted up to a bound and as
+    /// long as there are steps left.
     pub(crate) fn count(
         self,
         s: Option<&Term>,
         p: Option<&Term>,
         o: Option<&Term>,
         most: usize,
+        steps: &mut Steps,
     ) -> usize {
-        if self.is_by_object() {
-            self.by_object
-                .iter()
-                .filter(|triple| has_terms(triple, s, p, o))
-                .take(most)
-                .count()
-        } else {
-            self.in_order
-                .iter()
-                .filter(|triple| has_terms(triple, s, p, o))
-                .take(most)
-                .count()
+        let mut found: usize = 0;
+        for position in 0..self.len() {
+            if found == most || !steps.take() {
+                return found;
+            }
+            if has_terms(self.at(position), s, p, o) {
+                found = found.saturating_add(1);
+            }
         }
+        found
     }
 }
 

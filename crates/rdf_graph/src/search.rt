@@ -10,6 +10,7 @@ ghost use Rattle.rdf_graph.specs.declared.pattern.Found.TheVariants.{Many};
 use crate::bindings::{BoundVariable, extend, mapping_of, slot_term};
 use crate::lookup::{Candidates, Lookup};
 use crate::pattern::{Found, Pattern};
+use crate::steps::Steps;
 use pod_base::Mem;
 use std::alloc::Global;
 
@@ -34,7 +35,7 @@ impl Found {
 
 /// The solutions among the mappings that have the pairs. Conditions that aren't taken are matched
 /// one after another, the one with the fewest candidates first, and the second mapping ends the
-/// search.
+/// search. Each triple that is looked at takes a step.
 ///
 /// After an `Err` the flags and the pairs are unspecified.
 pub(crate) fn search<'a>(
@@ -43,6 +44,7 @@ pub(crate) fn search<'a>(
     conditions: &[&'a Pattern],
     taken: &mut [bool],
     bound: &mut Vec<BoundVariable<'a>>,
+    steps: &mut Steps,
 ) -> Mem<Found>
     requires lookup { IsLookup lookup }
     requires flags { length taken.old ≡ length conditions.now }
@@ -54,7 +56,7 @@ pub(crate) fn search<'a>(
         (IsSearchResult lookup.entry.triples.now (map (λ c. c.now) conditions.now)
         (Extends (pairs_of bound.old.items))) }
 {
-    let Some(next) = next_condition(lookup, conditions, taken, bound.as_slice()) else {
+    let Some(next) = next_condition(lookup, conditions, taken, bound.as_slice(), steps) else {
         return Ok(Found::One(mapping_of(alloc, bound.as_slice())?));
     };
     taken[next] = true;
@@ -63,9 +65,10 @@ pub(crate) fn search<'a>(
     let mut found = Found::Nothing;
     let candidates = candidates_of(lookup, bound.as_slice(), condition);
     for position in 0..candidates.len() {
+        steps.step()?;
         let triple = candidates.at(position);
         if extend(bound, condition, triple)? {
-            let more = search(alloc, lookup, conditions, taken, bound)?;
+            let more = search(alloc, lookup, conditions, taken, bound, steps)?;
             found = found.union(more);
         }
         bound.truncate(before);
@@ -100,6 +103,7 @@ fn next_condition<'a>(
     conditions: &[&'a Pattern],
     taken: &[bool],
     bound: &[BoundVariable<'a>],
+    steps: &mut Steps,
 ) -> Option<usize>
     requires lookup { IsLookup lookup }
     requires flags { length taken.now ≡ length conditions.now }
@@ -111,7 +115,7 @@ fn next_condition<'a>(
     let mut fewest = first_bound(taken);
     for (i, condition) in conditions.iter().enumerate() {
         if !taken[i] {
-            let matches = matches_of(lookup, bound, condition, fewest);
+            let matches = matches_of(lookup, bound, condition, fewest, steps);
             if best.is_none() || matches < fewest {
                 best = Some(i);
                 fewest = matches;
@@ -128,17 +132,19 @@ fn first_bound(taken: &[bool]) -> usize {
     if left > 1 { usize::MAX } else { 0 }
 }
 
-/// How many triples have the terms of the condition that are bound, counted up to `most`.
+/// How many triples have the terms of the condition that are bound, counted up to `most` and as
+/// long as there are steps left.
 fn matches_of<'a>(
     lookup: Lookup<'a>,
     bound: &[BoundVariable<'a>],
     condition: &'a Pattern,
     most: usize,
+    steps: &mut Steps,
 ) -> usize
     requires { IsLookup lookup }
 {
     let s = slot_term(bound, &condition.s);
     let p = slot_term(bound, &condition.p);
     let o = slot_term(bound, &condition.o);
-    lookup.candidates(s, o).count(s, p, o, most)
+    lookup.candidates(s, o).count(s, p, o, most, steps)
 }

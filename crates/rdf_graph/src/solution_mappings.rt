@@ -10,6 +10,7 @@ use crate::graph::Graph;
 use crate::lookup::{Lookup, index_for};
 use crate::pattern::{Found, Mapping, Pattern};
 use crate::search::search;
+use crate::steps::Steps;
 use pod_base::{List, Mem};
 use std::alloc::Global;
 
@@ -19,7 +20,9 @@ use std::alloc::Global;
 ///
 /// Connected components of conditions are solved separately, and the second mapping ends a search.
 /// Where a search may know a condition's object and not its subject, it uses an index by object,
-/// which is built once.
+/// which is built once. A search that would take more than [`STEP_LIMIT`] steps is out of memory.
+///
+/// [`STEP_LIMIT`]: crate::STEP_LIMIT
 pub fn solutions(alloc: Global, graph: &Graph, conditions: &List<Pattern>) -> Mem<Found>
     ensures { IfOk result (AreSolutions graph.now conditions.now.items) }
 {
@@ -29,12 +32,13 @@ pub fn solutions(alloc: Global, graph: &Graph, conditions: &List<Pattern>) -> Me
     let index = index_for(alloc, triples, conditions)?;
     let by_object = index.as_slice();
     let lookup = Lookup { triples, by_object };
+    let mut steps = Steps::new();
     let mut found = Found::One(Mapping {
         pairs: List::new(alloc),
     });
     for label in 0..conditions.len() {
         let component = component_of(alloc, conditions, labels.as_slice(), label)?;
-        let more = solve_component(alloc, lookup, component.as_slice())?;
+        let more = solve_component(alloc, lookup, component.as_slice(), &mut steps)?;
         if more.is_nothing() {
             return Ok(Found::Nothing);
         }
@@ -44,14 +48,26 @@ pub fn solutions(alloc: Global, graph: &Graph, conditions: &List<Pattern>) -> Me
 }
 
 /// The solutions of a component of the conditions.
-fn solve_component<'a>(alloc: Global, lookup: Lookup<'a>, conditions: &[&'a Pattern]) -> Mem<Found>
+fn solve_component<'a>(
+    alloc: Global,
+    lookup: Lookup<'a>,
+    conditions: &[&'a Pattern],
+    steps: &mut Steps,
+) -> Mem<Found>
     requires { IsLookup lookup }
     ensures { IfOk result
         (IsSearchResult lookup.entry.triples.now (map (λ c. c.now) conditions.now) AnyBinding) }
 {
     let mut taken = vec![in alloc; false; conditions.len()]?;
     let mut bound = Vec::new(alloc);
-    search(alloc, lookup, conditions, taken.as_mut_slice(), &mut bound)
+    search(
+        alloc,
+        lookup,
+        conditions,
+        taken.as_mut_slice(),
+        &mut bound,
+        steps,
+    )
 }
 
 impl Found {
