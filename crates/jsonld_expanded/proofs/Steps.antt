@@ -20,6 +20,13 @@ advance-then R S u v w r s a h =
     let y = s x.0 x.2 in
     (y.0, (x.0, x.1, y.1), y.2)
 
+-- a walk that has only counted is as far as before
+pub advance-counted : (R : State → State → Type 0) (u v w : Walk) → Advances R u v → Advances (λ a b. b ≡ a) v w → Advances R u w
+advance-counted R u v w r s a h =
+    let x = r a h in
+    let y = s x.0 x.2 in
+    (x.0, x.1, subst (λ (t : State). Stands w t) y.1 y.2)
+
 pub refuse-first : (R S : State → State → Type 0) (u : Walk) → Refuses R u → Refuses (Then R S) u
 refuse-first R S u r a h c (b, x, y) = r a h b x
 

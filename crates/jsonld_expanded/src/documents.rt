@@ -28,6 +28,7 @@ impl<'a> Scope<'a> {
             (scope_view self.now) (object_of (members_view members.now.entries))) walk.old }
     {
         let node = self.node(walk, object)?;
+        walk.count_made(&node)?;
         self.properties(walk, &node, members)
     }
 

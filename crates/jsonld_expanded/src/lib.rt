@@ -23,9 +23,12 @@ mod literals;
 mod nodes;
 mod reader;
 mod scope;
+mod value_count;
 mod values;
 mod walk;
 mod words;
 
 pub use fault::JsonLdFault;
 pub use reader::read;
+pub use value_count::VALUES_LIMIT;
+pub use walk::MADE_LIMIT;

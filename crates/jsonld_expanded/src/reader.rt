@@ -13,6 +13,7 @@ ghost use Rattle.jsonld_expanded.specs.Outcomes.{IsTooLarge};
 use crate::fault::{JsonLdFault, Refusal, fault_of};
 use crate::labels::{Labels, insert_labels};
 use crate::scope::Scope;
+use crate::value_count::has_few_values;
 use crate::walk::Walk;
 use crate::words::Words;
 use iri_ref::Iri;
@@ -26,6 +27,10 @@ use std::collections::BTreeSet;
 ///
 /// Its references are resolved against the base, and its unnamed nodes are labelled in the order of
 /// the walk. The faults come in the order of [`JsonLdFault`].
+///
+/// Out of memory is also a text of more than [`VALUES_LIMIT`](crate::VALUES_LIMIT) values, whatever
+/// else is wrong with it, and a document whose walk makes terms of more than
+/// [`MADE_LIMIT`](crate::MADE_LIMIT) bytes before it is found to be out of the profile.
 pub fn read(alloc: Global, base: &Iri, bytes: &[u8]) -> Result<Graph, JsonLdFault>
     ensures graph { IfOk result (IsDocumentOf base.now bytes.now) }
     ensures not_json { IsErrOf result JsonLdFault.NotJson → IsNotJson bytes.now }
@@ -47,6 +52,9 @@ fn json_of(alloc: Global, bytes: &[u8]) -> Result<Value, JsonLdFault>
     ensures in_profile { IsErrOf result JsonLdFault.OutOfProfile → ⊥ }
     ensures small { IsErrOf result JsonLdFault.TooLarge → ⊥ }
 {
+    if !has_few_values(bytes) {
+        return Err(JsonLdFault::NoMemory);
+    }
     match Value::from_slice(alloc, bytes) {
         Ok(value) => Ok(value),
         Err(fault) => if fault.is_memory() {

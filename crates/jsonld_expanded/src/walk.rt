@@ -8,9 +8,13 @@ ghost use Rattle.jsonld_expanded.specs.Expands.{Says, start};
 ghost use Rattle.jsonld_expanded.specs.Walks.{Advances, Stands};
 
 use iri_ref::Iri;
-use pod_base::Mem;
+use pod_base::{Mem, NoMemory};
 use rdf_graph::{TRIPLES_LIMIT, Term, Triple, copy_iri};
 use std::alloc::Global;
+
+/// The most bytes that the terms that are made for one document have in their stored form. Each
+/// object of a triple counts, and each node that is no object.
+pub const MADE_LIMIT: u64 = 33_554_432;
 
 #[derive(Drop)]
 pub(crate) struct Walk {
@@ -20,6 +24,8 @@ pub(crate) struct Walk {
     pub(crate) size: u64,
     /// The least number that the next unnamed node may get.
     pub(crate) next: u64,
+    /// How many bytes of terms may still be made.
+    pub(crate) left: u64,
 }
 
 /// The sum of two sizes, at most 2^64 - 1.
@@ -28,6 +34,14 @@ fn saturating_sum(first: u64, second: u64) -> u64
         → result ≡ saturated (m + n) }
 {
     first.saturating_add(second)
+}
+
+/// What is left of the bytes of terms that may be made, after this one.
+fn left_after(left: u64, term: &Term) -> Mem<u64> {
+    match left.checked_sub(term.encoded_size()) {
+        Some(left) => Ok(left),
+        None => Err(NoMemory),
+    }
 }
 
 /// The triple of these terms.
@@ -54,14 +68,26 @@ impl Walk {
             triples: Vec::new(alloc),
             size: 0,
             next: 0,
+            left: MADE_LIMIT,
         }
     }
 
-    /// Adds a triple.
+    /// Counts a term that was made and is no object of a triple.
+    pub(crate) fn count_made(&mut self, term: &Term) -> Mem<()>
+        ensures { OnOk result (Advances (λ a b. b ≡ a) self.old self.new) }
+    {
+        let left = left_after(self.left, term)?;
+        self.left = left;
+        Ok(())
+    }
+
+    /// Adds a triple, whose object was made for it.
     pub(crate) fn say(&mut self, alloc: Global, s: &Term, p: &Iri, o: Term) -> Mem<()>
         requires { ¬ IsLiteral s.now }
         ensures { OnOk result (Advances (Says s.now p.now o) self.old self.new) }
     {
+        let left = left_after(self.left, &o)?;
+        self.left = left;
         let triple = triple_of(alloc, s, p, o)?;
         self.size = saturating_sum(self.size, triple.encoded_size());
         if self.size > TRIPLES_LIMIT {

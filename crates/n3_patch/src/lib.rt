@@ -17,6 +17,8 @@
 //! The result of both meets what `rdf_graph::instantiate` requires (clause `bound`). [`laws`] has
 //! what follows from the definitions.
 //!
+//! A document whose triples count more than [`KEPT_BYTES_LIMIT`] is answered out of memory.
+//!
 //! It depends on `turtle_reader` for what the tokens of a document mean, on `turtle_labels` for its
 //! unnamed nodes, and on `rdf_graph` for terms and patches.
 #![tactic(auto)]
@@ -25,6 +27,7 @@ mod document;
 mod fault;
 mod free_variables;
 mod judging;
+mod kept;
 pub mod laws;
 mod made;
 mod patterns;
@@ -36,6 +39,7 @@ mod vocabulary;
 
 pub use fault::{CONDITIONS_LIMIT, Judgement, N3Fault, PatchRule};
 pub use judging::judge;
+pub use kept::KEPT_BYTES_LIMIT;
 pub use reading::read;
 pub use triples::{PatchNode, PatchTriple};
 pub use vocabulary::{Part, SOLID_DELETES, SOLID_INSERT_DELETE_PATCH, SOLID_INSERTS, SOLID_WHERE};

@@ -6,6 +6,7 @@ ghost use Rattle.turtle_labels.specs.Documents.{AreLazyLabelsOf};
 ghost use Rattle.n3_patch.specs.Spells.{IsReferentNode, within_formula};
 ghost use Rattle.n3_patch.specs.Reading.{IsReferentTriple, Makes, Adds, AreSound};
 
+use crate::kept::{KEPT_BYTES_LIMIT, kept_bytes};
 use crate::triples::{PatchNode, PatchTriple};
 use pod_base::{List, Mem, NoMemory};
 use rdf_graph::Term;
@@ -19,6 +20,8 @@ use turtle_reader::{Reader, Referent, ResolvedTriple};
 pub(crate) struct Made {
     pub(crate) list: List<PatchTriple>,
     pub(crate) labels: LazyLabels,
+    /// How many bytes of triples it may still keep.
+    left: u64,
 }
 
 /// The node of a patch document that a node refers to.
@@ -102,6 +105,7 @@ impl Made {
         Made {
             list: List::new(alloc),
             labels: LazyLabels::new(),
+            left: KEPT_BYTES_LIMIT,
         }
     }
 
@@ -110,6 +114,10 @@ impl Made {
         ensures list { OnOk result (self.new.list.items ≡ self.old.list.items ++ triple ∷ []) }
         ensures labels { self.new.labels ≡ self.old.labels }
     {
+        let Some(left) = self.left.checked_sub(kept_bytes(&triple)) else {
+            return Err(NoMemory);
+        };
+        self.left = left;
         match self.list.push(alloc, triple) {
             Ok(()) => Ok(()),
             Err(_) => Err(NoMemory),

@@ -13,12 +13,23 @@ use std::alloc::Global;
 use turtle_grammar::{Production, SymbolicTriple, Within};
 use turtle_reader::{Reader, Referent, ResolvedTriple};
 
+/// The most bytes that the triples of an update count while it is read: past it the reader is out
+/// of memory. It is 8 times the limit of what an update names, so that a blank node in one that is
+/// too large is still told. A triple counts its encoded terms and [`TRIPLE_BYTES`].
+pub const KEPT_BYTES_LIMIT: u64 = 67_108_864;
+
+/// What a triple counts beside its terms. No update within `rdf_graph::TRIPLES_LIMIT` passes
+/// [`KEPT_BYTES_LIMIT`] by it.
+const TRIPLE_BYTES: u64 = 192;
+
 /// The triples that are named so far, and whether there was a blank node, in a triple that isn't
 /// listed then.
 #[derive(Drop)]
 pub(crate) struct Collected {
     pub(crate) named: List<Named>,
     pub(crate) has_blank: bool,
+    /// How many bytes of triples it may still keep.
+    left: u64,
 }
 
 /// The term, unless it is a blank node.
@@ -92,6 +103,7 @@ impl Collected {
         Collected {
             named: List::new(alloc),
             has_blank: false,
+            left: KEPT_BYTES_LIMIT,
         }
     }
 
@@ -100,6 +112,11 @@ impl Collected {
         ensures named { OnOk result (self.new.named.items ≡ self.old.named.items ++ naming ∷ []) }
         ensures has_blank { self.new.has_blank ≡ self.old.has_blank }
     {
+        let bytes = naming.triple.encoded_size().saturating_add(TRIPLE_BYTES);
+        let Some(left) = self.left.checked_sub(bytes) else {
+            return Err(NoMemory);
+        };
+        self.left = left;
         match self.named.push(alloc, naming) {
             Ok(()) => Ok(()),
             Err(_) => Err(NoMemory),

@@ -14,6 +14,8 @@
 //! triples, no bracket is too deep and they keep the limit, they are returned, or out of memory
 //! (`only`).
 //!
+//! An update whose triples count more than [`KEPT_BYTES_LIMIT`] is answered out of memory.
+//!
 //! Proved of [`spelled`]: the patch that an update spells at a graph has no conditions; it deletes
 //! the triples of the graph whose last naming is with DELETE, and inserts those whose last naming
 //! is with INSERT (clause `spelled`, `IsSpelledAt` of `specs/NamedUpdate.antt`). Deletions that
@@ -33,6 +35,7 @@ mod reading;
 mod size;
 mod spelling;
 
+pub use collected::KEPT_BYTES_LIMIT;
 pub use fault::SparqlFault;
 pub use named::Named;
 pub use reading::read;

@@ -8,6 +8,7 @@ ghost use Rattle.turtle_reader.specs.Lexemes.{IsLexemeOf};
 ghost use Rattle.turtle_reader.specs.Meanings.{IsMeaning, IsTokenMeaning};
 ghost use Rattle.turtle_reader.specs.Contexts.{at_start, opened, named, meant_iri, advanced};
 
+use crate::budget::{has_scheme, spend, written_bytes};
 use crate::lexeme::Lexeme;
 use crate::meaning::{Meaning, plain_meaning};
 use iri_ref::Iri;
@@ -83,11 +84,45 @@ impl Context {
         })
     }
 
-    /// What a token means here.
+    /// The bytes of the base, where an IRIREF is resolved against it.
+    fn base_bytes(&self, bytes: &[u8], token: &Token) -> usize
+        requires { IsTokenOf bytes.now token.now }
+    {
+        match bytes[token.from..token.to].split_first() {
+            Some((_, reference)) if has_scheme(reference) => 0,
+            _ => self.base.as_str().len(),
+        }
+    }
+
+    /// The bytes of the IRI of a name's prefix.
+    fn prefix_bytes(&self, bytes: &[u8], token: &Token) -> usize
+        requires { IsTokenOf bytes.now token.now }
+    {
+        match self.scope.iri(prefix(bytes, token)) {
+            Some(iri) => iri.as_str().len(),
+            None => 0,
+        }
+    }
+
+    /// The bytes that a token counts against the limit, where it is no prefix that is declared.
+    fn term_bytes(&self, bytes: &[u8], token: &Token) -> usize
+        requires { IsTokenOf bytes.now token.now }
+    {
+        let written = written_bytes(token);
+        match token.kind {
+            TokenKind::IriRef => written.saturating_add(self.base_bytes(bytes, token)),
+            TokenKind::PnameNs => written.saturating_add(self.prefix_bytes(bytes, token)),
+            TokenKind::PnameLn => written.saturating_add(self.prefix_bytes(bytes, token)),
+            _ => written,
+        }
+    }
+
+    /// What a token means here. Its bytes are taken off those that are left.
     fn token_meaning(
         &self,
         alloc: Global,
         vocabulary: &Vocabulary,
+        left: &mut usize,
         bytes: &[u8],
         token: &Token,
     ) -> Result<Meaning, TurtleFault>
@@ -99,22 +134,27 @@ impl Context {
     {
         match &self.directive {
             Directive::Name => {
+                spend(left, written_bytes(token))?;
                 let name = Text::of(alloc, prefix(bytes, token))?;
                 Ok(Meaning::Name(name))
             }
-            _ => plain_meaning(alloc, vocabulary, &self.base, &self.scope, bytes, token),
+            _ => {
+                spend(left, self.term_bytes(bytes, token))?;
+                plain_meaning(alloc, vocabulary, &self.base, &self.scope, bytes, token)
+            }
         }
     }
 
-    /// What a lexeme means here.
+    /// What a lexeme means here. The bytes that it counts are taken off those that are left.
     ///
     /// # Errors
     ///
-    /// `Prefix` and `BadIri` exactly where its IRI is none.
+    /// `Prefix` and `BadIri` exactly where its IRI is none. `NoMemory` too where fewer are left.
     pub fn meaning(
         &self,
         alloc: Global,
         vocabulary: &Vocabulary,
+        left: &mut usize,
         bytes: &[u8],
         lexeme: Lexeme,
     ) -> Result<Meaning, TurtleFault>
@@ -130,7 +170,7 @@ impl Context {
                     from: lexeme.from,
                     to: lexeme.to,
                 };
-                self.token_meaning(alloc, vocabulary, bytes, &token)
+                self.token_meaning(alloc, vocabulary, left, bytes, &token)
             }
             _ => Ok(Meaning::Nothing),
         }

@@ -25,11 +25,13 @@
 //! text as its list of tokens has it (clause `answer`, by `IsListedAnswer` of
 //! `specs/FirstTokens.antt`). [`laws`] has what the proofs of the languages above cite.
 //!
-//! A reader keeps the meanings of the lexemes since the last complete statement. Terms share the
-//! memory of the lexemes that mean them. The crate stands on `turtle_grammar` for productions and
+//! A reader keeps the meanings of the lexemes since the last complete statement, at most
+//! [`STATEMENT_LIMIT`]. Terms share the memory of the lexemes that mean them, and all that one
+//! reader makes have at most [`TERM_BYTES_LIMIT`] bytes. Past either it is out of memory. The crate stands on `turtle_grammar` for productions and
 //! on `turtle_terms` for the terms of tokens. A word of an update is a [`Lexeme`] too.
 #![tactic(auto)]
 
+mod budget;
 mod context;
 pub mod laws;
 mod lexeme;
@@ -38,6 +40,7 @@ mod next_token;
 mod reader;
 mod referent;
 
+pub use budget::{STATEMENT_LIMIT, TERM_BYTES_LIMIT};
 pub use context::{Context, Directive};
 pub use lexeme::Lexeme;
 pub use meaning::Meaning;

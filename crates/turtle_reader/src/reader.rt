@@ -5,19 +5,21 @@ ghost use Rattle.std.specs.Bool.{OnTrue, OnFalse};
 ghost use Rattle.turtle_terms.specs.declared.fault.TurtleKind.TheVariants as Why;
 ghost use Rattle.turtle_terms.specs.declared.fault.TurtleFault.TheVariants.{Bad};
 
+use crate::budget::{STATEMENT_LIMIT, TERM_BYTES_LIMIT};
 use crate::context::Context;
 use crate::lexeme::Lexeme;
 use crate::meaning::Meaning;
 use crate::referent::{ResolvedTriple, resolved};
 use iri_ref::Iri;
-use pod_base::Mem;
+use pod_base::{Mem, NoMemory};
 use std::alloc::Global;
 use turtle_grammar::{Machine, Production, Refusal, Start, Symbol, SymbolicTriple};
 use turtle_lex::TokenKind;
 use turtle_terms::{TurtleFault, TurtleKind, Vocabulary};
 
 /// Reads the lexemes of a text one by one, from a start symbol and a base on. It keeps the meanings
-/// of those since the last complete statement.
+/// of those since the last complete statement, at most [`STATEMENT_LIMIT`], and makes at most
+/// [`TERM_BYTES_LIMIT`] bytes of terms.
 #[derive(Drop)]
 pub struct Reader {
     machine: Machine,
@@ -25,6 +27,8 @@ pub struct Reader {
     vocabulary: Vocabulary,
     meanings: Vec<Meaning>,
     since: usize,
+    /// How many bytes of terms it may still make.
+    left: usize,
 }
 
 /// The fault of this kind at a position.
@@ -55,6 +59,7 @@ impl Reader {
             vocabulary,
             meanings: Vec::new(alloc),
             since: 0,
+            left: TERM_BYTES_LIMIT,
         })
     }
 
@@ -84,7 +89,9 @@ impl Reader {
             → HasString self.new.machine) }
     {
         self.forget();
-        let meaning = self.context.meaning(alloc, &self.vocabulary, bytes, lexeme);
+        let meaning = self
+            .context
+            .meaning(alloc, &self.vocabulary, &mut self.left, bytes, lexeme);
         match self.machine.step(lexeme.symbol) {
             Ok(()) => match meaning {
                 Ok(meaning) => {
@@ -110,6 +117,9 @@ impl Reader {
         ensures since { OnOk result (self.new.since ≡ self.old.since) }
         ensures machine { OnOk result (self.new.machine ≡ self.old.machine) }
     {
+        if self.meanings.len() >= STATEMENT_LIMIT {
+            return Err(NoMemory);
+        }
         self.context.advance(alloc, symbol, &meaning)?;
         self.meanings.push(meaning)?;
         Ok(())

@@ -28,7 +28,7 @@ returns-then-self-gt-TRIPLES_LIMIT c = λ a h.
     let made = c.in_ok-triple.ensures in
     let same = parts t c.args.s.now c.args.p.now c.args.o made.subject made.predicate made.object in
     let size : c.saturating_sum-self.result ≡ saturated (triples_size a.triples + triple_size t) = c.saturating_sum-self.ensures (triples_size a.triples) (triple_size t) h.size c.encoded_size.ensures in
-    let new : Walk = record { triples = c.args.self.now.triples; size = c.saturating_sum-self.result; next = c.args.self.now.next } in
+    let new : Walk = record { triples = c.args.self.now.triples; size = c.saturating_sum-self.result; next = c.args.self.now.next; left = c.in_ok-left.left } in
     (saying c.args.s.now c.args.p.now c.args.o a, refl, subst (λ (u : Triple). Stands new (one_more a u)) same (stands-over c.args.self.now new a t h refl refl size c.if-self-gt-TRIPLES_LIMIT.true))
 
 pub returns : goal.returns
@@ -37,6 +37,6 @@ returns c = λ a h.
     let made = c.in_ok-triple.ensures in
     let same = parts t c.args.s.now c.args.p.now c.args.o made.subject made.predicate made.object in
     let size : c.saturating_sum-self.result ≡ saturated (triples_size a.triples + triple_size t) = c.saturating_sum-self.ensures (triples_size a.triples) (triple_size t) h.size c.encoded_size.ensures in
-    let new : Walk = record { triples = c.push.new.self; size = c.saturating_sum-self.result; next = c.args.self.now.next } in
+    let new : Walk = record { triples = c.push.new.self; size = c.saturating_sum-self.result; next = c.args.self.now.next; left = c.in_ok-left.left } in
     let rdf = is_rdf t c.args.s.now c.args.p.now c.requires made.subject made.predicate in
     (saying c.args.s.now c.args.p.now c.args.o a, refl, subst (λ (u : Triple). Stands new (one_more a u)) same (stands-kept c.args.self.now new a t h rdf refl c.in_ok-push.ensures.items size c.if-self-gt-TRIPLES_LIMIT.false))

@@ -24,7 +24,7 @@ returns-in-Some c =
     (on_ok_weaker c.push.result (λ e. adds_naming reader c.in-Triple.symbolic c.in-Some.naming old new makes e c.push.ensures.has_blank) c.push.ensures.named)
 
 abbrev noted : Collected → Collected
-noted c = record { named = c.named; has_blank = true }
+noted c = record c { has_blank = true }
 
 pub returns-in-None : goal.returns-in-None
 returns-in-None c =
