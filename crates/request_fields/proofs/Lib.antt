@@ -1,3 +1,4 @@
 pub mod ProgressLemmas
 pub mod KeyLemmas
 pub mod TextLemmas
+pub mod LinkLemmas

@@ -2,6 +2,7 @@
 pub mod MediaTypes
 pub mod ContentTypes
 -- links to the types of containers
+pub mod LinkValues
 pub mod LinkParameters
 pub mod RelationTypes
 pub mod Links

@@ -10,9 +10,10 @@ use Rattle.field_list.specs.Pairs.{Pair, two_parts}
 use Rattle.field_list.specs.QuotedString.{is_quoted_string}
 use Rattle.field_list.specs.declared.quoting.Quoting.TheVariants.{Strings}
 
--- what follows the target of a link: the texts between semicolons
+-- What follows the target of a link: the texts between semicolons. A target with a semicolon or a
+-- quote is cut too, so this holds for the others.
 abbrev pub parameters : List ℕ → List (List ℕ)
-parameters element = map trim_ows (drop 1 (parts Strings 59 element))
+parameters link = map trim_ows (drop 1 (parts Strings 59 link))
 
 -- what is before and after the `=` of a parameter
 abbrev pub name_and_value : List ℕ → Option Pair

@@ -22,6 +22,7 @@
 mod content;
 mod link;
 mod link_parameter;
+mod link_values;
 mod media_types;
 mod part_fields;
 mod relation_type;

@@ -3,14 +3,13 @@
 ghost use Rattle.std.specs.Prelude.{◌≡◌, ◌||◌, bytes_eq, codes};
 ghost use Rattle.std.specs.List.{list_any};
 ghost use Rattle.std.specs.Option.{option_copied};
-ghost use Rattle.field_list.specs.declared.quoting.Quoting.TheVariants.{Strings};
-ghost use Rattle.field_list.specs.Elements.{elements};
 ghost use Rattle.request_fields.specs.LinkParameters.{parameters, relation};
 ghost use Rattle.request_fields.specs.Links as spec;
 
 use crate::link_parameter::{are_parameters, relation};
+use crate::link_values::split_link;
 use crate::relation_type::has_relation_type;
-use field_list::{Elements, Parts, Quoting, trim};
+use field_list::{Parts, Quoting, trim};
 use pod_base::{Field, Fields};
 
 /// Whether a text is a reference to one of the two types of containers, in its brackets.
@@ -22,10 +21,10 @@ fn is_container_type(text: &[u8]) -> bool
 }
 
 /// Whether the target of a link is one of the two types of containers.
-fn has_container_type(element: &[u8]) -> bool
-    ensures { result ≡ spec.has_container_type element.now }
+fn has_container_type(link: &[u8]) -> bool
+    ensures { result ≡ spec.has_container_type link.now }
 {
-    let mut parts = Parts::of(Quoting::Strings, b';', element);
+    let mut parts = Parts::of(Quoting::Strings, b';', link);
     match parts.next() {
         Some(target) => is_container_type(trim(target)),
         None => false,
@@ -33,33 +32,34 @@ fn has_container_type(element: &[u8]) -> bool
 }
 
 /// Whether the first `rel` of a link has the relation type `type`.
-fn is_type_link(element: &[u8]) -> bool
-    ensures { result ≡ spec.is_type_link element.now }
+fn is_type_link(link: &[u8]) -> bool
+    ensures { result ≡ spec.is_type_link link.now }
 {
-    match relation(element) {
+    match relation(link) {
         Some(value) => has_relation_type(value, b"type"),
         None => false,
     }
 }
 
-/// Whether an element is a well-formed link that says that its context is a container.
-fn is_container_link(element: &[u8]) -> bool
-    ensures { result ≡ spec.is_container_link element.now }
+/// Whether a text is a well-formed link that says that its context is a container.
+fn is_container_link(link: &[u8]) -> bool
+    ensures { result ≡ spec.is_container_link link.now }
 {
-    has_container_type(element) && are_parameters(element) && is_type_link(element)
+    has_container_type(link) && are_parameters(link) && is_type_link(link)
 }
 
 /// Whether a value has such a link.
 fn has_container_link(value: &[u8]) -> bool
     ensures { result ≡ spec.has_container_link value.now }
 {
-    let mut elements = Elements::of(Quoting::Strings, value);
-    while let Some(element) = elements.next() {
-        if is_container_link(element) {
+    let mut rest = value;
+    while let Some((link, more)) = split_link(rest) {
+        if is_container_link(trim(link)) {
             return true;
         }
+        rest = more;
     }
-    false
+    is_container_link(trim(rest))
 }
 
 /// Whether a field is a Link with such a link.

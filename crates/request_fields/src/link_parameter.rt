@@ -57,19 +57,19 @@ fn value_named<'a>(text: &'a [u8], name: &str) -> Option<&'a [u8]>
 }
 
 /// What follows the target of a link, not yet trimmed.
-fn parameter_parts(element: &[u8]) -> Parts<'_>
-    ensures { parts_rest result ≡ drop 1 (parts Strings 59 element.now) }
+fn parameter_parts(link: &[u8]) -> Parts<'_>
+    ensures { parts_rest result ≡ drop 1 (parts Strings 59 link.now) }
 {
-    let mut parts = Parts::of(Quoting::Strings, b';', element);
+    let mut parts = Parts::of(Quoting::Strings, b';', link);
     let _target = parts.next();
     parts
 }
 
 /// Whether each parameter of a link is well-formed.
-pub(crate) fn are_parameters(element: &[u8]) -> bool
-    ensures { result ≡ list_all spec.is_parameter (spec.parameters element.now) }
+pub(crate) fn are_parameters(link: &[u8]) -> bool
+    ensures { result ≡ list_all spec.is_parameter (spec.parameters link.now) }
 {
-    let mut parts = parameter_parts(element);
+    let mut parts = parameter_parts(link);
     while let Some(part) = parts.next() {
         if !is_parameter(trim(part)) {
             return false;
@@ -79,10 +79,10 @@ pub(crate) fn are_parameters(element: &[u8]) -> bool
 }
 
 /// The value of the first parameter `rel` of a link.
-pub(crate) fn relation(element: &[u8]) -> Option<&[u8]>
-    ensures { option_copied result ≡ spec.relation (spec.parameters element.now) }
+pub(crate) fn relation(link: &[u8]) -> Option<&[u8]>
+    ensures { option_copied result ≡ spec.relation (spec.parameters link.now) }
 {
-    let mut parts = parameter_parts(element);
+    let mut parts = parameter_parts(link);
     while let Some(part) = parts.next() {
         if let Some(value) = value_named(trim(part), "rel") {
             return Some(value);
