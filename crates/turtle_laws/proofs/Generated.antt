@@ -33,7 +33,7 @@ digits_end c (d ∷ ds) h k =
     let (m, (n, times), last) = digits_end d ds (and_left (is_ascii_digit d) (all_ascii_digits ds) k) (and_right (is_ascii_digit d) (all_ascii_digits ds) k) in
     (m, (suc n, (d ∷ ds, inl (one_digit c (d ∷ ds) h), times)), last)
 
-name_of_digits : (ds : List ℕ) → 0 < length ds → all_ascii_digits ds ≡ true → IsTextOf label_text (codes "g" ++ ds)
+pub name_of_digits : (ds : List ℕ) → 0 < length ds → all_ascii_digits ds ≡ true → IsTextOf label_text (codes "g" ++ ds)
 unfolding label_text dotted is_pn_chars_u is_pn_chars_base
 name_of_digits [] some h = absurd (omega (arith, some))
 name_of_digits (c ∷ ds) some h = (

@@ -8,6 +8,6 @@ mod Productions
 mod Spelled
 mod Cuts
 mod Limits
-mod Lowered
-mod Generated
+pub mod Lowered
+pub mod Generated
 mod ReadTerms
