@@ -1,5 +1,4 @@
 -- internal
-mod Items
 mod Sessions
 mod Makers
 mod Histories

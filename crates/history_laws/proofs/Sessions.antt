@@ -10,8 +10,9 @@ use Rattle.pod_core.specs.Session.{IsItem, NeverFalls, Session, entries_of, plac
 use Rattle.pod_reply.specs.Laws.{HasOneReply}
 use Rattle.session_laws.specs.Isolated.{AreAlikeAtEnd, AreItemsFrom, AreRequestsOf, IsolatesItems, KeepsHidden}
 use Rattle.token_table.specs.Credentials.{AskedAgent}
-use Rattle.history_laws.specs.SameRequests.{AreItemsAfter, AreSameSessions, AskSameInAll, IsSessionAfter}
-use Rattle.history_laws.proofs.Items.{one_list}
+use Rattle.session_laws.specs.SameRequests.{AreItemsAfter}
+use Rattle.session_laws.proofs.SameItems.{one_list}
+use Rattle.history_laws.specs.SameRequests.{AreSameSessions, AskSameInAll, IsSessionAfter}
 
 module _ (may_give : ℕ → Type 0) (asking : Request → AskedAgent) (events : List Heard) where
   items_after : (begun : History) (session : Session) → IsSessionAfter may_give asking events begun session → AreItemsAfter may_give session.conn begun session.items

@@ -1,56 +1,16 @@
 -- Sessions that make the same requests, with the same agents and at the same moments, are answered
 -- alike.
-use Rattle.std.specs.Prelude.{◌≡◌, ℕ, List, [], ◌∷◌}
-use Rattle.std.specs.List.{AllByRecursion, flat_map}
+use Rattle.std.specs.Prelude.{◌≡◌, ℕ, List}
+use Rattle.std.specs.List.{flat_map}
 use Rattle.pod_base.specs.declared.agent.Agent.{Agent}
 use Rattle.pod_base.specs.declared.heard.Heard.{Heard}
 use Rattle.pod_base.specs.declared.request.Request.{Request}
 use Rattle.pod_core.specs.History.{History, IsHistory, end_of, pod_at}
 use Rattle.pod_core.specs.Output.{output}
-use Rattle.pod_core.specs.Session.{IsItem, IsSession, Item, NeverFalls, Outcome, Session, answered}
-use Rattle.pod_core.specs.Session.{disk_fault, entries_of, no_memory, places_of}
+use Rattle.pod_core.specs.Session.{IsSession, Session, entries_of}
 use Rattle.session_laws.specs.Isolated.{AreAlikeAtEnd, AreRequestsOf, KeepsHidden, grown}
+use Rattle.session_laws.specs.SameRequests.{AreAnswered, AskSame}
 use Rattle.token_table.specs.Credentials.{AskedAgent}
-
--- ---- what is the same
-
--- the same request, with the same number and agent, at the same moment
-pub record AsksSame (item other : Item) : Type 0 where
-  pub request : item.request ≡ other.request
-  pub number : item.number ≡ other.number
-  pub asked : item.asked ≡ other.asked
-  pub moment : item.moment ≡ other.moment
-
-abbrev pub AskSame : List Item → List Item → Type 0
-AskSame [] [] = Unit {0}
-AskSame (item ∷ items) (other ∷ others) = AsksSame item other × AskSame items others
-AskSame _ _ = ⊥
-
--- the item was answered: it ended in no 500 and in no 503
-abbrev pub EndsAnswered : Outcome → Type 0
-EndsAnswered (answered place reply) = Unit {0}
-EndsAnswered no_memory = ⊥
-EndsAnswered disk_fault = ⊥
-
-abbrev pub AreAnswered : List Item → Type 0
-AreAnswered items = AllByRecursion (λ (item : Item). EndsAnswered item.outcome) items
-
--- ---- items
-
--- The items are ones of the history with their entries, from its end on.
-pub record AreItemsAfter (may_give : ℕ → Type 0) (conn : ℕ) (begun : History) (items : List Item)
-    : Type 0 where
-  pub answers : AllByRecursion (IsItem may_give conn (grown begun items)) items
-  pub places : NeverFalls (end_of begun) (flat_map places_of items) (end_of (grown begun items))
-  pub answered : AreAnswered items
-
--- Items after one history that ask the same are the same, with the same places and replies.
-abbrev pub SameItems : (ℕ → Type 0) → Type 0
-SameItems may_give = (conn : ℕ) (begun : History) (items others : List Item)
-    → AreItemsAfter may_give conn begun items → AreItemsAfter may_give conn begun others
-    → AskSame items others → items ≡ others
-
--- ---- sessions
 
 -- A session from the end of a history on, whose entries are added to it and no others. Nothing
 -- failed.

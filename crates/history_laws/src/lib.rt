@@ -28,7 +28,8 @@ ghost use Rattle.history_laws.specs.Entries.{WorldsHaveHistories};
 ghost use Rattle.history_laws.specs.Progress.{BytesMayArrive, ChangesMayComplete, GatesMayFail};
 ghost use Rattle.history_laws.specs.Progress.{MessagesMayBeRefused, ReadsMayBeAnswered};
 ghost use Rattle.history_laws.specs.Progress.{RepairsMayComplete, WorldsMayStop};
-ghost use Rattle.history_laws.specs.SameRequests.{SameItems, SameSessions, SameSessionsOverAlike};
+ghost use Rattle.history_laws.specs.SameRequests.{SameSessions, SameSessionsOverAlike};
+ghost use Rattle.session_laws.specs.SameRequests.{SameItems};
 
 use pod_io::Clock;
 

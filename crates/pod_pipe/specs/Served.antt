@@ -39,7 +39,8 @@ out_of_memory_items (item ∷ items) = out_of_memory_on item.outcome + out_of_me
 
 -- The session is that of connection 1, from the end of this history on. Its own history is that one
 -- with exactly the items' entries, each of which applies. Where one agent makes all its requests,
--- it is a session over each history that ends alike for that agent, too.
+-- it is a session over each history that ends alike for that agent, too, and a run of the same
+-- events at the same moments over that history writes these bytes, where nothing failed.
 pub record Continues (may_give : ℕ → Type 0) (asking : Request → AskedAgent) (begun : History)
     (events : List Heard) (session : Session) : Type 0 where
   pub conn : session.conn ≡ 1

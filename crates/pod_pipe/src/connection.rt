@@ -29,7 +29,9 @@ pub struct Piped<H> {
 ///
 /// Each piece is answered before the next one is read. For each history that the holder
 /// represented, what was written is the output of a session from its end on, and the holder then
-/// represents that history with the entries of the session's items, item by item.
+/// represents that history with the entries of the session's items, item by item. Where one agent
+/// makes all requests and none of them fails, a run at the same moments over a history that ends
+/// alike for the agent writes these bytes.
 pub fn pipe<H: PodHolder, S: Source, K: Sink, E: Sink, C: Clock>(
     alloc: Global,
     holder: H,

@@ -17,9 +17,9 @@
 //! the lines of the items that were answered, and the last line reports the end; nothing is read
 //! after the end of the input (`counts`); and a fault comes only where a count of an object passed
 //! in increased (`read_fault`, `write_fault`, and `faults` of the returned holder). Where one agent
-//! makes all requests, the session is one over each history that ends alike for the agent
-//! (`isolated` of `Continues`), and so the bytes are those of each pod that the agent can't tell
-//! apart.
+//! makes all requests, the session is one over each history that ends alike for the agent, and each
+//! run of the same events at the same moments over that history writes the same bytes, where no 500
+//! and no 503 came in either (`isolated` of `Continues`).
 //!
 //! It depends on `conn_talk` for one connection, on `pod_core` for answers, histories, sessions and
 //! their output, on `session_laws` for what follows of sessions, on `pod_pages` for the pod in

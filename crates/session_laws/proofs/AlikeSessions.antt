@@ -1,17 +1,21 @@
 -- A session of one agent over histories that end alike for the agent.
-use Rattle.std.proofs.Common.{◌≡◌, ℕ, List, [], refl, sym, subst, length-append, arith}
+use Rattle.std.proofs.Common.{◌≡◌, ℕ, List, [], ◌∷◌, refl, sym, subst, length-append, arith}
 use Rattle.std.specs.List.{AllByRecursion, flat_map}
 use Rattle.pod_base.specs.declared.heard.Heard.{Heard}
 use Rattle.pod_base.specs.declared.request.Request.{Request}
 use Rattle.pod_command.specs.declared.entry.Entry.{Entry}
 use Rattle.pod_core.proofs.Histories.{end_grows}
 use Rattle.pod_core.specs.History.{History, IsHistory, end_of, longer}
-use Rattle.pod_core.specs.Session.{IsItem, IsSession, NeverFalls, Session, entries_of, places_of}
+use Rattle.pod_core.specs.Session.{IsItem, IsSession, Item, NeverFalls, Session, entries_of, places_of}
+use Rattle.pod_reply.specs.Laws.{HasOneReply}
 use Rattle.reply_laws.specs.Isolation.{RepliesAlike}
 use Rattle.reply_laws.specs.Laws.{EntriesApply}
 use Rattle.session_laws.specs.Isolated.{AreAlikeAtEnd, AreIsolated, IsIsolated, IsolatesItems, IsolatesSessions, grown}
+use Rattle.session_laws.specs.SameRequests.{AskSame}
 use Rattle.session_laws.proofs.AlikeItems.{alike_items}
 use Rattle.session_laws.proofs.PodsAtEnd.{same_history, shorter}
+use Rattle.session_laws.proofs.SameItems.{one_list}
+use Rattle.session_laws.proofs.SameRuns.{writes_same}
 use Rattle.token_table.specs.Credentials.{AskedAgent}
 
 -- the places of items, over another history with the same end
@@ -20,16 +24,23 @@ places_moved begun other places more same h =
     let ends : end_of (longer other more) ≡ end_of (longer begun more) = omega (arith, end_grows other more, end_grows begun more, same) in
     subst (λ n. NeverFalls n places (end_of (longer other more))) (sym same) (subst (NeverFalls (end_of begun) places) (sym ends) h)
 
-pub items_isolated : (may_give : ℕ → Type 0) → EntriesApply → RepliesAlike → IsolatesItems may_give
-items_isolated may_give applies replies conn begun items from = λ agent other mine alike hidden.
-    let next = alike_items may_give conn applies replies agent items begun other (shorter begun (flat_map entries_of items) from.is_history) from.answers from.places mine alike hidden in (
+pub items_isolated : (may_give : ℕ → Type 0) → HasOneReply → EntriesApply → RepliesAlike → IsolatesItems may_give
+items_isolated may_give one applies replies conn begun items from = λ agent other mine alike hidden.
+    let next = alike_items may_give conn applies replies agent items begun other (shorter begun (flat_map entries_of items) from.is_history) from.answers from.places mine alike hidden in
+    let places = places_moved begun other (flat_map places_of items) (flat_map entries_of items) alike.place from.places in (
       record {
         is_history = next.1.is_history;
         answers = next.0;
-        places = places_moved begun other (flat_map places_of items) (flat_map entries_of items) alike.place from.places;
+        places = places;
       },
       next.1,
+      λ others answered after asks. sym (one_list may_give conn one other items others (record { answers = next.0; places = places; answered = answered }) after asks),
     )
+
+-- no items ask the same as none
+no_others : (others : List Item) → AskSame [] others → others ≡ []
+no_others [] asks = refl
+no_others (other ∷ others) asks = absurd asks
 
 -- without items nothing is to be told
 pub nothing_isolated : (may_give : ℕ → Type 0) (conn : ℕ) (begun : History) → AreIsolated may_give conn begun []
@@ -40,6 +51,7 @@ nothing_isolated may_give conn begun = λ agent other mine alike hidden. (
     places = omega (arith, length-append other.entries []);
   },
   subst (λ (h : History). AreAlikeAtEnd agent h (longer other [])) (sym (same_history begun)) (subst (AreAlikeAtEnd agent begun) (sym (same_history other)) alike),
+  λ others answered after asks. no_others others asks,
 )
 
 module _ (may_give : ℕ → Type 0) (asking : Request → AskedAgent) (begun : History) (session : Session) where
@@ -58,7 +70,8 @@ module _ (may_give : ℕ → Type 0) (asking : Request → AskedAgent) (begun : 
           refused = s.refused;
         };
         alike = subst (λ (h : History). AreAlikeAtEnd agent h (grown other session.items)) (sym is) there.1;
-        bytes = refl;
+        items = there.2;
+        bytes = λ run answered r. writes_same asking may_give events session run other r (end_of begun) (end_of session.history) s there.2 answered;
       }
 
   -- the same over other events
@@ -75,7 +88,8 @@ module _ (may_give : ℕ → Type 0) (asking : Request → AskedAgent) (begun : 
           refused = s.refused;
         };
         alike = there.alike;
-        bytes = refl;
+        items = there.items;
+        bytes = λ run answered r. writes_same asking may_give others session run other r (end_of begun) (end_of session.history) s there.items answered;
       }
 
 pub sessions_isolated : (may_give : ℕ → Type 0) → IsolatesItems may_give → IsolatesSessions may_give

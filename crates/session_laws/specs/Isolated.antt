@@ -1,5 +1,5 @@
 -- One agent's session over two histories that the agent can't tell apart where they end.
-use Rattle.std.specs.Prelude.{◌≡◌, ◌⊎◌, ℕ, List, [], ◌∷◌}
+use Rattle.std.specs.Prelude.{◌≡◌, ◌⊎◌, ℕ, List, [], ◌∷◌, map}
 use Rattle.std.specs.List.{AllByRecursion, flat_map}
 use Rattle.pod_base.specs.declared.agent.Agent.{Agent}
 use Rattle.pod_base.specs.declared.heard.Heard.{Heard}
@@ -13,6 +13,7 @@ use Rattle.pod_reply.specs.Reply.{agent_of}
 use Rattle.pod_rows.specs.Apply.{applied}
 use Rattle.pod_rows.specs.Pod.{Pod, row_at}
 use Rattle.reply_laws.specs.Alike.{Alike, IsHidden}
+use Rattle.session_laws.specs.SameRequests.{AreAnswered, AreItemsAfter, AskSame}
 use Rattle.token_table.specs.Credentials.{AskedAgent}
 
 -- the history with the entries of these items
@@ -51,8 +52,15 @@ pub record AreItemsFrom (may_give : ℕ → Type 0) (conn : ℕ) (begun : Histor
   pub answers : AllByRecursion (IsItem may_give conn (grown begun items)) items
   pub places : NeverFalls (end_of begun) (flat_map places_of items) (end_of (grown begun items))
 
+-- Where these were answered, there are no others after the history that make the same requests, with
+-- the same agents and at the same moments, and were answered.
+abbrev pub AreOnlyItems : (ℕ → Type 0) → ℕ → History → List Item → Type 0
+AreOnlyItems may_give conn begun items = (others : List Item) → AreAnswered items
+    → AreItemsAfter may_give conn begun others → AskSame items others → others ≡ items
+
 -- The agent can't tell another history by these items: where all are the agent's, and no entry
--- opens what differs, they are items of each history that ends alike, and the two end alike again.
+-- opens what differs, they are items of each history that ends alike, and the only ones, and the two
+-- end alike again.
 abbrev pub AreIsolated : (ℕ → Type 0) → ℕ → History → List Item → Type 0
 AreIsolated may_give conn begun items = (agent : Agent) (other : History)
     → AreRequestsOf agent items → AreAlikeAtEnd agent begun other
@@ -60,22 +68,44 @@ AreIsolated may_give conn begun items = (agent : Agent) (other : History)
     (flat_map entries_of items)
     → AreItemsFrom may_give conn other items
     × AreAlikeAtEnd agent (grown begun items) (grown other items)
+    × AreOnlyItems may_give conn other items
 
 -- the session with the same items over another history, from its end on
 abbrev pub moved : Session → History → Session
 moved session other = record session { history = grown other session.items }
 
--- The session is one over another history too, from its end on, with the same items, places,
--- moments and bytes. The histories end alike for the agent again.
+-- the moments of items
+abbrev pub moments_of : List Item → List ℕ
+moments_of items = map (λ (item : Item). item.moment) items
+
+-- A run over the other history that serves the same events: a session of the same connection, from
+-- the history's end on and with its own entries alone. It took up its requests at the same moments,
+-- and answered each.
+pub record IsRunOver (may_give : ℕ → Type 0) (asking : Request → AskedAgent) (events : List Heard)
+    (session : Session) (other : History) (run : Session) : Type 0 where
+  pub conn : run.conn ≡ session.conn
+  pub history : run.history ≡ grown other run.items
+  pub is_session : IsSession may_give asking events (end_of other) run (end_of run.history)
+  pub moments : moments_of run.items ≡ moments_of session.items
+  pub refusal : run.refusal ≡ session.refusal
+  pub answered : AreAnswered run.items
+
+-- The session is one over another history too, from its end on, with the same items, places and
+-- moments. The histories end alike for the agent again. Where nothing failed, each run over the
+-- other history has these items and writes these bytes.
 pub record IsSessionOver (may_give : ℕ → Type 0) (asking : Request → AskedAgent)
     (events : List Heard) (session : Session) (agent : Agent) (other : History) : Type 0 where
   pub is_session : IsSession may_give asking events (end_of other) (moved session other)
       (end_of (grown other session.items))
   pub alike : AreAlikeAtEnd agent session.history (grown other session.items)
-  pub bytes : output events (moved session other) ≡ output events session
+  pub items : AreOnlyItems may_give session.conn other session.items
+  pub bytes : (run : Session) → AreAnswered session.items
+      → IsRunOver may_give asking events session other run
+      → output events run ≡ output events session
 
--- What a session of one agent from the end of a history on writes is written over each history that
--- ends alike for the agent, while no entry of the session opens to the agent what differs.
+-- What a session of one agent from the end of a history on writes is what each run of the same
+-- requests at the same moments writes over a history that ends alike for the agent, where nothing
+-- failed, while no entry of the session opens to the agent what differs.
 abbrev pub IsIsolated : (ℕ → Type 0) → (Request → AskedAgent) → History → List Heard → Session
     → Type 0
 IsIsolated may_give asking begun events session = (agent : Agent) (other : History)

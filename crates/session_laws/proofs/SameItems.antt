@@ -12,7 +12,7 @@ use Rattle.pod_reply.specs.Replies.{Reply}
 use Rattle.pod_reply.specs.Reply.{IsReply}
 use Rattle.session_laws.specs.Isolated.{grown}
 use Rattle.session_laws.proofs.PodsAtEnd.{end_is_place, longer_again, place_is_first, places_then}
-use Rattle.history_laws.specs.SameRequests.{AreAnswered, AreItemsAfter, AskSame, AsksSame, EndsAnswered}
+use Rattle.session_laws.specs.SameRequests.{AreAnswered, AreItemsAfter, AskSame, AsksSame, EndsAnswered}
 
 module _ (may_give : ℕ → Type 0) (conn : ℕ) (one : HasOneReply) where
   abbrev Answers : History → List Item → Type 0
