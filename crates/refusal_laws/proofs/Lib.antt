@@ -2,3 +2,7 @@
 mod Stems
 mod MemberNames
 mod PostReplies
+mod FoundSolutions
+mod PatchInstances
+mod PatchOutcomes
+mod PatchedRows

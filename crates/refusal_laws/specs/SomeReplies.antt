@@ -1,9 +1,13 @@
 -- Requests have replies, whatever the pod.
 use Rattle.std.specs.Prelude.{◌≡◌, ℕ, ◌<◌, List, All, IfSome, Result, Ok}
+use Rattle.std.specs.List.{AllByRecursion}
 use Rattle.pod_base.specs.declared.method.Method.{Method}
 use Rattle.pod_base.specs.declared.method.Method.TheVariants as methods
 use Rattle.pod_base.specs.declared.moment.Stamp.{Stamp}
 use Rattle.pod_base.specs.declared.request.Request.{Request}
+use Rattle.pod_command.specs.declared.row.Content.{Content}
+use Rattle.pod_command.specs.declared.row.Content.TheVariants as contents
+use Rattle.pod_command.specs.declared.row.Row.{Row}
 use Rattle.patch_outcome.specs.Outcomes.{HasGraphs}
 use Rattle.patch_outcome.specs.declared.refusal.PatchRefusal.{PatchRefusal}
 use Rattle.pod_reply.specs.PatchReplies.{IsBodyOutcome, patched_triples}
@@ -11,6 +15,7 @@ use Rattle.pod_reply.specs.Replies.{Reply}
 use Rattle.pod_reply.specs.Reply.{IsReply}
 use Rattle.pod_rows.specs.Pod.{Pod, row_at}
 use Rattle.pod_rows.specs.WellFormed.{WellFormed}
+use Rattle.rdf_graph.specs.Graph.{IsGraph}
 use Rattle.rdf_graph.specs.declared.change.Change.{Change}
 use Rattle.request_body.specs.Bodies.{Means, Outcome}
 use Rattle.request_body.specs.declared.body.RequestBody.{RequestBody}
@@ -69,12 +74,25 @@ pub record SomeChange (pod : Pod) (path : List ℕ) (body : RequestBody) : Type 
   pub is : IsBodyOutcome body path (patched_triples (row_at pod.rows path)) outcome
   pub graphs : HasGraphs outcome
 
--- So has a PATCH whose body has a fault, or has an outcome at the graph of the path.
+-- The triples that a row holds are a graph, as they are by the type of its content: triples of RDF,
+-- each once, in the order of graphs.
+abbrev pub HoldsGraph : Content → Type 0
+HoldsGraph (contents.Graph triples) = IsGraph triples
+HoldsGraph (contents.Bytes ctype bytes) = Unit {0}
+
+abbrev pub HoldGraphs : Pod → Type 0
+HoldGraphs pod = AllByRecursion (λ (row : Row). HoldsGraph row.content) pod.rows
+
+-- Every patch and every update has an outcome at the graph of each path.
+abbrev pub PatchesHaveOutcomes : Type 0
+PatchesHaveOutcomes = (pod : Pod) (request : Request) (path : List ℕ) (body : RequestBody)
+    → HoldGraphs pod → request.method ≡ methods.Patch → BodyMeans pod request path (Ok body)
+    → SomeChange pod path body
+
+-- So a PATCH whose body is a patch or an update, or has a fault, has a reply.
 abbrev pub PatchesHaveReplies : Type 0
 PatchesHaveReplies = (pod : Pod) (request : Request) (asked : AskedAgent) (seq : ℕ) (stamp : Stamp)
-    → request.method ≡ methods.Patch
+    → HoldGraphs pod → request.method ≡ methods.Patch
     → ((path : List ℕ) → admitted pod.base request asked ≡ Ok (Resource path)
     → (outcome : Outcome) × BodyMeans pod request path outcome)
-    → ((path : List ℕ) (body : RequestBody) → BodyMeans pod request path (Ok body)
-    → SomeChange pod path body)
     → SomeReply pod request asked seq stamp

@@ -14,8 +14,9 @@
 //!
 //! Every request of a method that takes no body has a reply, on every pod ([`some_reply`]). So have a
 //! PUT and a POST whose body is a content or has a fault, a POST on well-formed pods, where its
-//! member always has a name or passes a limit; and a PATCH whose body has a fault, or an outcome at
-//! the graph that it changes.
+//! member always has a name or passes a limit; and a PATCH whose body is a patch or an update or has
+//! a fault: each patch and each update has an outcome at each graph (`outcomes`), since its
+//! conditions have no solution there, one or more.
 //!
 //! The functions do nothing: their contracts are the laws. They depend on `pod_reply` for the
 //! definition of a reply, and on `request_target` and `request_body` for the first ranks.
@@ -23,8 +24,9 @@
 
 ghost use Rattle.refusal_laws.specs.Order.{AccessComesThird, AdmissionComesFirst};
 ghost use Rattle.refusal_laws.specs.Order.{BodyComesSecond};
-ghost use Rattle.refusal_laws.specs.SomeReplies.{BodilessHaveReplies, PatchesHaveReplies};
-ghost use Rattle.refusal_laws.specs.SomeReplies.{PostsHaveReplies, PutsHaveReplies};
+ghost use Rattle.refusal_laws.specs.SomeReplies.{BodilessHaveReplies, PatchesHaveOutcomes};
+ghost use Rattle.refusal_laws.specs.SomeReplies.{PatchesHaveReplies, PostsHaveReplies};
+ghost use Rattle.refusal_laws.specs.SomeReplies.{PutsHaveReplies};
 
 /// Refusals come in the order target, token, method, body, access, and only then what depends on
 /// the pod.
@@ -37,11 +39,12 @@ pub fn refusals_in_order()
 }
 
 /// Requests have replies: every one of a method that takes no body; every PUT, and on well-formed
-/// pods every POST, whose body is a content or has a fault; every PATCH whose body has a fault or
-/// an outcome. Each has one at most, too.
+/// pods every POST, whose body is a content or has a fault; every PATCH whose body is a patch or an
+/// update or has a fault. Each has one at most, too.
 pub fn some_reply()
     ensures bodiless { BodilessHaveReplies }
     ensures puts { PutsHaveReplies }
     ensures posts { PostsHaveReplies }
+    ensures outcomes { PatchesHaveOutcomes }
     ensures patches { PatchesHaveReplies }
 {}

@@ -16,7 +16,8 @@ use Rattle.reply_laws.specs.Laws.{EntriesApply}
 use Rattle.token_table.specs.Credentials.{AskedAgent}
 use Rattle.world_laws.specs.CrashedWorlds.{HoldHistory, ImageStandsFor, ImageStandsForMore, IsRecordable, IsRecordableHistory}
 use Rattle.world_laws.proofs.NextEntries.{Fits, IsNext, following, run_fits, with_next}
-use Rattle.world_laws.proofs.WorldLists.{all_snoc, map_snoc}
+use Rattle.world_laws.proofs.RecordedEntries.{Records, may_follow, recordable_more}
+use Rattle.world_laws.proofs.WorldLists.{map_snoc}
 
 -- ---- the records of a history
 
@@ -65,24 +66,21 @@ is_prefix history r = record {
 records_more : (history : History) (entry : Entry) → journal_records (longer history (entry ∷ [])) ≡ journal_records history ++ entry_bytes entry ∷ []
 records_more history entry = ap (λ (l : List (List ℕ)). snapshot_bytes (start_snapshot history) ∷ l) (map_snoc entry_bytes history.entries entry)
 
-recordable_more : (history : History) (entry : Entry) → IsRecordableHistory history → IsRecordable entry → IsRecordableHistory (longer history (entry ∷ []))
-recordable_more history entry r one = record {
-  number = r.number;
-  storable = r.storable;
-  short = r.short;
-  entries = all_snoc IsRecordable history.entries entry r.entries one;
-}
-
 module _ (history : History) (image : List ℕ) (h : IsHistory history) (r : IsRecordableHistory history) where
   stands_for : Stands 2 1 (journal_records history) image → ImageStandsFor history image
   stands_for s = record { bodies = journal_records history; stands = s; hold = hold_history history h r }
 
 -- ---- an image that a crash may leave
 
-module _ (world : World) (image : List ℕ) (fits : Fits world.keeper) (published : world.published ≤ end_of world.keeper.history) (r : IsRecordableHistory world.keeper.history)
-    (each : (entry : Entry) → MayFollow world.keeper entry → IsRecordable entry) where
+module _ (world : World) (image : List ℕ) (fits : Fits world.keeper) (published : world.published ≤ end_of world.keeper.history) (records : Records world.keeper) where
   abbrev here : History
   here = world.keeper.history
+
+  abbrev r : IsRecordableHistory here
+  r = records.history
+
+  each : (entry : Entry) → MayFollow world.keeper entry → IsRecordable entry
+  each entry follows = may_follow world.keeper entry records follows
 
   stands_with : (entry : Entry) → MayFollow world.keeper entry → Stands 2 1 (journal_records here ++ entry_bytes entry ∷ []) image → ImageStandsForMore world image
   stands_with entry follows s =

@@ -4,4 +4,5 @@ pub mod WorldLists
 mod WorldSessions
 mod WorldLaw
 mod NextEntries
+mod RecordedEntries
 mod CrashImages

@@ -1,7 +1,8 @@
 -- What a crash leaves of a world: each image that it may leave stands for the world's history, or
 -- for that history with one entry more, which isn't published.
-use Rattle.std.specs.Prelude.{◌≡◌, ◌⊎◌, ℕ, ◌≤◌, ◌<◌, ◌^◌, Bool, List, [], ◌∷◌, length}
+use Rattle.std.specs.Prelude.{◌≡◌, ◌⊎◌, ℕ, ◌≤◌, ◌^◌, Bool, true, false, List, [], ◌∷◌}
 use Rattle.std.specs.List.{AllByRecursion}
+use Rattle.journal_log.specs.CleanJournal.{IsShort}
 use Rattle.journal_log.specs.Images.{Stands}
 use Rattle.pod_base.specs.declared.request.Request.{Request}
 use Rattle.pod_command.specs.Storable.{IsStorable, IsStorableSnapshot}
@@ -9,7 +10,8 @@ use Rattle.pod_command.specs.StoredForms.{entry_bytes, snapshot_bytes}
 use Rattle.pod_command.specs.declared.entry.Entry.{Entry}
 use Rattle.pod_command.specs.declared.snapshot.Snapshot.{Snapshot}
 use Rattle.pod_core.specs.History.{History, IsHistory, end_of, longer}
-use Rattle.pod_core.specs.World.{Event, World, WorldRun, WorldStep, first_world, stop}
+use Rattle.pod_core.specs.World as world
+use Rattle.pod_core.specs.World.{DoesEvent, Event, World, WorldRun, WorldStep, first_world}
 use Rattle.pod_core.specs.WorldImages.{MayFollow, start_snapshot}
 use Rattle.pod_records.specs.Records.{Holds}
 use Rattle.pod_rows.specs.WellFormed.{pod_of}
@@ -17,21 +19,40 @@ use Rattle.token_table.specs.Credentials.{AskedAgent}
 
 -- ---- what a journal can hold
 
--- Its length is a number of 64 bits, as a journal has it before each record.
-abbrev pub IsRecord : List ℕ → Type 0
-IsRecord text = length text < 2 ^ 64
-
--- The entry has a stored form that is a record.
+-- The entry has a stored form, whose length is a number of 64 bits, as a journal has it before each
+-- record.
 pub record IsRecordable (entry : Entry) : Type 0 where
   pub storable : IsStorable entry
-  pub short : IsRecord (entry_bytes entry)
+  pub short : IsShort (entry_bytes entry)
 
 -- So has each entry of the history, and the snapshot of its first pod.
 pub record IsRecordableHistory (history : History) : Type 0 where
   pub number : history.start ≤ 2 ^ 63
   pub storable : IsStorableSnapshot (start_snapshot history)
-  pub short : IsRecord (snapshot_bytes (start_snapshot history))
+  pub short : IsShort (snapshot_bytes (start_snapshot history))
   pub entries : AllByRecursion IsRecordable history.entries
+
+module _ (may_give : ℕ → Type 0) (asking : Request → AskedAgent) where
+  -- Where a step writes the record of an entry, a journal can hold it.
+  abbrev pub WritesRecordable : (old : World) (event : Event) (new : World)
+      → DoesEvent may_give asking old event new → Type 0
+  WritesRecordable old (world.body true) new does = IsRecordable does.step.holder.entry
+  WritesRecordable old (world.body false) new does = Unit {0}
+  WritesRecordable old (world.arrive conn piece) new does = Unit {0}
+  WritesRecordable old (world.look conn place moment) new does = Unit {0}
+  WritesRecordable old (world.take conn moment) new does = Unit {0}
+  WritesRecordable old (world.repair ok) new does = Unit {0}
+  WritesRecordable old (world.gate ok) new does = Unit {0}
+  WritesRecordable old world.publish new does = Unit {0}
+  WritesRecordable old (world.stop image) new does = Unit {0}
+
+  -- Each step of the run that writes a record writes such a one.
+  abbrev pub AppendsRecordable : (old : World) (events : List Event) (new : World)
+      → WorldRun may_give asking old events new → Type 0
+  AppendsRecordable old [] new run = Unit {0}
+  AppendsRecordable old (event ∷ events) new run =
+      WritesRecordable old event run.1.done run.1.does
+      × AppendsRecordable run.0 events new run.2
 
 -- ---- what an image stands for
 
@@ -51,20 +72,21 @@ pub record ImageStandsFor (history : History) (image : List ℕ) : Type 0 where
 
 -- It stands for the world's history with one entry more: that in doubt or that under way. The entry
 -- has the number after the end of the history, and isn't published.
-pub record ImageStandsForMore (world : World) (image : List ℕ) : Type 0 where
+pub record ImageStandsForMore (old : World) (image : List ℕ) : Type 0 where
   pub entry : Entry
-  pub follows : MayFollow world.keeper entry
-  pub place : entry.seq ≡ end_of world.keeper.history
-  pub unpublished : world.published ≤ entry.seq
-  pub stands : ImageStandsFor (longer world.keeper.history (entry ∷ [])) image
+  pub follows : MayFollow old.keeper entry
+  pub place : entry.seq ≡ end_of old.keeper.history
+  pub unpublished : old.published ≤ entry.seq
+  pub stands : ImageStandsFor (longer old.keeper.history (entry ∷ [])) image
 
--- Whatever the events from a history on, each image with which the world may stop then stands for
--- its history, or for that with one entry more, where a journal can hold them.
+-- Whatever the events from a history on that a journal can hold, each image with which the world may
+-- stop then stands for its history, or for that with one entry more, where each record that was
+-- written is one that a journal can hold.
 abbrev pub StopsStand : (ℕ → Type 0) → Type 0
 StopsStand may_give = (asking : Request → AskedAgent) (history : History) (numbers : ℕ → Bool)
-    (events : List Event) (world stopped : World) (image : List ℕ) → IsHistory history
-    → WorldRun may_give asking (first_world history numbers) events world
-    → IsRecordableHistory world.keeper.history
-    → ((entry : Entry) → MayFollow world.keeper entry → IsRecordable entry)
-    → WorldStep may_give asking world (stop image) stopped
-    → ImageStandsFor world.keeper.history image ⊎ ImageStandsForMore world image
+    (events : List Event) (new stopped : World) (image : List ℕ) → IsHistory history
+    → IsRecordableHistory history
+    → (run : WorldRun may_give asking (first_world history numbers) events new)
+    → AppendsRecordable may_give asking (first_world history numbers) events new run
+    → WorldStep may_give asking new (world.stop image) stopped
+    → ImageStandsFor new.keeper.history image ⊎ ImageStandsForMore new image

@@ -27,8 +27,8 @@ pub fn one_legal_history<C: Clock>(clock: &C)
     ensures sessions { OneLegalHistory (C.may_give clock.now) }
     ensures grows { OnlyGrows (C.may_give clock.now) }
 
-    // Where a journal can hold its entries, each image that a crash may leave stands for the
-    // history, or for it with one entry more that isn't published.
+    // Where a journal can hold the first history and each record that is written, each image that a
+    // crash may leave stands for the history, or for it with one entry more that isn't published.
     ensures stops { StopsStand (C.may_give clock.now) }
 {
     let _clock = clock;

@@ -31,6 +31,7 @@ use Rattle.request_target.specs.declared.target.Target.TheVariants.{Resource, Se
 use Rattle.token_table.specs.Credentials.{AskedAgent, known, public, refused}
 use Rattle.refusal_laws.specs.Order.{BodyMeans}
 use Rattle.refusal_laws.specs.SomeReplies.{AreBytes, SomeChange, SomeReply, TakesNoBody}
+use Rattle.refusal_laws.proofs.PatchedRows.{some_change}
 use Rattle.refusal_laws.proofs.PostReplies.{post_reply}
 use Rattle.refusal_laws.proofs.some_reply.Goals as goal
 
@@ -164,8 +165,11 @@ returns-clause-posts c = λ pod request asked seq stamp well_formed is bytes mea
     let found = read (body_base request.method pod request path) in
     post_outcome pod request asked seq stamp path e well_formed bytes is read found.0 found.1) (admitted pod.base request asked) refl
 
+pub returns-clause-outcomes : goal.returns-clause-outcomes
+returns-clause-outcomes c = λ pod request path body graphs is means. some_change pod graphs request path is body means
+
 pub returns-clause-patches : goal.returns-clause-patches
-returns-clause-patches c = λ pod request asked seq stamp is means changes.
+returns-clause-patches c = λ pod request asked seq stamp graphs is means.
     by_target pod request asked seq stamp (λ path e.
     let found = means path e in
-    patch_outcome pod request asked seq stamp path e is (changes path) found.0 found.1) (admitted pod.base request asked) refl
+    patch_outcome pod request asked seq stamp path e is (some_change pod graphs request path is) found.0 found.1) (admitted pod.base request asked) refl
