@@ -2,7 +2,7 @@
 use Rattle.std.proofs.Common.{◌≡◌, inl, inr, ℕ, IfSome, List, Option, Some, None, refl, arith}
 use Rattle.podctl_words.specs.declared.command.Asking.TheVariants.{ByTokens, Owner, Fresh}
 use Rattle.podctl_words.specs.declared.command.Command.{Command}
-use Rattle.podctl_words.specs.declared.command.Command.TheVariants.{Init, Pipe, Check, Audit, Load}
+use Rattle.podctl_words.specs.declared.command.Command.TheVariants.{Init, Pipe, Check, Audit, Load, Report, Ship, Follow}
 use Rattle.store_commands.specs.Ends.{IsInitEnd, status_of}
 use Rattle.store_commands.specs.declared.ends.StoreEnd.{StoreEnd}
 use Rattle.store_commands.specs.declared.ends.StoreEnd.TheVariants.{Done, WriteFault, Damaged, DiskFault, NoMemory, NotEmpty, Empty}
@@ -58,3 +58,6 @@ module _ {D : Type 0} (content : D → Option (List ℕ)) (image : D → List �
   has_not_begun Check = inl (unbegun, idle.unwritten)
   has_not_begun Audit = inl (unbegun, idle.unwritten)
   has_not_begun (Load requests) = (inr (inr (is, idle.unwritten.output)), idle.unwritten.errors)
+  has_not_begun (Report agent) = inl (unbegun, idle.unwritten)
+  has_not_begun Ship = inl (unbegun, idle.unwritten)
+  has_not_begun Follow = inl (is, idle)

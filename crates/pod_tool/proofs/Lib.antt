@@ -1,3 +1,4 @@
 pub mod FreshLemmas
 pub mod LoadLemmas
 pub mod EndLemmas
+pub mod FollowLemmas

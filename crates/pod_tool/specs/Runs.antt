@@ -3,9 +3,13 @@ use Rattle.std.specs.Prelude.{◌≡◌, ◌⊎◌, ℕ, List, Option, Some, Non
 use Rattle.podctl_words.specs.declared.command.Asking.TheVariants.{ByTokens, Owner, Fresh}
 use Rattle.podctl_words.specs.declared.command.Command.{Command}
 use Rattle.podctl_words.specs.declared.command.Command.TheVariants.{Init, Pipe, Check, Audit, Load}
+use Rattle.podctl_words.specs.declared.command.Command.TheVariants.{Report, Ship, Follow}
+use Rattle.follow_commands.specs.Lines.{report_text}
+use Rattle.pod_tool.specs.Follows.{RunsFollow}
 use Rattle.pod_tool.specs.Fresh.{RunsFresh}
 use Rattle.pod_tool.specs.Loads.{RunsLoad}
-use Rattle.pod_tool.specs.Stores.{IsIdle, RunsInit, RunsPrinting, RunsStored}
+use Rattle.pod_tool.specs.Stores.{IsIdle, RunsInit, RunsPrinting, RunsShipping, RunsStored}
+use Rattle.pod_tool.specs.Stores.{agent_in}
 use Rattle.store_commands.specs.Texts.{audit_text, check_text}
 use Rattle.store_pipe.specs.StoreRuns.{Streams}
 use Rattle.store_pipe.specs.Tables.{TokenSource}
@@ -33,12 +37,14 @@ streams_of rest reads ends taken told faults input input_new output output_new e
 abbrev pub NeedsNoStore : Option Command → Type 0
 NeedsNoStore (Some (Pipe (Fresh owner) trail)) = Unit {0}
 NeedsNoStore (Some (Load requests)) = Unit {0}
+NeedsNoStore (Some Follow) = Unit {0}
 NeedsNoStore None = Unit {0}
 NeedsNoStore _ = ⊥
 
--- a command other than `pipe`, or invalid arguments
+-- a command other than `pipe` and `follow`, or invalid arguments
 abbrev pub NeedsNoInput : Option Command → Type 0
 NeedsNoInput (Some (Pipe asking trail)) = ⊥
+NeedsNoInput (Some Follow) = ⊥
 NeedsNoInput _ = Unit {0}
 
 -- a command other than `pipe` with agents by the token table, or invalid arguments
@@ -70,3 +76,8 @@ module _ {D : Type 0} (content : D → Option (List ℕ)) (image : D → List �
   Runs Audit tokens streams status = RunsPrinting content image moment left_since faults
       first second first_new second_new audit_text streams status
   Runs (Load requests) tokens streams status = RunsLoad requests streams status
+  Runs (Report agent) tokens streams status = RunsPrinting content image moment left_since faults
+      first second first_new second_new (report_text (agent_in agent)) streams status
+  Runs Ship tokens streams status = RunsShipping content image moment left_since faults
+      first second first_new second_new streams status
+  Runs Follow tokens streams status = RunsFollow streams status

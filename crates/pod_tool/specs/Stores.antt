@@ -1,6 +1,9 @@
 -- Commands over the two disks of a store.
-use Rattle.std.specs.Prelude.{◌≡◌, ◌⊎◌, ◌<◌, ℕ, Bool, List, [], length, Option}
+use Rattle.std.specs.Prelude.{◌≡◌, ◌⊎◌, ◌<◌, ℕ, Bool, List, [], length, Option, Some, None}
+use Rattle.follow_commands.specs.Ships.{Ships}
 use Rattle.journal_pair.specs.PairMoments.{EachPair, LeavesPairs}
+use Rattle.pod_base.specs.declared.agent.Agent.{Agent}
+use Rattle.pod_base.specs.declared.agent.Agent.TheVariants as agents
 use Rattle.pod_command.specs.declared.entry.Entry.{Entry}
 use Rattle.pod_command.specs.declared.snapshot.Snapshot.{Snapshot}
 use Rattle.pod_core.specs.Session.{IsClockMoment}
@@ -16,6 +19,11 @@ use Rattle.store_commands.specs.declared.ends.StoreEnd.TheVariants.{Done, NoMemo
 use Rattle.store_pipe.specs.StoreRuns.{IsUnserved, RunsStore, Streams}
 use Rattle.store_pipe.specs.Tables.{IsUnread, TokenSource}
 
+-- the agent of a report: everyone, where none is named
+abbrev pub agent_in : Option (List ℕ) → Agent
+agent_in None = agents.Public
+agent_in (Some agent) = agents.Known agent
+
 -- a disk that shows its content isn't empty
 abbrev pub HoldsSome : Option (List ℕ) → Type 0
 HoldsSome content = IfVisible content (λ bytes. 0 < length bytes)
@@ -25,14 +33,16 @@ abbrev pub HoldsNothing : Option (List ℕ) → Type 0
 HoldsNothing content = IfVisible content (λ bytes. bytes ≡ [])
 
 -- nothing was written
-pub record IsUnwritten (streams : Streams) : Type 0 where
-  pub output : streams.new_output ≡ streams.old_output
-  pub errors : streams.new_errors ≡ streams.old_errors
+pub record IsUnwritten (old_output new_output old_errors new_errors : Option (List ℕ))
+    : Type 0 where
+  pub output : new_output ≡ old_output
+  pub errors : new_errors ≡ old_errors
 
 -- and nothing was read of the input
 pub record IsIdle (streams : Streams) : Type 0 where
   pub unserved : IsUnserved streams
-  pub unwritten : IsUnwritten streams
+  pub unwritten : IsUnwritten streams.old_output streams.new_output streams.old_errors
+      streams.new_errors
 
 -- Out of memory before it began, a run has left the disks unchanged.
 pub record IsUnbegun {D : Type 0} (first second first_new second_new : D) (status : ℕ)
@@ -82,11 +92,36 @@ module _ {D : Type 0} (content : D → Option (List ℕ)) (image : D → List �
       pub tells : Tells end old_errors new_errors before after
       pub disks : OpensDisks image moment left_since faults first second first_new second_new
 
-    -- what a run of `check` or `audit` does
+    -- The frames of the store were written, or why not. The disks are as an opening leaves them.
+    pub record ShipsStore
+        (old_output new_output old_errors new_errors : Option (List ℕ)) (before after status : ℕ)
+        : Type 0 where
+      pub end : StoreEnd
+      pub status_is : status ≡ status_of end
+      pub ships : Ships (content first) (content second) old_output new_output end
+      pub tells : Tells end old_errors new_errors before after
+      pub disks : OpensDisks image moment left_since faults first second first_new second_new
+
+    -- The text was printed, or why not; or memory ran out before.
+    abbrev pub PrintsUnless : (Snapshot → List Entry → List ℕ) → Option (List ℕ)
+        → Option (List ℕ) → Option (List ℕ) → Option (List ℕ) → ℕ → ℕ → ℕ → Type 0
+    PrintsUnless text old_output new_output old_errors new_errors before after status =
+        (IsUnbegun first second first_new second_new status
+        × IsUnwritten old_output new_output old_errors new_errors)
+        ⊎ PrintsStore text old_output new_output old_errors new_errors before after status
+
+    -- what a run of `check`, `audit` or `report` does
     abbrev pub RunsPrinting : (Snapshot → List Entry → List ℕ) → Streams → ℕ → Type 0
     RunsPrinting text streams status =
-        (IsUnbegun first second first_new second_new status × IsUnwritten streams)
-        ⊎ PrintsStore text streams.old_output streams.new_output streams.old_errors
+        PrintsUnless text streams.old_output streams.new_output streams.old_errors
+        streams.new_errors streams.old_faults streams.new_faults status
+
+    -- what a run of `ship` does
+    abbrev pub RunsShipping : Streams → ℕ → Type 0
+    RunsShipping streams status =
+        (IsUnbegun first second first_new second_new status × IsUnwritten streams.old_output
+        streams.new_output streams.old_errors streams.new_errors)
+        ⊎ ShipsStore streams.old_output streams.new_output streams.old_errors
         streams.new_errors streams.old_faults streams.new_faults status
 
     -- what a run of `pipe` over the store does, with agents by the token table or not

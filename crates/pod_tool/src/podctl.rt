@@ -9,9 +9,10 @@ ghost use Rattle.pod_tool.specs.Runs.{Runs, streams_of};
 ghost use Rattle.podctl_words.specs.Readings.{IsSound, reading};
 ghost use Rattle.store_pipe.specs.Tables.{tokens_of};
 
+use crate::following::follow_streams;
 use crate::fresh::pipe_fresh;
 use crate::loading::load;
-use crate::stores::{Printing, init_store, print_store};
+use crate::stores::{Printing, init_store, print_store, report_store, ship_store};
 use pod_disk::{Disk, Place};
 use pod_io::{Clock, Sink, Source};
 use pod_pipe::{PipeEnd, Status};
@@ -110,9 +111,12 @@ fn run<S: Source, K: Sink, E: Sink, D: Disk, T: Source, C: Clock>(
         Command::Pipe { asking, trail } => {
             pipe_asked(alloc, asking, trail, input, output, errors, place, clock)
         }
-        Command::Check => print_store(alloc, Printing::Counts, output, errors, place),
-        Command::Audit => print_store(alloc, Printing::Entries, output, errors, place),
+        Command::Check => print_store(alloc, &Printing::Counts, output, errors, place),
+        Command::Audit => print_store(alloc, &Printing::Entries, output, errors, place),
         Command::Load(requests) => load(alloc, requests, output),
+        Command::Report { agent } => report_store(alloc, agent, output, errors, place),
+        Command::Ship => ship_store(alloc, output, errors, place),
+        Command::Follow => follow_streams(alloc, input, output, errors),
     }
 }
 
@@ -124,14 +128,18 @@ fn run<S: Source, K: Sink, E: Sink, D: Disk, T: Source, C: Clock>(
 ///   place; with `--owner` each request is the owner's; with `--fresh` the pod is a new one in
 ///   memory, of the base `http://127.0.0.1:8080/`, and each request is its owner's;
 /// - `check` prints how much the store holds, and `audit` a line for each entry of its journal;
-/// - `load` runs requests of the load generator on a new pod in memory, and prints a line of them.
+/// - `load` runs requests of the load generator on a new pod in memory, and prints a line of them;
+/// - `report` prints a line for each mode that everyone, or with `--agent` an agent, has on each row
+///   of the store's pod that is no access list;
+/// - `ship` writes the records of the store's active journal as frames;
+/// - `follow` reads frames, keeps the pod that they give, and writes the response to each read.
 ///
 /// The status is 0 where the work was done; 2 exactly where the arguments are invalid; 3 where a
 /// read of the input or of the token table failed; 4 where a write failed; 5 where the store is
 /// damaged; 6 where a call of a disk failed outside the commit of a request; 7 out of memory; 9
 /// where the token table has a faulty line; 10 where `init` finds a disk that isn't empty, or
 /// another command two empty disks; 12 where the input ended inside a message; 13 where a message
-/// was malformed; and 14 after 2^40 reads.
+/// was malformed; 14 after 2^40 reads; and 15 where a frame was refused, isn't whole, or is missing.
 pub fn run_podctl<S: Source, K: Sink, E: Sink, D: Disk, T: Source, C: Clock>(
     alloc: Global,
     words: &[String],

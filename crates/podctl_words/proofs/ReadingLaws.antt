@@ -8,7 +8,7 @@ use Rattle.podctl_words.specs.Spelling.{AsksFor, ReadsWhatIsWritten, subcommand_
 use Rattle.podctl_words.specs.declared.command.Command.{Command}
 use Rattle.podctl_words.specs.declared.given.Mode.{Mode}
 use Rattle.podctl_words.specs.declared.subcommand.Subcommand.{Subcommand}
-use Rattle.podctl_words.specs.declared.subcommand.Subcommand.TheVariants.{Init, Pipe, Check, Audit, Load}
+use Rattle.podctl_words.specs.declared.subcommand.Subcommand.TheVariants.{Init, Pipe, Check, Audit, Load, Report, Ship, Follow}
 use Rattle.podctl_words.proofs.Spelled.{found}
 use Rattle.podctl_words.proofs.Written.{and_then_some, at, if_some, same_bytes, uses_taken}
 
@@ -18,6 +18,9 @@ command_at Pipe mode g = refl
 command_at Check mode g = refl
 command_at Audit mode g = refl
 command_at Load mode g = refl
+command_at Report mode g = refl
+command_at Ship mode g = refl
+command_at Follow mode g = refl
 
 word_of : (s : Subcommand) → subcommand_of (subcommand_word s) ≡ Some s
 word_of Init = refl
@@ -25,6 +28,9 @@ word_of Pipe = refl
 word_of Check = refl
 word_of Audit = refl
 word_of Load = refl
+word_of Report = refl
+word_of Ship = refl
+word_of Follow = refl
 
 named : (w : List ℕ) (one s : Subcommand) (o : Option Subcommand) → (o ≡ Some s → w ≡ subcommand_word s) → (if bytes_eq w (subcommand_word one) then Some one else o) ≡ Some s → w ≡ subcommand_word s
 named w one s o others e =
@@ -41,7 +47,7 @@ no_word w s e = cc
 
 subcommand_is : (w : List ℕ) (s : Subcommand) → subcommand_of w ≡ Some s → w ≡ subcommand_word s
 subcommand_is w s e =
-    named w Init s _ (named w Pipe s _ (named w Check s _ (named w Audit s _ (named w Load s None (no_word w s))))) e
+    named w Init s _ (named w Pipe s _ (named w Check s _ (named w Audit s _ (named w Load s _ (named w Report s _ (named w Ship s _ (named w Follow s None (no_word w s)))))))) e
 
 asked : (words : List (List ℕ)) (command : Command) → reading words ≡ Some command → AsksFor words command
 unfolding reading

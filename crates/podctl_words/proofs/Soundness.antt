@@ -4,7 +4,7 @@ use Rattle.std.proofs.lemmas.Bool.Decides.{nat_tests}
 use Rattle.std.specs.Option.{option_and_then, option_map}
 use Rattle.pod_rows.specs.Base.{is_base}
 use Rattle.podctl_words.specs.Given.{Given, given_after, nothing_given}
-use Rattle.podctl_words.specs.Readings.{IsSound, agent_of, asking_of, command_after, command_from, command_named, command_of, init_from, is_complete, is_number, load_from, number_after, pipe_from, requests_of, subcommand_of}
+use Rattle.podctl_words.specs.Readings.{IsSound, agent_of, asking_of, command_after, command_from, command_named, command_of, init_from, is_complete, is_number, load_from, number_after, report_from, pipe_from, requests_of, subcommand_of}
 use Rattle.podctl_words.specs.declared.command.Asking.{Asking}
 use Rattle.podctl_words.specs.declared.command.Command.{Command}
 use Rattle.podctl_words.specs.declared.command.Command.TheVariants as commands
@@ -50,12 +50,21 @@ sound_load operand =
     some_mapped IsSound (λ n. commands.Load n) (option_and_then requests_of operand)
     (some_of (λ n. n ≤ LOAD_LIMIT) requests_of operand few_requests)
 
+pub sound_report : (agent : Option (List ℕ)) → IfSome (report_from agent) IsSound
+sound_report None = tt
+sound_report (Some word) =
+    some_mapped IsSound (λ agent. commands.Report (Some agent)) (agent_of word)
+    (some_any (λ agent. Unit {0}) (agent_of word) (λ agent. tt))
+
 pub sound_of : (subcommand : Subcommand) (given : Given) → IfSome (command_of subcommand given) IsSound
 sound_of subcommands.Init given = sound_init given.base given.owner
 sound_of subcommands.Pipe given = sound_pipe given.trail (asking_of given.as_owner given.fresh)
 sound_of subcommands.Check given = tt
 sound_of subcommands.Audit given = tt
 sound_of subcommands.Load given = sound_load given.operand
+sound_of subcommands.Report given = sound_report given.agent
+sound_of subcommands.Ship given = tt
+sound_of subcommands.Follow given = tt
 
 pub sound_named : (word : List ℕ) (words : List (List ℕ)) (found : Option Command) → found ≡ command_named word words → IfSome found IsSound
 sound_named word words found is =

@@ -14,7 +14,7 @@ use Rattle.podctl_words.specs.declared.given.Mode.TheVariants.{Options, Value, O
 use Rattle.podctl_words.specs.declared.subcommand.Flag.{Flag}
 use Rattle.podctl_words.specs.declared.subcommand.Flag.TheVariants.{AsOwner, Trail}
 use Rattle.podctl_words.specs.declared.subcommand.Parameter.{Parameter}
-use Rattle.podctl_words.specs.declared.subcommand.Parameter.TheVariants.{Base, Owner, Fresh}
+use Rattle.podctl_words.specs.declared.subcommand.Parameter.TheVariants.{Base, Owner, Fresh, Agent}
 use Rattle.podctl_words.specs.declared.subcommand.Subcommand.{Subcommand}
 use Rattle.podctl_words.proofs.Numbers.{and_left, and_right}
 use Rattle.podctl_words.proofs.Splitting.{has_any}
@@ -50,13 +50,16 @@ parameter_named s w p both = (and_left (has_parameter s p) (bytes_eq w (paramete
 
 parameter_is : (s : Subcommand) (w : List ℕ) (p : Parameter) → parameter_of s w ≡ Some p → IsParameterWord s w p
 parameter_is s w p e =
-    elim (if_else_some (has_parameter s Base && bytes_eq w (parameter_word Base)) Base p (if has_parameter s Owner && bytes_eq w (parameter_word Owner) then Some Owner else if has_parameter s Fresh && bytes_eq w (parameter_word Fresh) then Some Fresh else None) e) [
+    elim (if_else_some (has_parameter s Base && bytes_eq w (parameter_word Base)) Base p (if has_parameter s Owner && bytes_eq w (parameter_word Owner) then Some Owner else if has_parameter s Fresh && bytes_eq w (parameter_word Fresh) then Some Fresh else if has_parameter s Agent && bytes_eq w (parameter_word Agent) then Some Agent else None) e) [
       | inl is ↦ subst (IsParameterWord s w) is.1 (parameter_named s w Base is.0)
-      | inr other ↦ elim (if_else_some (has_parameter s Owner && bytes_eq w (parameter_word Owner)) Owner p (if has_parameter s Fresh && bytes_eq w (parameter_word Fresh) then Some Fresh else None) other) [
+      | inr other ↦ elim (if_else_some (has_parameter s Owner && bytes_eq w (parameter_word Owner)) Owner p (if has_parameter s Fresh && bytes_eq w (parameter_word Fresh) then Some Fresh else if has_parameter s Agent && bytes_eq w (parameter_word Agent) then Some Agent else None) other) [
         | inl is ↦ subst (IsParameterWord s w) is.1 (parameter_named s w Owner is.0)
-        | inr last ↦ elim (if_else_some (has_parameter s Fresh && bytes_eq w (parameter_word Fresh)) Fresh p None last) [
+        | inr third ↦ elim (if_else_some (has_parameter s Fresh && bytes_eq w (parameter_word Fresh)) Fresh p (if has_parameter s Agent && bytes_eq w (parameter_word Agent) then Some Agent else None) third) [
           | inl is ↦ subst (IsParameterWord s w) is.1 (parameter_named s w Fresh is.0)
-          | inr none ↦ cc
+          | inr last ↦ elim (if_else_some (has_parameter s Agent && bytes_eq w (parameter_word Agent)) Agent p None last) [
+            | inl is ↦ subst (IsParameterWord s w) is.1 (parameter_named s w Agent is.0)
+            | inr none ↦ cc
+          ]
         ]
       ]
     ]

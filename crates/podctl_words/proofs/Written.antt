@@ -12,9 +12,9 @@ use Rattle.podctl_words.specs.declared.given.Mode.TheVariants.{Options, Value, O
 use Rattle.podctl_words.specs.declared.subcommand.Flag.{Flag}
 use Rattle.podctl_words.specs.declared.subcommand.Flag.TheVariants.{AsOwner, Trail}
 use Rattle.podctl_words.specs.declared.subcommand.Parameter.{Parameter}
-use Rattle.podctl_words.specs.declared.subcommand.Parameter.TheVariants.{Base, Owner, Fresh}
+use Rattle.podctl_words.specs.declared.subcommand.Parameter.TheVariants.{Base, Owner, Fresh, Agent}
 use Rattle.podctl_words.specs.declared.subcommand.Subcommand.{Subcommand}
-use Rattle.podctl_words.specs.declared.subcommand.Subcommand.TheVariants.{Init, Pipe, Check, Audit, Load}
+use Rattle.podctl_words.specs.declared.subcommand.Subcommand.TheVariants.{Init, Pipe, Check, Audit, Load, Report, Ship, Follow}
 
 abbrev pub at : Mode → Given → Given
 at mode given = record given { mode = mode }
@@ -28,6 +28,7 @@ pub parameter_at : (mode : Mode) (p : Parameter) (v : List ℕ) (g : Given) → 
 parameter_at mode Base v g = elim g.base as (λ o. with_parameter Base v (at mode (record g { base = o })) ≡ option_map (at mode) (with_parameter Base v (record g { base = o }))) [ Some x ↦ refl | None ↦ refl ]
 parameter_at mode Owner v g = elim g.owner as (λ o. with_parameter Owner v (at mode (record g { owner = o })) ≡ option_map (at mode) (with_parameter Owner v (record g { owner = o }))) [ Some x ↦ refl | None ↦ refl ]
 parameter_at mode Fresh v g = elim g.fresh as (λ o. with_parameter Fresh v (at mode (record g { fresh = o })) ≡ option_map (at mode) (with_parameter Fresh v (record g { fresh = o }))) [ Some x ↦ refl | None ↦ refl ]
+parameter_at mode Agent v g = elim g.agent as (λ o. with_parameter Agent v (at mode (record g { agent = o })) ≡ option_map (at mode) (with_parameter Agent v (record g { agent = o }))) [ Some x ↦ refl | None ↦ refl ]
 
 pub flag_at : (mode : Mode) (f : Flag) (g : Given) → with_flag f (at mode g) ≡ option_map (at mode) (with_flag f g)
 flag_at mode AsOwner g = elim g.as_owner as (λ b. with_flag AsOwner (at mode (record g { as_owner = b })) ≡ option_map (at mode) (with_flag AsOwner (record g { as_owner = b }))) [ true ↦ refl | false ↦ refl ]
@@ -51,23 +52,39 @@ pub word_step : (s : Subcommand) (p : Parameter) → has_parameter s p ≡ true 
 word_step Init Base h g = refl
 word_step Init Owner h g = refl
 word_step Init Fresh h g = cc
+word_step Init Agent h g = cc
 word_step Pipe Base h g = cc
 word_step Pipe Owner h g = cc
 word_step Pipe Fresh h g = refl
+word_step Pipe Agent h g = cc
 word_step Check p h g = cc
 word_step Audit p h g = cc
 word_step Load p h g = cc
+word_step Report Base h g = cc
+word_step Report Owner h g = cc
+word_step Report Fresh h g = cc
+word_step Report Agent h g = refl
+word_step Ship p h g = cc
+word_step Follow p h g = cc
 
 pub value_step : (s : Subcommand) (p : Parameter) → has_parameter s p ≡ true → (v : List ℕ) (g : Given) → after_option s (parameter_word p ++ (codes "=" ++ v)) g ≡ with_value p v g
 value_step Init Base h v g = refl
 value_step Init Owner h v g = refl
 value_step Init Fresh h v g = cc
+value_step Init Agent h v g = cc
 value_step Pipe Base h v g = cc
 value_step Pipe Owner h v g = cc
 value_step Pipe Fresh h v g = refl
+value_step Pipe Agent h v g = cc
 value_step Check p h v g = cc
 value_step Audit p h v g = cc
 value_step Load p h v g = cc
+value_step Report Base h v g = cc
+value_step Report Owner h v g = cc
+value_step Report Fresh h v g = cc
+value_step Report Agent h v g = refl
+value_step Ship p h v g = cc
+value_step Follow p h v g = cc
 
 pub flag_step : (s : Subcommand) (f : Flag) → has_flag s f ≡ true → (g : Given) → after_option s (flag_word f) g ≡ with_flag f g
 flag_step Pipe AsOwner h g = refl
@@ -76,6 +93,9 @@ flag_step Init f h g = cc
 flag_step Check f h g = cc
 flag_step Audit f h g = cc
 flag_step Load f h g = cc
+flag_step Report f h g = cc
+flag_step Ship f h g = cc
+flag_step Follow f h g = cc
 
 no_dashes : (w : List ℕ) → is_dashed w ≡ false → bytes_eq w (codes "--") ≡ false
 no_dashes w plain =
@@ -105,6 +125,9 @@ operand_step Init w g h plain taken = absurd (none_taken Init w g h plain refl t
 operand_step Pipe w g h plain taken = absurd (none_taken Pipe w g h plain refl taken)
 operand_step Check w g h plain taken = absurd (none_taken Check w g h plain refl taken)
 operand_step Audit w g h plain taken = absurd (none_taken Audit w g h plain refl taken)
+operand_step Report w g h plain taken = absurd (none_taken Report w g h plain refl taken)
+operand_step Ship w g h plain taken = absurd (none_taken Ship w g h plain refl taken)
+operand_step Follow w g h plain taken = absurd (none_taken Follow w g h plain refl taken)
 
 -- ---- uses, one after another
 

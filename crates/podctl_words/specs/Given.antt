@@ -6,7 +6,7 @@ use Rattle.std.specs.Option.{option_and_then, option_map}
 use Rattle.podctl_words.specs.declared.subcommand.Subcommand.{Subcommand}
 use Rattle.podctl_words.specs.declared.subcommand.Subcommand.TheVariants as subcommands
 use Rattle.podctl_words.specs.declared.subcommand.Parameter.{Parameter}
-use Rattle.podctl_words.specs.declared.subcommand.Parameter.TheVariants.{Base, Owner, Fresh}
+use Rattle.podctl_words.specs.declared.subcommand.Parameter.TheVariants.{Base, Owner, Fresh, Agent}
 use Rattle.podctl_words.specs.declared.subcommand.Flag.{Flag}
 use Rattle.podctl_words.specs.declared.subcommand.Flag.TheVariants.{AsOwner, Trail}
 use Rattle.podctl_words.specs.declared.given.Mode.{Mode}
@@ -19,6 +19,7 @@ abbrev pub parameter_word : Parameter → List ℕ
 parameter_word Base = codes "--base"
 parameter_word Owner = codes "--owner"
 parameter_word Fresh = codes "--fresh"
+parameter_word Agent = codes "--agent"
 
 abbrev pub flag_word : Flag → List ℕ
 flag_word AsOwner = codes "--owner"
@@ -43,6 +44,7 @@ abbrev pub has_parameter : Subcommand → Parameter → Bool
 has_parameter subcommands.Init Base = true
 has_parameter subcommands.Init Owner = true
 has_parameter subcommands.Pipe Fresh = true
+has_parameter subcommands.Report Agent = true
 has_parameter _ _ = false
 
 abbrev pub has_flag : Subcommand → Flag → Bool
@@ -60,6 +62,7 @@ pub record Given : Type 0 where
   pub base : Option (List ℕ)
   pub owner : Option (List ℕ)
   pub fresh : Option (List ℕ)
+  pub agent : Option (List ℕ)
   pub as_owner : Bool
   pub trail : Bool
   pub operand : Option (List ℕ)
@@ -70,6 +73,7 @@ nothing_given = record {
   base = None;
   owner = None;
   fresh = None;
+  agent = None;
   as_owner = false;
   trail = false;
   operand = None;
@@ -84,6 +88,8 @@ with_parameter Owner value given =
     if is_some given.owner then None else Some (record given { owner = Some value })
 with_parameter Fresh value given =
     if is_some given.fresh then None else Some (record given { fresh = Some value })
+with_parameter Agent value given =
+    if is_some given.agent then None else Some (record given { agent = Some value })
 
 abbrev pub with_value : Parameter → List ℕ → Given → Option Given
 with_value parameter value given =
@@ -113,6 +119,7 @@ parameter_of subcommand word =
     if has_parameter subcommand Base && bytes_eq word (parameter_word Base) then Some Base
     else if has_parameter subcommand Owner && bytes_eq word (parameter_word Owner) then Some Owner
     else if has_parameter subcommand Fresh && bytes_eq word (parameter_word Fresh) then Some Fresh
+    else if has_parameter subcommand Agent && bytes_eq word (parameter_word Agent) then Some Agent
     else None
 
 -- the parameter that a word names together with its value

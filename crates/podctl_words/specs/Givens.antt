@@ -9,6 +9,7 @@ given_of given = record {
   base = option_map (λ word. word.now) given.base;
   owner = option_map (λ word. word.now) given.owner;
   fresh = option_map (λ word. word.now) given.fresh;
+  agent = option_map (λ word. word.now) given.agent;
   as_owner = given.as_owner;
   trail = given.trail;
   operand = option_map (λ word. word.now) given.operand;

@@ -70,6 +70,11 @@ abbrev pub load_from : Option (List ℕ) → Option Command
 load_from operand =
     option_map (λ requests. commands.Load requests) (option_and_then requests_of operand)
 
+-- a report of an agent where one is given, and else of everyone
+abbrev pub report_from : Option (List ℕ) → Option Command
+report_from (Some word) = option_map (λ agent. commands.Report (Some agent)) (agent_of word)
+report_from None = Some (commands.Report None)
+
 abbrev pub command_of : Subcommand → Given → Option Command
 command_of subcommands.Init given = init_from given.base given.owner
 command_of subcommands.Pipe given =
@@ -77,6 +82,9 @@ command_of subcommands.Pipe given =
 command_of subcommands.Check given = Some commands.Check
 command_of subcommands.Audit given = Some commands.Audit
 command_of subcommands.Load given = load_from given.operand
+command_of subcommands.Report given = report_from given.agent
+command_of subcommands.Ship given = Some commands.Ship
+command_of subcommands.Follow given = Some commands.Follow
 
 -- no option is without its value
 abbrev pub is_complete : Mode → Bool
@@ -96,6 +104,9 @@ subcommand_of word =
     else if bytes_eq word (codes "check") then Some subcommands.Check
     else if bytes_eq word (codes "audit") then Some subcommands.Audit
     else if bytes_eq word (codes "load") then Some subcommands.Load
+    else if bytes_eq word (codes "report") then Some subcommands.Report
+    else if bytes_eq word (codes "ship") then Some subcommands.Ship
+    else if bytes_eq word (codes "follow") then Some subcommands.Follow
     else None
 
 abbrev pub command_after : List (List ℕ) → Subcommand → Option Command
@@ -118,3 +129,6 @@ IsSound (commands.Pipe asking trail) = Unit {0}
 IsSound commands.Check = Unit {0}
 IsSound commands.Audit = Unit {0}
 IsSound (commands.Load requests) = requests ≤ LOAD_LIMIT
+IsSound (commands.Report agent) = Unit {0}
+IsSound commands.Ship = Unit {0}
+IsSound commands.Follow = Unit {0}

@@ -19,6 +19,9 @@ subcommand_word subcommands.Pipe = codes "pipe"
 subcommand_word subcommands.Check = codes "check"
 subcommand_word subcommands.Audit = codes "audit"
 subcommand_word subcommands.Load = codes "load"
+subcommand_word subcommands.Report = codes "report"
+subcommand_word subcommands.Ship = codes "ship"
+subcommand_word subcommands.Follow = codes "follow"
 
 -- an option with its value, an option without one, or an operand
 pub data Use : Type 0 where

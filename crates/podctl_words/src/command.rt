@@ -26,4 +26,10 @@ pub enum Command {
     Audit,
     /// Runs so many requests of the load generator.
     Load(u16),
+    /// Prints what an agent may do, or everyone where none is named.
+    Report { agent: Option<Iri> },
+    /// Writes the records of the store as frames.
+    Ship,
+    /// Reads frames, keeps the pod that they give, and answers the reads among them.
+    Follow,
 }

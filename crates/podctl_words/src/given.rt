@@ -24,6 +24,7 @@ pub(crate) struct Given<'a> {
     pub(crate) base: Option<&'a str>,
     pub(crate) owner: Option<&'a str>,
     pub(crate) fresh: Option<&'a str>,
+    pub(crate) agent: Option<&'a str>,
     pub(crate) as_owner: bool,
     pub(crate) trail: bool,
     pub(crate) operand: Option<&'a str>,
@@ -57,6 +58,7 @@ impl<'a> Given<'a> {
             base: None,
             owner: None,
             fresh: None,
+            agent: None,
             as_owner: false,
             trail: false,
             operand: None,
@@ -88,6 +90,13 @@ impl<'a> Given<'a> {
                 let fresh = first(self.fresh, value)?;
                 Some(Given {
                     fresh: Some(fresh),
+                    ..self
+                })
+            }
+            Parameter::Agent => {
+                let agent = first(self.agent, value)?;
+                Some(Given {
+                    agent: Some(agent),
                     ..self
                 })
             }

@@ -133,6 +133,31 @@ fn load_from(operand: Option<&str>) -> Option<Command>
     Some(Command::Load(requests))
 }
 
+/// The report of the agent whom a word names, where it is an absolute IRI.
+fn report_on(alloc: Global, agent: &str) -> Mem<Option<Command>>
+    ensures command { IfOk result (λ found. found ≡ spec.report_from (Some agent.now)) }
+    ensures out_of_memory { IfErr result (λ _.
+        is_some (spec.report_from (Some agent.now)) ≡ true) }
+{
+    match agent_of(alloc, agent) {
+        Ok(Some(agent)) => Ok(Some(Command::Report { agent: Some(agent) })),
+        Ok(None) => Ok(None),
+        Err(NoMemory) => Err(NoMemory),
+    }
+}
+
+/// A report: of an agent where one is given, and else of everyone.
+fn report_from(alloc: Global, agent: Option<&str>) -> Mem<Option<Command>>
+    ensures command { IfOk result (λ found. found ≡ spec.report_from (option_copied agent.entry)) }
+    ensures out_of_memory { IfErr result (λ _.
+        is_some (spec.report_from (option_copied agent.entry)) ≡ true) }
+{
+    match agent {
+        Some(agent) => report_on(alloc, agent),
+        None => Ok(Some(Command::Report { agent: None })),
+    }
+}
+
 /// The command of a subcommand whose words set this.
 fn command_of(alloc: Global, subcommand: Subcommand, given: Given) -> Mem<Option<Command>>
     ensures command { IfOk result (λ found. found
@@ -146,6 +171,9 @@ fn command_of(alloc: Global, subcommand: Subcommand, given: Given) -> Mem<Option
         Subcommand::Check => Ok(Some(Command::Check)),
         Subcommand::Audit => Ok(Some(Command::Audit)),
         Subcommand::Load => Ok(load_from(given.operand)),
+        Subcommand::Report => report_from(alloc, given.agent),
+        Subcommand::Ship => Ok(Some(Command::Ship)),
+        Subcommand::Follow => Ok(Some(Command::Follow)),
     }
 }
 

@@ -12,6 +12,9 @@ pub enum Subcommand {
     Check,
     Audit,
     Load,
+    Report,
+    Ship,
+    Follow,
 }
 
 /// An option with a value.
@@ -23,6 +26,8 @@ pub enum Parameter {
     Owner,
     /// `--fresh A` of `pipe`.
     Fresh,
+    /// `--agent A` of `report`.
+    Agent,
 }
 
 /// An option without a value.
@@ -52,6 +57,9 @@ impl Subcommand {
             "check" => Some(Subcommand::Check),
             "audit" => Some(Subcommand::Audit),
             "load" => Some(Subcommand::Load),
+            "report" => Some(Subcommand::Report),
+            "ship" => Some(Subcommand::Ship),
+            "follow" => Some(Subcommand::Follow),
             _ => None,
         }
     }
@@ -89,6 +97,10 @@ impl Subcommand {
             },
             Subcommand::Pipe => match word {
                 "--fresh" => Some(Parameter::Fresh),
+                _ => None,
+            },
+            Subcommand::Report => match word {
+                "--agent" => Some(Parameter::Agent),
                 _ => None,
             },
             _ => None,

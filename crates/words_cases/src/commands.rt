@@ -1,5 +1,6 @@
 //! The commands that words ask for.
 
+use iri_ref::Iri;
 use podctl_words::{Asking, Command, read};
 use std::alloc::{AllocError, Global};
 
@@ -19,6 +20,14 @@ fn pipe_text(alloc: Global, asking: &Asking, trail: bool) -> Result<String, Allo
     format!(in alloc; "pipe {how}{owner}{end}")
 }
 
+/// A report.
+fn report_text(alloc: Global, agent: &Option<Iri>) -> Result<String, AllocError> {
+    match agent {
+        Some(agent) => format!(in alloc; "report of {}", agent.as_str()),
+        None => String::from_str(alloc, "report of everyone"),
+    }
+}
+
 /// A command as text.
 fn command_text(alloc: Global, command: &Command) -> Result<String, AllocError> {
     match command {
@@ -29,6 +38,9 @@ fn command_text(alloc: Global, command: &Command) -> Result<String, AllocError> 
         Command::Check => String::from_str(alloc, "check"),
         Command::Audit => String::from_str(alloc, "audit"),
         Command::Load(requests) => format!(in alloc; "load {requests}"),
+        Command::Report { agent } => report_text(alloc, agent),
+        Command::Ship => String::from_str(alloc, "ship"),
+        Command::Follow => String::from_str(alloc, "follow"),
     }
 }
 
