@@ -36,6 +36,17 @@ fn kind_of(word: &str) -> Kind {
     }
 }
 
+/// The word of a kind.
+pub fn kind_word(kind: Kind) -> &'static str {
+    match kind {
+        Kind::Container => "container",
+        Kind::Graph => "graph",
+        Kind::Acl => "acl",
+        Kind::Bytes => "bytes",
+        Kind::Meta => "meta",
+    }
+}
+
 /// The content of a text: bytes where it begins with `type:`, with escapes in the media type.
 fn content_of(alloc: Global, content: &str) -> Mem<Content> {
     let (first, rest) = split_word(content);

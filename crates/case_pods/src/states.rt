@@ -1,6 +1,7 @@
 //! The states of pods.
 
 use crate::rows::{BASE, row_of, split_word};
+use acl_rules::How;
 use case_lines::text;
 use case_values::{iri_or_bad, number_of};
 use pod_base::{List, Mem, NoMemory, Text};
@@ -44,7 +45,8 @@ fn rows_of(alloc: Global, field: &str) -> Mem<List<Row>> {
     Ok(List::from_vec(rows))
 }
 
-fn snapshot_of(alloc: Global, head: &str, field: &str) -> Mem<Snapshot> {
+/// The snapshot of the pod with a head and rows.
+pub fn snapshot_of(alloc: Global, head: &str, rows: &str) -> Mem<Snapshot> {
     let (base, rest) = split_word(head);
     let (owner, seq) = match base {
         "-" => (OWNER, rest),
@@ -55,7 +57,7 @@ fn snapshot_of(alloc: Global, head: &str, field: &str) -> Mem<Snapshot> {
         seq: number_of(seq),
         base: iri_or_bad(alloc, base.as_str())?,
         owner: Text::of(alloc, owner)?,
-        rows: rows_of(alloc, field)?,
+        rows: rows_of(alloc, rows)?,
     })
 }
 
@@ -66,5 +68,13 @@ pub fn state_of(alloc: Global, head: &str, rows: &str) -> Mem<Option<PlainRows>>
         Ok(state) => Ok(Some(state)),
         Err(StateFault::NotWellFormed) => Ok(None),
         Err(StateFault::NoMemory) => Err(NoMemory),
+    }
+}
+
+/// The word of how an access list governs a path.
+pub fn how_word(how: How) -> &'static str {
+    match how {
+        How::Own => "own",
+        How::Inherited => "inherited",
     }
 }
