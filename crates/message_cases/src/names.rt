@@ -1,14 +1,14 @@
 //! Stems, and the names of new members. The rows of a case are texts, and each text may be a row.
 
-ghost use Rattle.std.specs.Prelude.{◌≡◌, ◌≤◌, true, length};
+ghost use Rattle.std.specs.Prelude.{◌≡◌, ◌≤◌, All, IfOk, IfSome, OnOk, true, length};
 ghost use Rattle.pod_path.specs.Hierarchy.{is_container};
 ghost use Rattle.message_cases.specs.Rows.{is_row_of};
 ghost use Rattle.slug_naming.specs.declared.names.TheConstants.{ROW_LIMIT};
 
 use case_lines::bytes;
-use pod_base::NoMemory;
+use pod_base::{List, Mem, NoMemory};
 use pod_path::{Path, PathFault, Taken};
-use slug_naming::{ROW_LIMIT, choose, stem};
+use slug_naming::{ROW_LIMIT, TakenNames, choose, stem};
 use std::alloc::{AllocError, Global};
 
 /// The texts that are rows.
@@ -26,6 +26,45 @@ impl Taken for Rows<'_> {
 
     fn taken_text(&self, text: &str) -> bool {
         self.texts.contains(&text)
+    }
+}
+
+/// The path with that text, where it is one of the rows.
+fn row_path(alloc: Global, rows: &Rows<'_>, text: &str) -> Mem<Option<Path>>
+    ensures { IfOk result (λ found. IfSome found
+        (λ path. is_row_of rows.now.texts.now path ≡ true)) }
+{
+    match Path::of_text(alloc, text)? {
+        Some(path) => {
+            if rows.taken(&path) {
+                return Ok(Some(path));
+            }
+            Ok(None)
+        }
+        None => Ok(None),
+    }
+}
+
+/// Adds the path of a row that begins with a text.
+fn push_row(alloc: Global, rows: &Rows<'_>, text: &str, row: &str, paths: &mut Vec<Path>) -> Mem<()>
+    ensures { OnOk result (All (λ path. is_row_of rows.now.texts.now path ≡ true) paths.old.items
+        → All (λ path. is_row_of rows.now.texts.now path ≡ true) paths.new.items) }
+{
+    if row.starts_with(text)
+        && let Some(path) = row_path(alloc, rows, row)?
+    {
+        paths.push(path)?;
+    }
+    Ok(())
+}
+
+impl TakenNames for Rows<'_> {
+    fn taken_below(&self, alloc: Global, text: &str) -> Mem<List<Path>> {
+        let mut paths = Vec::new(alloc);
+        for row in self.texts {
+            push_row(alloc, self, text, row, &mut paths)?;
+        }
+        Ok(List::from_vec(paths))
     }
 }
 

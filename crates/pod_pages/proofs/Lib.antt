@@ -13,3 +13,4 @@ pub mod VersionLaws
 pub mod Placed
 pub mod History
 pub mod Replaying
+pub mod TakenPaths

@@ -16,12 +16,13 @@
 //! (`cost`); a copy is equal (`Version::share`). [`laws`] says what a version is after a history.
 //! No clause says which memory is shared.
 //!
-//! The crate stands on `row_pages`, `access_index`, `pod_rows`, `acl_rules`, `pod_command`,
-//! `rdf_graph`, `pod_path`, `iri_ref` and `pod_base`.
+//! The crate stands on `row_pages`, `access_index`, `pod_rows`, `slug_naming`, `acl_rules`,
+//! `pod_command`, `rdf_graph`, `pod_path`, `iri_ref` and `pod_base`.
 #![tactic(auto)]
 
 mod edits;
 mod effects;
+mod item_paths;
 pub mod laws;
 mod limits;
 mod lists;

@@ -21,6 +21,7 @@ ghost use Rattle.pod_pages.specs.declared.effects.Effect.{Effect as EffectValue}
 
 use crate::edits::{after_edits, row_at};
 use crate::effects::{Effect, is_row, kept_effects, oldest_after};
+use crate::item_paths::item_paths;
 use crate::lists::ListTable;
 use crate::numbers::path_mark;
 use crate::one_row::{edit_path, placing_of, put_placing};
@@ -35,6 +36,7 @@ use pod_rows::{
 };
 use rdf_graph::copy_iri;
 use row_pages::{Item, Rows, Steps};
+use slug_naming::TakenNames;
 use std::alloc::Global;
 use std::marker::Model;
 use std::sync::ledger::Ledger;
@@ -276,6 +278,14 @@ impl Taken for Version {
 
     fn taken_text(&self, text: &str) -> bool {
         self.rows.find(text.as_bytes()).is_some()
+    }
+}
+
+impl TakenNames for Version {
+    fn taken_below(&self, alloc: Global, text: &str) -> Mem<List<Path>> {
+        let items = self.rows.below(alloc, text.as_bytes())?;
+        let paths = item_paths(alloc, items.as_slice())?;
+        Ok(List::from_vec(paths))
     }
 }
 

@@ -9,3 +9,5 @@ pub mod Shown
 pub mod Changes
 pub mod DefinitionLaws
 pub mod Relations
+pub mod SubjectRuns
+pub mod Listed

@@ -15,3 +15,4 @@ pub mod WellFormedTests
 pub mod AclLists
 pub mod RowLists
 pub mod ContainedTriples
+pub mod SubjectOrder

@@ -1,10 +1,12 @@
 //! The guard of the root's access list.
-ghost use Rattle.std.specs.Prelude.{◌≡◌, ◌&&◌};
+ghost use Rattle.std.specs.Prelude.{◌≡◌, ◌&&◌, true};
 ghost use Rattle.std.specs.List.{list_any};
 ghost use Rattle.acl_rules.specs.Rules.{is_rule_statement};
 ghost use Rattle.acl_rules.specs.Statements.{statement};
 ghost use Rattle.pod_rows.specs.GraphSets.{triple_eq};
 ghost use Rattle.pod_rows.specs.Guard.{guards, gives_control, has_value, is_guard};
+ghost use Rattle.pod_rows.specs.SubjectOrder.{after_subject, are_by_subject, is_by_next};
+ghost use Rattle.pod_rows.specs.SubjectOrder.{of_subject};
 
 use acl_rules::vocabulary::{
     ACL_ACCESS_TO, ACL_AGENT, ACL_AUTHORIZATION, ACL_CONTROL, ACL_MODE, is_iri,
@@ -13,8 +15,85 @@ use rdf_graph::vocabulary::RDF_TYPE;
 use rdf_graph::{Term, Triple};
 
 /// Whether a node of type `acl:Authorization` gives the owner control of the root, whose URI is the
-/// base.
+/// base. Of triples in the order of their subjects, as those of a graph, it compares each with the
+/// next, and then looks at the triples of one subject at a time. Of others it looks at all triples
+/// for each such node.
 pub fn guards(base: &str, owner: &str, triples: &[Triple]) -> bool
+    ensures { result ≡ guards base.now owner.now triples.now }
+{
+    if are_by_subject(triples) {
+        guards_by_subject(base, owner, triples)
+    } else {
+        guards_anyhow(base, owner, triples)
+    }
+}
+
+/// Whether the subject isn't after that of the next triple, if there is one.
+fn is_by_next(triple: &Triple, more: &[Triple]) -> bool
+    ensures { result ≡ is_by_next triple.now more.now }
+{
+    match more.split_first() {
+        Some((next, _)) => triple.s.cmp(&next.s).is_le(),
+        None => true,
+    }
+}
+
+/// Whether the triples are in the order of their subjects.
+fn are_by_subject(triples: &[Triple]) -> bool
+    ensures { result ≡ are_by_subject triples.now }
+{
+    let mut rest = triples;
+    while let Some((triple, more)) = rest.split_first() {
+        if !is_by_next(triple, more) {
+            return false;
+        }
+        rest = more;
+    }
+    true
+}
+
+/// The triples from the first that has another subject.
+fn after_subject<'a>(triples: &'a [Triple], node: &Term) -> &'a [Triple]
+    ensures { result.now ≡ after_subject node.now triples.entry.now }
+{
+    let mut rest = triples;
+    while let Some((triple, more)) = rest.split_first() {
+        if triple.s != *node {
+            return rest;
+        }
+        rest = more;
+    }
+    rest
+}
+
+/// The triples before the first that has another subject, and those from it on.
+fn split_subject<'a>(triples: &'a [Triple], node: &Term) -> (&'a [Triple], &'a [Triple])
+    ensures own { result.0.now ≡ of_subject node.now triples.entry.now }
+    ensures more { result.1.now ≡ after_subject node.now triples.entry.now }
+{
+    let more = after_subject(triples, node);
+    let (own, _) = triples.split_at(triples.len() - more.len());
+    (own, more)
+}
+
+/// [`guards`] of triples in the order of their subjects.
+fn guards_by_subject(base: &str, owner: &str, triples: &[Triple]) -> bool
+    requires { are_by_subject triples.now ≡ true }
+    ensures { result ≡ guards base.now owner.now triples.now }
+{
+    let mut rest = triples;
+    while let Some((first, _)) = rest.split_first() {
+        let (own, more) = split_subject(rest, &first.s);
+        if guards_anyhow(base, owner, own) {
+            return true;
+        }
+        rest = more;
+    }
+    false
+}
+
+/// [`guards`] of triples in any order.
+fn guards_anyhow(base: &str, owner: &str, triples: &[Triple]) -> bool
     ensures { result ≡ guards base.now owner.now triples.now }
 {
     triples

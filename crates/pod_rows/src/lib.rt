@@ -15,8 +15,8 @@
 //! force and members are those of the definitions (the clauses of [`PodState`]); a view is the
 //! graph of what a container shows; `fits` is true exactly where an entry applies (`sound`,
 //! `complete`), and `after` is what it makes of the pod (`pod`, `next`). [`laws`] says what follows
-//! from the definitions. The crate stands on `pod_command`, `acl_rules`, `rdf_graph`, `pod_path`,
-//! `iri_ref` and `pod_base`.
+//! from the definitions. The crate stands on `pod_command`, `acl_rules`, `slug_naming`,
+//! `rdf_graph`, `pod_path`, `iri_ref` and `pod_base`.
 #![tactic(auto)]
 
 mod acl_list;

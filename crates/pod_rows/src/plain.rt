@@ -1,8 +1,10 @@
 //! [`PlainRows`]: a state as one list of rows.
-ghost use Rattle.std.specs.Prelude.{◌≡◌, ◌≤◌, ◌^◌, IfOk, IsErrOf, IsTrue, refl};
+ghost use Rattle.std.specs.Prelude.{◌≡◌, ◌≤◌, ◌^◌, IfOk, IsErrOf, IsTrue, nat_eq, refl};
+ghost use Rattle.std.specs.List.{starts_with};
 ghost use Rattle.pod_rows.specs.Members.{is_member_at, states_member};
 ghost use Rattle.pod_rows.specs.declared.plain.StateFault.TheVariants.{NoMemory as OutOfMemory};
 ghost use Rattle.pod_rows.specs.Pod.{is_row};
+ghost use Rattle.pod_rows.specs.RowLists.{paths_below};
 ghost use Rattle.pod_rows.specs.Tree.{children_of, is_child_of};
 ghost use Rattle.pod_rows.specs.WellFormed.{WellFormed, IsWellFormedSnapshot, pod_of};
 
@@ -18,6 +20,7 @@ use pod_base::{List, Mem, NoMemory, Text};
 use pod_command::{Content, Entry, Kind, Row, Snapshot};
 use pod_path::{Path, Taken, parent_text};
 use rdf_graph::copy_iri;
+use slug_naming::TakenNames;
 use std::alloc::Global;
 use std::marker::Model;
 use thiserror::Error;
@@ -152,6 +155,27 @@ fn children_of(alloc: Global, rows: &[Row], container: &Path) -> Mem<Vec<Path>>
     Ok(paths)
 }
 
+/// Whether the row's path begins with a text.
+fn begins_with(row: &Row, text: &str) -> bool
+    ensures { result ≡ starts_with nat_eq row.now.path text.now }
+{
+    row.path.as_str().as_bytes().starts_with(text.as_bytes())
+}
+
+/// The paths that begin with a text, in the order of the rows.
+fn paths_below(alloc: Global, rows: &[Row], text: &str) -> Mem<Vec<Path>>
+    ensures { IfOk result (λ paths. paths.items ≡ paths_below rows.now text.now) }
+{
+    let mut paths = Vec::new(alloc);
+    for row in rows {
+        if begins_with(row, text) {
+            let path = row.path.copy(alloc)?;
+            paths.push(path)?;
+        }
+    }
+    Ok(paths)
+}
+
 /// Whether a document of RDF states that the agent is a member of the group.
 pub fn states_member(group: &str, agent: &str, row: &Row) -> bool
     ensures { result ≡ states_member group.now agent.now row.now.kind row.now.content }
@@ -174,6 +198,13 @@ impl Taken for PlainRows {
 
     fn taken_text(&self, text: &str) -> bool {
         row_in(self.rows.as_slice(), text).is_some()
+    }
+}
+
+impl TakenNames for PlainRows {
+    fn taken_below(&self, alloc: Global, text: &str) -> Mem<List<Path>> {
+        let paths = paths_below(alloc, self.rows.as_slice(), text)?;
+        Ok(List::from_vec(paths))
     }
 }
 

@@ -13,6 +13,7 @@ use iri_ref::Iri;
 use pod_base::{List, Mem, Text};
 use pod_command::{Entry, Row};
 use pod_path::{Path, Taken};
+use slug_naming::TakenNames;
 use std::alloc::Global;
 
 /// The access list that governs a path: the path whose list it is, how it applies, and its rules.
@@ -25,7 +26,7 @@ pub struct Effective<'a> {
 }
 
 /// A state of a pod: the pod, which is well-formed, and the number of its next change.
-pub trait PodState: Taken + Groups {
+pub trait PodState: Taken + TakenNames + Groups {
     ghost pod: { Self → Pod };
 
     ghost next_number: { Self → ℕ };

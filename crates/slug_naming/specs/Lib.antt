@@ -4,3 +4,4 @@ pub mod Names
 pub mod Laws
 -- internal: cited by private clauses alone
 pub mod PlainTexts
+pub mod TakenNotes

@@ -8,7 +8,8 @@
 //! Proved: [`stem`] is the definition `stem_of` of the slug (`text`), and part of a path as it is
 //! (`plain`). [`choose`] gives the path of the first free candidate (`path`), and fails with a
 //! limit exactly where that path passes it (`normal`, `fault`): among at most [`ROW_LIMIT`] rows
-//! one of the candidates is free. There is one path at most ([`laws`]).
+//! one of the candidates is free. There is one path at most ([`laws`]). Candidates are not looked
+//! up one by one where a [`TakenNames`] lists the rows that take them.
 //!
 //! It stands on `percent_encoding`, `itoa`, `iri_ref`, `pod_path` and `pod_base`.
 #![tactic(auto)]
@@ -16,6 +17,8 @@
 pub mod laws;
 mod names;
 mod stems;
+mod taken_names;
 
 pub use names::{ROW_LIMIT, choose};
 pub use stems::{STEM_LIMIT, stem};
+pub use taken_names::TakenNames;

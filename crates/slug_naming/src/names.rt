@@ -7,9 +7,12 @@ ghost use Rattle.pod_path.specs.Norm.{norm};
 ghost use Rattle.slug_naming.specs.Names as spec;
 ghost use Rattle.slug_naming.specs.PlainTexts as texts;
 ghost use Rattle.slug_naming.specs.Stems.{stem_of};
+ghost use Rattle.slug_naming.specs.TakenNotes as notes;
 
 use crate::stems::stem_text;
+use crate::taken_names::{TakenNames, taken_first};
 use itoa::Buffer;
+use pod_base::Mem;
 use pod_path::{Path, PathFault, Taken};
 use std::alloc::{AllocError, Global};
 
@@ -72,8 +75,32 @@ fn is_free<T: Taken>(
     are_no_rows(text, taken)
 }
 
-/// The number of the first candidate that is free. Each row takes at most one, so one is.
-fn first_free<T: Taken>(alloc: Global, base: &str, taken: &T) -> Result<u64, AllocError>
+/// The number of the first candidate that is free, of which so many are taken. Each row takes at
+/// most one, so one is free.
+fn first_free_from<T: Taken>(
+    text: &mut String,
+    base: &str,
+    known: u64,
+    taken: &T,
+) -> Result<u64, AllocError>
+    requires base { is_container base.now ≡ false }
+    requires rows { spec.HasFewRows (T.is_row taken.now) }
+    requires known { notes.AreTakenBefore (T.is_row taken.now) base.now known }
+    requires limit { known ≤ ROW_LIMIT }
+    ensures number { IfOk result
+        (λ number. texts.IsFirstFree (T.is_row taken.now) base.now number) }
+    ensures limit { IfOk result (λ number. number ≤ ROW_LIMIT) }
+{
+    for number in known..ROW_LIMIT + 1 {
+        if is_free(text, base, number, taken)? {
+            return Ok(number);
+        }
+    }
+    unreachable!()
+}
+
+/// The number of the first candidate that is free.
+fn first_free<T: Taken + TakenNames>(alloc: Global, base: &str, taken: &T) -> Mem<u64>
     requires base { is_container base.now ≡ false }
     requires rows { spec.HasFewRows (T.is_row taken.now) }
     ensures number { IfOk result
@@ -81,16 +108,16 @@ fn first_free<T: Taken>(alloc: Global, base: &str, taken: &T) -> Result<u64, All
     ensures limit { IfOk result (λ number. number ≤ ROW_LIMIT) }
 {
     let mut text = String::with_capacity(alloc, base.len().saturating_add(END_ROOM))?;
-    for number in 0..ROW_LIMIT + 1 {
-        if is_free(&mut text, base, number, taken)? {
-            return Ok(number);
-        }
+    if is_free(&mut text, base, 0, taken)? {
+        return Ok(0);
     }
-    unreachable!()
+    let known = taken_first(alloc, base, taken)?;
+    let number = first_free_from(&mut text, base, known, taken)?;
+    Ok(number)
 }
 
 /// A text and another one after it.
-fn concatenate(alloc: Global, first: &str, second: &str) -> Result<String, AllocError>
+pub(crate) fn concatenate(alloc: Global, first: &str, second: &str) -> Result<String, AllocError>
     ensures { IfOk result (λ text. string_bytes text ≡ first.now ++ second.now) }
 {
     let mut text = String::with_capacity(alloc, first.len().saturating_add(second.len()))?;
@@ -103,12 +130,12 @@ fn concatenate(alloc: Global, first: &str, second: &str) -> Result<String, Alloc
 ///
 /// Candidate 0 is the [`crate::stem`] of the slug, and the next ones are the stem with `-2`, `-3`,
 /// .. after it. With `folder` the member is a container. A candidate is free where neither its path
-/// nor the twin of that is a row. It looks up each candidate up to that one twice, and a look-up
-/// takes no memory. There may be at most [`ROW_LIMIT`] rows.
+/// nor the twin of that is a row. Where the first one isn't, it goes once over the rows whose paths
+/// begin with that one's and `-`. There may be at most [`ROW_LIMIT`] rows.
 ///
 /// It fails with `TooLong` or `TooDeep` exactly where the path of the first free candidate does,
 /// and never with `BadEscape`, `NotNormal` or `Reserved`.
-pub fn choose<T: Taken>(
+pub fn choose<T: Taken + TakenNames>(
     alloc: Global,
     container: &Path,
     slug: Option<&[u8]>,

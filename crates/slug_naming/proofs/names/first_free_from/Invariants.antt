@@ -1,7 +1,7 @@
 use Rattle.std.proofs.Common.{◌≡◌, ◌++◌, ℕ, ◌<◌, false}
 use Rattle.slug_naming.specs.Names.{candidate_end}
 use Rattle.slug_naming.specs.PlainTexts.{are_no_rows}
-use Rattle.slug_naming.proofs.names.first_free.Given as goal
+use Rattle.slug_naming.proofs.names.first_free_from.Given as goal
 
 -- the earlier candidates are taken
 abbrev pub invariant-loop-number : goal.invariant-loop-number

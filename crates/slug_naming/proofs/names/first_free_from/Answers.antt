@@ -1,6 +1,6 @@
 use Rattle.std.proofs.Common.{arith}
 use Rattle.slug_naming.proofs.CandidateLemmas.{not_all_taken, closed_no}
-use Rattle.slug_naming.proofs.names.first_free.Goals as goal
+use Rattle.slug_naming.proofs.names.first_free_from.Goals as goal
 
 -- there are fewer rows than candidates
 pub unreachable-requires : goal.unreachable-requires
