@@ -5,8 +5,8 @@ use Rattle.std.specs.List.{flat_map, slice_get}
 use Rattle.std.proofs.lemmas.Bool.{false≢true, not-true, eqb-false, cases_order}
 use Rattle.std.proofs.lemmas.List.Concat.{flat_map-append}
 use Rattle.rdf_graph.specs.Triple.{bytes_cmp}
-use Rattle.row_pages.specs.Borders.{first_of, first_if, first_at, starts_by, starts_after, AreBefore, AreAfter}
-use Rattle.row_pages.specs.Items.{Placed, AreItemsInOrder, is_before, item_at, put_item, remove_item}
+use Rattle.row_pages.specs.Borders.{first_if, first_at, starts_by, starts_after, AreBefore, AreAfter}
+use Rattle.row_pages.specs.Items.{Placed, AreItemsInOrder, first_of, is_before, item_at, put_item, remove_item}
 use Rattle.row_pages.proofs.Ordered.{less_of, before_part, after_part, after_right, order_left, order_right, found_within, put_within, removed_within}
 
 -- ---- halving

@@ -3,8 +3,8 @@ use Rattle.std.proofs.Common.{subst, ◌≡◌, ◌+◌, ◌<◌, ◌≤◌, ℕ
 use Rattle.std.specs.Option.{option_to_list}
 use Rattle.std.specs.List.{flat_map}
 use Rattle.std.proofs.lemmas.List.Concat.{flat_map-append}
-use Rattle.row_pages.specs.Borders.{first_of, first_begins}
-use Rattle.row_pages.specs.Items.{Placed}
+use Rattle.row_pages.specs.Borders.{first_begins}
+use Rattle.row_pages.specs.Items.{Placed, first_of}
 use Rattle.row_pages.specs.Nodes.{HaveItems, IsNode}
 use Rattle.row_pages.specs.Parts.{items_if, page_items, all_items}
 

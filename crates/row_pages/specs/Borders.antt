@@ -3,12 +3,7 @@ use Rattle.std.specs.Prelude.{◌≡◌, ℕ, Bool, false, not, List, [], ◌∷
 use Rattle.std.specs.List.{AllByRecursion, slice_get}
 use Rattle.std.specs.declared.cmp.Ordering.TheVariants.{Less}
 use Rattle.rdf_graph.specs.Triple.{bytes_cmp}
-use Rattle.row_pages.specs.Items.{Placed, path_of, is_before, begins_with}
-
--- The first path of items.
-abbrev pub first_of : List Placed → Option (List ℕ)
-first_of [] = None
-first_of (item ∷ items) = Some (path_of item)
+use Rattle.row_pages.specs.Items.{Placed, first_of, is_before, begins_with}
 
 -- Does the first path begin with the text? None where there is no item.
 abbrev pub first_begins : List ℕ → List Placed → Option Bool

@@ -1,5 +1,5 @@
 -- Items in byte order of their paths: what is found among them, and what putting and removing make.
-use Rattle.std.specs.Prelude.{ℕ, Bool, not, List, ◌++◌, ◌∷◌, Option, map, filter, bytes_eq, nat_eq}
+use Rattle.std.specs.Prelude.{ℕ, Bool, not, List, [], ◌++◌, ◌∷◌, Option, Some, None, map, filter, bytes_eq, nat_eq}
 use Rattle.std.specs.List.{find, starts_with}
 use Rattle.std.specs.List.Sorted.{IsStrictlySortedBy}
 use Rattle.std.specs.Ordering.{is_lt, on}
@@ -15,6 +15,11 @@ pub record Placed : Type 0 where
 
 abbrev pub path_of : Placed → List ℕ
 path_of item = item.row.path
+
+-- The path of the first item, if there is one.
+abbrev pub first_of : List Placed → Option (List ℕ)
+first_of [] = None
+first_of (item ∷ items) = Some (path_of item)
 
 -- The rows of items.
 abbrev pub rows_of : List Placed → List Row

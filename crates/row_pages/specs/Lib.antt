@@ -2,5 +2,6 @@
 pub mod Items
 -- internal: cited by private clauses alone
 pub mod Borders
+pub mod Counts
 pub mod Nodes
 pub mod Parts

@@ -21,10 +21,15 @@
 //! items below a text are those whose paths begin with it, in order ([`Rows::below`]). No clause
 //! says which memory is shared.
 //!
+//! The search, [`find_in`], is generic in the parts that it goes through, of which it knows
+//! [`Keyed`] alone: it has no way to a path but one that adds a step to the count of its ledger, and
+//! no way to a second count. So its `cost` bounds the paths that it reads.
+//!
 //! The crate stands on `pod_command`, `pod_path`, `rdf_graph` and `pod_base`.
 #![tactic(auto)]
 
 mod item;
+mod keyed;
 mod limits;
 mod node;
 mod part;
@@ -33,6 +38,8 @@ mod rows;
 mod steps;
 
 pub use item::Item;
+pub use keyed::Keyed;
 pub use limits::PAGE_LIMIT;
+pub use parts::find_in;
 pub use rows::Rows;
 pub use steps::Steps;

@@ -1,9 +1,9 @@
 //! [`Part`]: an item, a page of items, or a book of pages.
 ghost use Rattle.std.specs.Prelude.{◌≡◌, ◌+◌, ◌<◌, ◌≤◌, ◌++◌, ◌∷◌, [], ℕ, List, Some, IfOk, OnOk};
 ghost use Rattle.std.specs.Prelude.{length, option_copied};
-ghost use Rattle.row_pages.specs.Borders.{first_of, first_begins};
-ghost use Rattle.row_pages.specs.Items.{Placed, AreItemsInOrder, item_at, put_item, remove_item};
-ghost use Rattle.row_pages.specs.Items.{items_below, begins_with};
+ghost use Rattle.row_pages.specs.Borders.{first_begins};
+ghost use Rattle.row_pages.specs.Items.{Placed, AreItemsInOrder, first_of, item_at, put_item};
+ghost use Rattle.row_pages.specs.Items.{remove_item, items_below, begins_with};
 ghost use Rattle.row_pages.specs.Parts.{items_if, items_of_both};
 
 use crate::item::Item;

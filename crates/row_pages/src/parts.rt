@@ -4,13 +4,14 @@ ghost use Rattle.std.specs.Prelude.{IfOk, OnOk, IfSome, IfNone, IsTrue, length, 
 ghost use Rattle.std.specs.Prelude.{take, drop};
 ghost use Rattle.std.specs.List.{flat_map};
 ghost use Rattle.std.specs.Option.{option_to_list};
-ghost use Rattle.row_pages.specs.Borders.{first_of, first_at, starts_by, starts_after};
+ghost use Rattle.row_pages.specs.Borders.{first_at, starts_by, starts_after};
 ghost use Rattle.row_pages.specs.Borders.{AreBefore, AreAfter};
-ghost use Rattle.row_pages.specs.Items.{AreItemsInOrder, is_before, item_at, put_item};
-ghost use Rattle.row_pages.specs.Items.{remove_item, items_below};
+ghost use Rattle.row_pages.specs.Items.{AreItemsInOrder, first_of, is_before, item_at};
+ghost use Rattle.row_pages.specs.Items.{put_item, remove_item, items_below};
 ghost use Rattle.row_pages.specs.Nodes.{HaveItems};
 
 use crate::item::Item;
+use crate::keyed::Keyed;
 use crate::part::Part;
 use crate::steps::Steps;
 use pod_base::Mem;
@@ -27,19 +28,19 @@ fn is_before(path: &[u8], other: &[u8]) -> bool
 }
 
 /// Whether the path is before the first one of the part.
-fn is_before_part<T: Part, L: Ledger>(path: &[u8], part: &T, steps: &mut Steps<L>) -> bool
+fn is_before_part<T: Keyed<L>, L: Ledger>(path: &[u8], part: &T, steps: &mut Steps<L>) -> bool
     ensures after { IsTrue result
         → IsTrue (starts_after path.now (first_of (T.items part.now))) }
     ensures by { result ≡ false → IsTrue (starts_by path.now (first_of (T.items part.now))) }
     ensures cost { steps.new ≡ steps.old + 1 }
 {
-    let first = part.first_path(steps);
+    let first = part.first_counted(steps);
     is_before(path, first)
 }
 
 /// How many of the parts begin at the path or before it. The first `low` parts do, and those from
 /// `high` on don't. It halves what is between.
-fn place_between<T: Part, L: Ledger>(
+fn place_between<T: Keyed<L>, L: Ledger>(
     parts: &[T],
     low: usize,
     high: usize,
@@ -80,7 +81,7 @@ pub(crate) struct Around<'a, T> {
 
 /// The part to which a path belongs: all items before the part are before the path, and all after
 /// the part are after it. None where there are no parts.
-pub(crate) fn around_counted<'a, T: Part, L: Ledger>(
+pub(crate) fn around_counted<'a, T: Keyed<L>, L: Ledger>(
     parts: &'a [T],
     path: &[u8],
     steps: &mut Steps<L>,
@@ -143,8 +144,10 @@ fn split_at_path<'a, T: Part>(parts: &'a [T], path: &[u8]) -> Option<Around<'a, 
     around_blank::<T, Brand>(parts, path, Blank::new(1))
 }
 
-/// The item at a path.
-pub(crate) fn find_in<'a, T: Part, L: Ledger>(
+/// The item at a path among parts in order. `steps` counts the paths that are read: at most as many
+/// as the number of parts has binary digits, and what a search in one part costs. It knows of the
+/// parts no more than [`Keyed`], so no path is read that isn't counted.
+pub fn find_in<'a, T: Keyed<L>, L: Ledger>(
     parts: &'a [T],
     path: &[u8],
     steps: &mut Steps<L>,
@@ -156,7 +159,7 @@ pub(crate) fn find_in<'a, T: Part, L: Ledger>(
         → steps.new ≤ steps.old + b + T.cost }
 {
     match around_counted(parts, path, steps) {
-        Some(around) => around.part.find(path, steps),
+        Some(around) => around.part.find_counted(path, steps),
         None => None,
     }
 }

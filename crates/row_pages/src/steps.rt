@@ -1,24 +1,26 @@
 //! [`Steps`]: a count of the paths that a search reads.
-ghost use Rattle.std.specs.Prelude.{◌≡◌, ◌+◌, ◌<◌};
+ghost use Rattle.std.specs.Prelude.{◌≡◌, ◌+◌, ◌<◌, ◌^◌};
 
 use std::marker::Model;
 use std::sync::ledger::{Blank, Book, Ledger, Share};
 
-/// How many paths of rows were read. It takes no bytes, and only [`Steps::tick`] changes it.
+/// How many paths of rows were read. Only [`Steps::tick`] changes it.
 #[derive(Drop)]
 pub struct Steps<L: Ledger> {
     book: Book<L>,
     share: Share<L>,
+    count: u64,
 }
 
 impl<L: Ledger> Model for Steps<L> {
-    ghost use Rattle.std.specs.Prelude.{ℕ, ◌<◌};
+    ghost use Rattle.std.specs.Prelude.{ℕ};
+    ghost use Rattle.row_pages.specs.Counts.{IsCount};
 
     ghost Value = { ℕ };
 
     ghost view = { λ s. s.book.total };
 
-    ghost invariant = { λ s. 0 < s.share.parts };
+    ghost invariant = { λ s. IsCount s.share.parts s.book.total s.count };
 }
 
 impl<L: Ledger> Steps<L> {
@@ -30,7 +32,11 @@ impl<L: Ledger> Steps<L> {
         ensures { result ≡ 0 }
     {
         let (book, share) = blank.open::<L>();
-        Steps { book, share }
+        Steps {
+            book,
+            share,
+            count: 0,
+        }
     }
 
     /// One more path was read.
@@ -38,5 +44,13 @@ impl<L: Ledger> Steps<L> {
         ensures { self.new ≡ self.old + 1 }
     {
         self.book.add(&mut self.share, 1);
+        self.count = self.count.saturating_add(1);
+    }
+
+    /// How many paths were read, where that is under 2^64.
+    pub fn count(&self) -> u64
+        ensures { self.now < 2 ^ 64 → result ≡ self.now }
+    {
+        self.count
     }
 }
