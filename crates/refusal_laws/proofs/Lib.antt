@@ -6,3 +6,5 @@ mod FoundSolutions
 mod PatchInstances
 mod PatchOutcomes
 mod PatchedRows
+mod TableSteps
+mod TableWalks

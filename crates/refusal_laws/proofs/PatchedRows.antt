@@ -1,5 +1,5 @@
 -- What the body of a PATCH does to the graph of its path.
-use Rattle.std.proofs.Common.{◌≡◌, ℕ, Bool, true, false, cond, List, [], ◌∷◌, Option, Some, None, Ok}
+use Rattle.std.proofs.Common.{◌≡◌, ℕ, Bool, true, false, cond, List, [], ◌∷◌, Some, Ok}
 use Rattle.std.specs.List.{AllByRecursion}
 use Rattle.pod_base.specs.declared.method.Method.TheVariants as methods
 use Rattle.pod_base.specs.declared.request.Request.{Request}

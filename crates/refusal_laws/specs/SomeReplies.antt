@@ -96,3 +96,14 @@ PatchesHaveReplies = (pod : Pod) (request : Request) (asked : AskedAgent) (seq :
     → ((path : List ℕ) → admitted pod.base request asked ≡ Ok (Resource path)
     → (outcome : Outcome) × BodyMeans pod request path outcome)
     → SomeReply pod request asked seq stamp
+
+-- Whatever the rows hold, so has a PATCH whose body has a fault, or has an outcome at the graph of
+-- the path.
+abbrev pub PatchedHaveReplies : Type 0
+PatchedHaveReplies = (pod : Pod) (request : Request) (asked : AskedAgent) (seq : ℕ) (stamp : Stamp)
+    → request.method ≡ methods.Patch
+    → ((path : List ℕ) → admitted pod.base request asked ≡ Ok (Resource path)
+    → (outcome : Outcome) × BodyMeans pod request path outcome)
+    → ((path : List ℕ) (body : RequestBody) → BodyMeans pod request path (Ok body)
+    → SomeChange pod path body)
+    → SomeReply pod request asked seq stamp

@@ -12,6 +12,10 @@
 //! isn't granted, each reply is the refusal of access (`access`). So no refusal of a later rank
 //! is the reply where an earlier condition holds.
 //!
+//! All ranks are one order: from the place in the tree to the size of the entry the conditions are
+//! one table, from which each method takes those that concern it. Each reply is the refusal by the
+//! first condition that holds, or else the success ([`replies_by_rank`]).
+//!
 //! Every request of a method that takes no body has a reply, on every pod ([`some_reply`]). So have a
 //! PUT and a POST whose body is a content or has a fault, a POST on well-formed pods, where its
 //! member always has a name or passes a limit; and a PATCH whose body is a patch or an update or has
@@ -24,9 +28,10 @@
 
 ghost use Rattle.refusal_laws.specs.Order.{AccessComesThird, AdmissionComesFirst};
 ghost use Rattle.refusal_laws.specs.Order.{BodyComesSecond};
-ghost use Rattle.refusal_laws.specs.SomeReplies.{BodilessHaveReplies, PatchesHaveOutcomes};
-ghost use Rattle.refusal_laws.specs.SomeReplies.{PatchesHaveReplies, PostsHaveReplies};
-ghost use Rattle.refusal_laws.specs.SomeReplies.{PutsHaveReplies};
+ghost use Rattle.refusal_laws.specs.RankTable.{EntriesFit, RanksAreInOrder, RepliesAreRanked};
+ghost use Rattle.refusal_laws.specs.SomeReplies.{BodilessHaveReplies, PatchedHaveReplies};
+ghost use Rattle.refusal_laws.specs.SomeReplies.{PatchesHaveOutcomes, PatchesHaveReplies};
+ghost use Rattle.refusal_laws.specs.SomeReplies.{PostsHaveReplies, PutsHaveReplies};
 
 /// Refusals come in the order target, token, method, body, access, and only then what depends on
 /// the pod.
@@ -38,6 +43,15 @@ pub fn refusals_in_order()
     pod_reply::laws::one_reply();
 }
 
+/// Each reply is by one table of refusals: target, token, method, body, access, and then place in the
+/// tree, representation, preconditions, content and size. It is the refusal by the first condition
+/// that holds, or the success where none does. So the stored form of its entry is within the limit.
+pub fn replies_by_rank()
+    ensures order { RanksAreInOrder }
+    ensures ranked { RepliesAreRanked }
+    ensures fit { EntriesFit }
+{}
+
 /// Requests have replies: every one of a method that takes no body; every PUT, and on well-formed
 /// pods every POST, whose body is a content or has a fault; every PATCH whose body is a patch or an
 /// update or has a fault. Each has one at most, too.
@@ -47,4 +61,5 @@ pub fn some_reply()
     ensures posts { PostsHaveReplies }
     ensures outcomes { PatchesHaveOutcomes }
     ensures patches { PatchesHaveReplies }
+    ensures patched { PatchedHaveReplies }
 {}

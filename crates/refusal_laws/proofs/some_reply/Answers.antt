@@ -173,3 +173,9 @@ returns-clause-patches c = λ pod request asked seq stamp graphs is means.
     by_target pod request asked seq stamp (λ path e.
     let found = means path e in
     patch_outcome pod request asked seq stamp path e is (some_change pod graphs request path is) found.0 found.1) (admitted pod.base request asked) refl
+
+pub returns-clause-patched : goal.returns-clause-patched
+returns-clause-patched c = λ pod request asked seq stamp is means changes.
+    by_target pod request asked seq stamp (λ path e.
+    let found = means path e in
+    patch_outcome pod request asked seq stamp path e is (changes path) found.0 found.1) (admitted pod.base request asked) refl
