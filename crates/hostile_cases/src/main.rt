@@ -1,7 +1,7 @@
-//! Cases of a pod whose disks fail, whose store is cut and whose client is hostile, by what
-//! `podctl pipe --owner` runs. It reads one case from each line of standard input, and prints the
-//! line with what happened as one more field. `stdin` has the cases, and `stdout` what is expected
-//! of them, worked out by hand.
+//! Cases of a pod whose disks fail, whose store is cut and whose client is hostile, by the commands
+//! `init`, `check` and `pipe --owner` of `podctl`. It reads one case from each line of standard
+//! input, and prints the line with what happened as one more field. `stdin` has the cases, and
+//! `stdout` what is expected of them, worked out by hand.
 //!
 //! | Fields | What is tried |
 //! |---|---|

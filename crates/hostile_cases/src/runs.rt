@@ -1,4 +1,4 @@
-//! Runs of `pipe --owner` over a store.
+//! Runs of `podctl` over a store.
 ghost use Rattle.std.specs.Prelude.{IfOk, IsSome};
 
 use crate::responses::push_responses;
@@ -6,9 +6,8 @@ use crate::stores::{PIECE, SECONDS, Store, disk};
 use pod_base::{Mem, NoMemory};
 use pod_disk::{Call, Disks, MemDisk, NotedCall, Place};
 use pod_io::{MemSink, MemSource, SetClock};
-use pod_pipe::Status;
+use pod_tool::{Status, run_podctl};
 use std::alloc::Global;
-use store_pipe::pipe_store;
 
 /// The call that fails: of the disk of a side, with a number from 1. No call has the number 0.
 #[derive(Clone, Copy)]
@@ -50,22 +49,37 @@ fn place_of(alloc: Global, store: &Store, fault: Fault<'_>) -> Mem<Place<MemDisk
     })
 }
 
-/// Serves an input as one connection of the pod of a store, each request the owner's.
-pub(crate) fn serve(alloc: Global, store: &Store, input: &[u8], fault: Fault<'_>) -> Mem<Run> {
+/// The words of a text, which are separated by spaces.
+fn words_of(alloc: Global, text: &str) -> Mem<Vec<String>> {
+    let mut words = Vec::new(alloc);
+    for word in text.split(' ') {
+        words.push(String::from_str(alloc, word)?)?;
+    }
+    Ok(words)
+}
+
+/// Runs `podctl` with these words over a store, on an input.
+pub(crate) fn run_words(
+    alloc: Global,
+    words: &str,
+    store: &Store,
+    input: &[u8],
+    fault: Fault<'_>,
+) -> Mem<Run> {
+    let words = words_of(alloc, words)?;
     let mut input = MemSource::new(input.to_vec(alloc)?, PIECE, Vec::new(alloc));
     let mut output = MemSink::new(alloc, PIECE, Vec::new(alloc));
     let mut errors = MemSink::new(alloc, PIECE, Vec::new(alloc));
     let mut place = place_of(alloc, store, fault)?;
-    let clock = SetClock { seconds: SECONDS };
-    let Status(status) = pipe_store(
+    let mut clock = SetClock { seconds: SECONDS };
+    let Status(status) = run_podctl(
         alloc,
-        false,
-        false,
+        &words,
         &mut input,
         &mut output,
         &mut errors,
         &mut place,
-        &clock,
+        &mut clock,
     );
     match place.disks.take() {
         Some(disks) => Ok(Run {
@@ -76,6 +90,11 @@ pub(crate) fn serve(alloc: Global, store: &Store, input: &[u8], fault: Fault<'_>
         }),
         None => Err(NoMemory),
     }
+}
+
+/// Serves an input as one connection of the pod of a store, each request the owner's.
+pub(crate) fn serve(alloc: Global, store: &Store, input: &[u8], fault: Fault<'_>) -> Mem<Run> {
+    run_words(alloc, "pipe --owner", store, input, fault)
 }
 
 /// The letter of a call.

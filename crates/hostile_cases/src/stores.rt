@@ -1,17 +1,13 @@
 //! The two disks of a store, as bytes.
-ghost use Rattle.std.specs.Prelude.{IfOk, IsTrue};
-ghost use Rattle.iri_ref.specs.Components.{IsAbsolute};
-ghost use Rattle.pod_rows.specs.Base.{is_base};
 
-use iri_ref::Iri;
-use pod_base::{Mem, Moment, NoMemory, Text};
+use crate::runs::{NONE, run_words};
+use pod_base::Mem;
 use pod_disk::{Disks, MemDisk};
 use pod_io::MemSink;
 use std::alloc::Global;
-use store_commands::{check, init};
 
-/// The owner of the pod.
-const OWNER: &str = "https://alice.example/#me";
+/// The words that make a store.
+const INIT: &str = "init --base http://127.0.0.1:8080/ --owner https://alice.example/#me";
 
 /// What the clock gives.
 pub(crate) const SECONDS: u64 = 784_111_777;
@@ -34,34 +30,6 @@ pub(crate) fn disk(alloc: Global, bytes: &[u8], failing: Vec<u64>) -> Mem<MemDis
     MemDisk::new(alloc, bytes.to_vec(alloc)?, failing)
 }
 
-/// Two disks of these bytes.
-fn disks_of(alloc: Global, first: &[u8], second: &[u8]) -> Mem<Disks<MemDisk>> {
-    Ok(Disks {
-        first: disk(alloc, first, Vec::new(alloc))?,
-        second: disk(alloc, second, Vec::new(alloc))?,
-    })
-}
-
-/// The base of the pod.
-fn base(alloc: Global) -> Mem<Iri>
-    ensures { IfOk result (λ base. IsTrue (is_base base)) }
-{
-    match Iri::read(alloc, "http://127.0.0.1:8080/") {
-        Ok(base) => Ok(base),
-        Err(_) => Err(NoMemory),
-    }
-}
-
-/// The text of the owner.
-fn owner(alloc: Global) -> Mem<Text>
-    ensures { IfOk result IsAbsolute }
-{
-    match Iri::read(alloc, OWNER) {
-        Ok(_iri) => Text::of(alloc, OWNER),
-        Err(_) => Err(NoMemory),
-    }
-}
-
 impl Store {
     /// The store of what two disks hold.
     pub(crate) fn of(alloc: Global, disks: &Disks<MemDisk>) -> Mem<Store> {
@@ -73,11 +41,12 @@ impl Store {
 
     /// A new store.
     fn new(alloc: Global) -> Mem<Store> {
-        let mut disks = disks_of(alloc, b"", b"")?;
-        let base = base(alloc)?;
-        let owner = owner(alloc)?;
-        let _end = init(alloc, &mut disks, base, owner, Moment(SECONDS));
-        Store::of(alloc, &disks)
+        let empty = Store {
+            first: Vec::new(alloc),
+            second: Vec::new(alloc),
+        };
+        let made = run_words(alloc, INIT, &empty, b"", NONE)?;
+        Store::of(alloc, &made.disks)
     }
 
     /// The store of that name: `new`, or `old` in format 1.
@@ -112,13 +81,10 @@ fn line(alloc: Global, sink: &MemSink) -> Mem<String> {
 
 /// What `check` prints of a store, or its damage.
 pub(crate) fn checked(alloc: Global, store: &Store) -> Mem<String> {
-    let mut output = MemSink::new(alloc, PIECE, Vec::new(alloc));
-    let mut errors = MemSink::new(alloc, PIECE, Vec::new(alloc));
-    let disks = disks_of(alloc, &store.first, &store.second)?;
-    let _ended = check(alloc, disks, &mut output, &mut errors);
-    if output.taken().is_empty() {
-        line(alloc, &errors)
+    let done = run_words(alloc, "check", store, b"", NONE)?;
+    if done.output.taken().is_empty() {
+        line(alloc, &done.errors)
     } else {
-        line(alloc, &output)
+        line(alloc, &done.output)
     }
 }
