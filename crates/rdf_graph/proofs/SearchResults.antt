@@ -190,7 +190,7 @@ module _ (g : List Triple) (patterns : List Pattern) where
     asked_of m q slot (Some u) e x is = same_some (slot_term m slot) x u is (slot_kept (value_of pairs) m q slot u e)
 
     -- all triples that the pattern can be
-    pub upto_all : (subject_range : List Triple) → AreCandidates (slot_term (value_of pairs) pattern.s) (slot_term (value_of pairs) pattern.o) g subject_range → (f : Found) → IsSearchResult g patterns (Upto pairs pattern subject_range) f → IsSearchResult g patterns (Extends pairs) f
+    pub upto_all : (subject_range : List Triple) → AreCandidates (slot_term (value_of pairs) pattern.s) (slot_term (value_of pairs) pattern.p) (slot_term (value_of pairs) pattern.o) g subject_range → (f : Found) → IsSearchResult g patterns (Upto pairs pattern subject_range) f → IsSearchResult g patterns (Extends pairs) f
     upto_all subject_range is f a =
         result_among (Upto pairs pattern subject_range) (Extends pairs)
         (λ m s. (
@@ -202,6 +202,7 @@ module _ (g : List Triple) (patterns : List Pattern) where
                   holds.0,
                   is.complete holds.0 holds.2
                       (asked_of m q pattern.s (slot_term (value_of pairs) pattern.s) refl holds.0.s holds.1.s)
+                      (asked_of m q pattern.p (slot_term (value_of pairs) pattern.p) refl holds.0.p holds.1.p)
                       (asked_of m q pattern.o (slot_term (value_of pairs) pattern.o) refl holds.0.o holds.1.o),
                   holds.1,
                 ),

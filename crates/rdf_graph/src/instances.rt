@@ -21,8 +21,12 @@ use crate::size::{saturating_sum, size_of};
 use crate::term::Term;
 use crate::triple::Triple;
 use crate::triple_ref::{TripleRef, are_rdf_parts, copy_parts, size_of_parts};
-use pod_base::{List, Mem, Text};
+use pod_base::{List, Mem, NoMemory, Text};
 use std::alloc::Global;
+
+/// The most bytes that the triples which a patch makes may have in their stored form, repeats
+/// included: 64 MiB.
+pub const INSTANCES_LIMIT: u64 = 67_108_864;
 
 impl Patch {
     /// Whether a predicate of the deletions or insertions is this IRI, whatever the mapping.
@@ -89,7 +93,8 @@ impl Patch {
 
     /// The triples that the mapping makes of the deletions and of the insertions, each once. They
     /// share the memory of the mapping's and the patch's texts. The change's encoded size is at
-    /// most `instances_size` and the two counts of 8 bytes each.
+    /// most `instances_size` and the two counts of 8 bytes each. Where `instances_size` exceeds
+    /// [`INSTANCES_LIMIT`], they are out of memory, before any is made.
     pub fn change(&self, alloc: Global, mapping: &Mapping) -> Mem<Change>
         requires deletions { BindsPatterns mapping.now.pairs.items self.now.deletions.items }
         requires insertions { BindsPatterns mapping.now.pairs.items self.now.insertions.items }
@@ -111,6 +116,9 @@ impl Patch {
             + instances_size (value_of mapping.now.pairs.items) self.now.insertions.items
             + 16) }
     {
+        if self.instances_size(mapping) > INSTANCES_LIMIT {
+            return Err(NoMemory);
+        }
         let pairs = mapping.pairs.as_slice();
         let removed = graph_of(alloc, pairs, self.deletions.as_slice())?;
         let added = graph_of(alloc, pairs, self.insertions.as_slice())?;

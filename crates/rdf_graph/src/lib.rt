@@ -7,6 +7,7 @@ mod change;
 mod connected_components;
 mod free_variables;
 mod graph;
+mod index;
 mod instances;
 mod iri_lookup;
 mod laws;
@@ -32,6 +33,7 @@ pub mod vocabulary;
 
 pub use change::{Change, changed};
 pub use graph::Graph;
+pub use instances::INSTANCES_LIMIT;
 pub use laws::{change_law, order_law, set_law, subject_law};
 pub use patch::{Patch, PatchFault, instantiate, the_mapping};
 pub use pattern::{Found, Mapping, Pattern, Slot};

@@ -10,7 +10,7 @@ ghost use Rattle.rdf_graph.specs.declared.pattern.Found.TheVariants.{Many};
 use crate::bindings::{BoundVariable, extend, mapping_of, slot_term};
 use crate::lookup::{Candidates, Lookup};
 use crate::pattern::{Found, Pattern};
-use crate::steps::Steps;
+use crate::steps::{Steps, weight};
 use pod_base::Mem;
 use std::alloc::Global;
 
@@ -35,7 +35,7 @@ impl Found {
 
 /// The solutions among the mappings that have the pairs. Conditions that aren't taken are matched
 /// one after another, the one with the fewest candidates first, and the second mapping ends the
-/// search. Each triple that is looked at takes a step.
+/// search. Each triple that is tried takes steps, and so does each look-up.
 ///
 /// After an `Err` the flags and the pairs are unspecified.
 pub(crate) fn search<'a>(
@@ -63,9 +63,11 @@ pub(crate) fn search<'a>(
     let before = bound.len();
     let condition = conditions[next];
     let mut found = Found::Nothing;
+    let weight = weight_of(bound.as_slice(), condition);
+    steps.spend(lookup.cost(weight))?;
     let candidates = candidates_of(lookup, bound.as_slice(), condition);
     for position in 0..candidates.len() {
-        steps.step()?;
+        steps.spend(weight)?;
         let triple = candidates.at(position);
         if extend(bound, condition, triple)? {
             let more = search(alloc, lookup, conditions, taken, bound, steps)?;
@@ -89,15 +91,18 @@ fn candidates_of<'a>(
 ) -> Candidates<'a>
     requires { IsLookup lookup }
     ensures { AreCandidates (slot_term (value_of (pairs_of bound.now)) condition.now.s)
+        (slot_term (value_of (pairs_of bound.now)) condition.now.p)
         (slot_term (value_of (pairs_of bound.now)) condition.now.o) lookup.entry.triples.now
         (candidate_triples result) }
 {
     let s = slot_term(bound, &condition.s);
+    let p = slot_term(bound, &condition.p);
     let o = slot_term(bound, &condition.o);
-    lookup.candidates(s, o)
+    lookup.candidates(s, p, o)
 }
 
-/// The condition with the fewest matches among those that aren't taken, if there are any.
+/// The condition with the fewest candidates among those that aren't taken, if there are any: the
+/// first one with one candidate or none.
 fn next_condition<'a>(
     lookup: Lookup<'a>,
     conditions: &[&'a Pattern],
@@ -115,10 +120,10 @@ fn next_condition<'a>(
     let mut fewest = first_bound(taken);
     for (i, condition) in conditions.iter().enumerate() {
         if !taken[i] {
-            let matches = matches_of(lookup, bound, condition, fewest, steps);
-            if best.is_none() || matches < fewest {
+            let count = count_of(lookup, bound, condition, fewest, steps);
+            if best.is_none() || count < fewest {
                 best = Some(i);
-                fewest = matches;
+                fewest = count;
             }
         }
     }
@@ -132,19 +137,38 @@ fn first_bound(taken: &[bool]) -> usize {
     if left > 1 { usize::MAX } else { 0 }
 }
 
-/// How many triples have the terms of the condition that are bound, counted up to `most` and as
-/// long as there are steps left.
-fn matches_of<'a>(
+/// The steps that each triple takes which is tried for the condition.
+fn weight_of<'a>(bound: &[BoundVariable<'a>], condition: &'a Pattern) -> u64 {
+    let s = slot_term(bound, &condition.s);
+    let p = slot_term(bound, &condition.p);
+    let o = slot_term(bound, &condition.o);
+    weight(s, p, o)
+}
+
+/// The number of the condition's candidates, or where these are all triples, of its matches among
+/// them, counted up to the fewest so far. Where those are at most one, or no step is left, nothing
+/// is counted.
+fn count_of<'a>(
     lookup: Lookup<'a>,
     bound: &[BoundVariable<'a>],
     condition: &'a Pattern,
-    most: usize,
+    fewest: usize,
     steps: &mut Steps,
 ) -> usize
     requires { IsLookup lookup }
 {
+    if fewest <= 1 {
+        return 1;
+    }
     let s = slot_term(bound, &condition.s);
     let p = slot_term(bound, &condition.p);
     let o = slot_term(bound, &condition.o);
-    lookup.candidates(s, o).count(s, p, o, most, steps)
+    if !steps.take(lookup.cost(weight(s, p, o))) {
+        return 1;
+    }
+    let candidates = lookup.candidates(s, p, o);
+    if candidates.len() < lookup.triples.len() {
+        return candidates.len();
+    }
+    candidates.count(s, p, o, fewest, steps)
 }

@@ -7,6 +7,7 @@ ghost use Rattle.rdf_graph.specs.declared.pattern.Found.TheVariants.{Nothing};
 
 use crate::connected_components::{component_of, label_components};
 use crate::graph::Graph;
+use crate::index::KeyOrder;
 use crate::lookup::{Lookup, index_for};
 use crate::pattern::{Found, Mapping, Pattern};
 use crate::search::search;
@@ -19,7 +20,7 @@ use std::alloc::Global;
 /// (Solid Protocol, N3 Patch).
 ///
 /// Connected components of conditions are solved separately, and the second mapping ends a search.
-/// Where a search may know a condition's object and not its subject, it uses an index by object,
+/// Where a search may know a condition's predicate or object and not its subject, it uses an index,
 /// which is built once. A search that would take more than [`STEP_LIMIT`] steps is out of memory.
 ///
 /// [`STEP_LIMIT`]: crate::STEP_LIMIT
@@ -29,9 +30,15 @@ pub fn solutions(alloc: Global, graph: &Graph, conditions: &List<Pattern>) -> Me
     let conditions = conditions.as_slice();
     let labels = label_components(alloc, conditions)?;
     let triples = graph.as_slice();
-    let index = index_for(alloc, triples, conditions)?;
-    let by_object = index.as_slice();
-    let lookup = Lookup { triples, by_object };
+    let predicates = index_for(alloc, KeyOrder::PredicateObject, triples, conditions)?;
+    let objects = index_for(alloc, KeyOrder::ObjectSubject, triples, conditions)?;
+    let by_predicate = predicates.as_slice();
+    let by_object = objects.as_slice();
+    let lookup = Lookup {
+        triples,
+        by_predicate,
+        by_object,
+    };
     let mut steps = Steps::new();
     let mut found = Found::One(Mapping {
         pairs: List::new(alloc),

@@ -74,7 +74,7 @@ module _ (g : List Triple) (ordered : IsOrdered g) (patterns : List Pattern) whe
     finds_pattern : Finds pairs
     finds_pattern =
         let all = walk [] g refl Nothing (upto_none g patterns [] pairs (length front) pattern at) in
-        (all.0, upto_all g patterns [] pairs (length front) pattern at g (all_candidates _ _ g ordered) all.0 all.1)
+        (all.0, upto_all g patterns [] pairs (length front) pattern at g (all_candidates _ _ _ g ordered) all.0 all.1)
 
   -- ---- one pattern after the other
 

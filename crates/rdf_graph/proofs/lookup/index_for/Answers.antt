@@ -1,11 +1,11 @@
 use Rattle.std.proofs.Common.{◌≢◌, []}
 use Rattle.std.proofs.lemmas.Result.{IfOk-weaker}
-use Rattle.rdf_graph.specs.Lookup.{IsObjectIndex}
+use Rattle.rdf_graph.specs.Lookup.{IsIndex}
 use Rattle.rdf_graph.proofs.lookup.index_for.Goals as goal
 
 pub returns-then-needs_index : goal.returns-then-needs_index
 returns-then-needs_index c =
-    IfOk-weaker c.by_object.result (λ index. IsObjectIndex c.args.triples.now index.items) (λ index. index.items ≢ [] → IsObjectIndex c.args.triples.now index.items) (λ index h some. h) c.by_object.ensures
+    IfOk-weaker c.index_of.result (λ index. IsIndex c.args.order c.args.triples.now index.items) (λ index. index.items ≢ [] → IsIndex c.args.order c.args.triples.now index.items) (λ index h some. h) c.index_of.ensures
 
 pub returns-else-needs_index : goal.returns-else-needs_index
 returns-else-needs_index c some = absurd (some c.new.ensures.items)

@@ -99,8 +99,8 @@ returns-clause-taken t c = ap (λ b. set b c.in-Some.next false) c.loop-position
 pub returns-clause-found : goal.returns-clause-found
 returns-clause-found t c =
     let at = read_map (λ r. r.now) c.args.conditions.now c.in-Some.next c.index-conditions-next.result (subst (λ n. c.in-Some.next < n) c.requires.flags c.in-Some.ensures.within) c.index-conditions-next.is in
-    let spanned : AreCandidates (slot_term (value_of (pairs_of c.args.bound.now.items)) c.index-conditions-next.result.now.s) (slot_term (value_of (pairs_of c.args.bound.now.items)) c.index-conditions-next.result.now.o) c.args.lookup.triples.now (candidate_triples c.candidates_of-candidates.result) =
-    subst (λ b. AreCandidates (slot_term (value_of (pairs_of b)) c.index-conditions-next.result.now.s) (slot_term (value_of (pairs_of b)) c.index-conditions-next.result.now.o) c.args.lookup.triples.now (candidate_triples c.candidates_of-candidates.result)) c.as_slice-2.ensures.value c.candidates_of-candidates.ensures in
+    let spanned : AreCandidates (slot_term (value_of (pairs_of c.args.bound.now.items)) c.index-conditions-next.result.now.s) (slot_term (value_of (pairs_of c.args.bound.now.items)) c.index-conditions-next.result.now.p) (slot_term (value_of (pairs_of c.args.bound.now.items)) c.index-conditions-next.result.now.o) c.args.lookup.triples.now (candidate_triples c.candidates_of-candidates.result) =
+    subst (λ b. AreCandidates (slot_term (value_of (pairs_of b)) c.index-conditions-next.result.now.s) (slot_term (value_of (pairs_of b)) c.index-conditions-next.result.now.p) (slot_term (value_of (pairs_of b)) c.index-conditions-next.result.now.o) c.args.lookup.triples.now (candidate_triples c.candidates_of-candidates.result)) c.as_slice-3.ensures.value c.candidates_of-candidates.ensures in
     let past : length (candidate_triples c.candidates_of-candidates.result) ≤ c.loop-position.position = omega arith in
     upto_all c.args.lookup.triples.now (map (λ r. r.now) c.args.conditions.now) c.args.taken.now (pairs_of c.args.bound.now.items) c.in-Some.next c.index-conditions-next.result.now at (candidate_triples c.candidates_of-candidates.result) spanned c.loop-position.found
     (subst (λ zs. IsSearchResult c.args.lookup.triples.now (map (λ r. r.now) c.args.conditions.now) (Upto (pairs_of c.args.bound.now.items) c.index-conditions-next.result.now zs) c.loop-position.found) (take_all c.loop-position.position (candidate_triples c.candidates_of-candidates.result) past) c.loop-position.invariant.found)

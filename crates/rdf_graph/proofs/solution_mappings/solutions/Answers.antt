@@ -1,7 +1,8 @@
 use Rattle.std.proofs.Common.{◌≡◌, ◌∙◌, ap, sym, subst, length, map, arith}
-use Rattle.rdf_graph.specs.Lookup.{IsObjectIndex, IsLookup}
+use Rattle.rdf_graph.specs.Lookup.{IsIndex, IsLookup}
 use Rattle.rdf_graph.specs.Search.{AnyBinding, IsSearchResult}
 use Rattle.rdf_graph.specs.Solutions.{AreSolutions}
+use Rattle.rdf_graph.specs.declared.index.KeyOrder.TheVariants.{PredicateObject, ObjectSubject}
 use Rattle.rdf_graph.specs.declared.pattern.Found.TheVariants.{Nothing, One}
 use Rattle.rdf_graph.proofs.Solving.{below, with_label, result_before, result_more, result_after, none_in_component, one_of_none, solutions_from}
 use Rattle.rdf_graph.proofs.solution_mappings.solutions.Goals as goal
@@ -16,9 +17,12 @@ unfolding IsLookup
 solve_component-requires c =
     record {
       ordered = c.as_slice-triples.ensures.graph.ordered;
+      by_predicate = λ some.
+          subst (IsIndex PredicateObject c.as_slice-triples.result.now) (sym c.as_slice-by_predicate.ensures.value)
+          (c.in_ok-predicates.ensures (λ none. some (c.as_slice-by_predicate.ensures.value ∙ none)));
       by_object = λ some.
-          subst (IsObjectIndex c.as_slice-triples.result.now) (sym c.as_slice-by_object.ensures.value)
-          (c.in_ok-index.ensures (λ none. some (c.as_slice-by_object.ensures.value ∙ none)));
+          subst (IsIndex ObjectSubject c.as_slice-triples.result.now) (sym c.as_slice-by_object.ensures.value)
+          (c.in_ok-objects.ensures (λ none. some (c.as_slice-by_object.ensures.value ∙ none)));
     }
 
 pub returns-then-is_nothing : goal.returns-then-is_nothing

@@ -3,14 +3,14 @@ use Rattle.std.proofs.lemmas.List.{length-map}
 use Rattle.rdf_graph.specs.Lookup.{candidate_triples}
 use Rattle.rdf_graph.proofs.lookup.Candidates.len.Goals as goal
 
-pub returns-then-is_by_object : goal.returns-then-is_by_object
-returns-then-is_by_object c =
-    let is : candidate_triples c.args.self ≡ map (λ r. r.now) c.args.self.by_object.now =
-    c.is_by_object.ensures ∙ ap (λ b. cond b (map (λ r. r.now) c.args.self.by_object.now) c.args.self.in_order.now) c.if-is_by_object.true in
-    sym (ap length is ∙ length-map c.args.self.by_object.now (λ r. r.now))
+pub returns-then-is_indexed : goal.returns-then-is_indexed
+returns-then-is_indexed c =
+    let is : candidate_triples c.args.self ≡ map (λ r. r.now) c.args.self.indexed.now =
+    c.is_indexed.ensures ∙ ap (λ b. cond b (map (λ r. r.now) c.args.self.indexed.now) c.args.self.in_order.now) c.if-is_indexed.true in
+    sym (ap length is ∙ length-map c.args.self.indexed.now (λ r. r.now))
 
-pub returns-else-is_by_object : goal.returns-else-is_by_object
-returns-else-is_by_object c =
+pub returns-else-is_indexed : goal.returns-else-is_indexed
+returns-else-is_indexed c =
     let is : candidate_triples c.args.self ≡ c.args.self.in_order.now =
-    c.is_by_object.ensures ∙ ap (λ b. cond b (map (λ r. r.now) c.args.self.by_object.now) c.args.self.in_order.now) c.if-is_by_object.false in
+    c.is_indexed.ensures ∙ ap (λ b. cond b (map (λ r. r.now) c.args.self.indexed.now) c.args.self.in_order.now) c.if-is_indexed.false in
     sym (ap length is)

@@ -1,5 +1,6 @@
 use Rattle.std.specs.Option.{option_copied}
-use Rattle.rdf_graph.specs.Lookup.{IsLookup}
+use Rattle.std.proofs.Common.{subst, sym}
+use Rattle.rdf_graph.specs.Lookup.{AreCandidates, IsLookup}
 use Rattle.rdf_graph.proofs.Candidates.{range_candidates}
 use Rattle.rdf_graph.proofs.lookup.Lookup.candidates.Goals as goal
 
@@ -8,4 +9,6 @@ unfolding IsLookup
 subject_range-requires c = c.requires.ordered
 
 pub returns-in_default : goal.returns-in_default
-returns-in_default c = range_candidates (option_copied c.args.s) (option_copied c.args.o) c.args.self.triples.now c.subject_range.result.now c.subject_range.ensures.subject_range
+returns-in_default c =
+    subst (AreCandidates (option_copied c.args.s) (option_copied c.args.p) (option_copied c.args.o) c.args.self.triples.now) (sym c.in_order.ensures)
+    (range_candidates (option_copied c.args.s) (option_copied c.args.p) (option_copied c.args.o) c.args.self.triples.now c.subject_range.result.now c.subject_range.ensures.subject_range)

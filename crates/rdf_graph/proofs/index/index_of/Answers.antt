@@ -1,13 +1,16 @@
 use Rattle.std.proofs.Common.{rules, ◌≡◌, map, subst}
 use Rattle.std.specs.List.Sorted.{IsPermutation}
+use Rattle.std.specs.Ordering.{is_lt}
+use Rattle.std.proofs.lemmas.Fn.{always_returns_same}
 use Rattle.std.proofs.lemmas.Iterator.{YieldsList-from_slice}
 use Rattle.std.proofs.lemmas.Iterator.Consumers.{map_from_collect}
 use Rattle.std.proofs.lemmas.Result.{IfOk-at_ok}
-use Rattle.std.proofs.lemmas.List.Sorted.{answers_always, IsPermutation-map, ranks_by}
+use Rattle.std.proofs.lemmas.List.Sorted.{IsPermutation-map, ranks_by}
 use denote.Ref.{Bor}
+use Rattle.rdf_graph.specs.Lookup.{key, key_cmp}
 use Rattle.rdf_graph.specs.declared.triple.Triple.{Triple}
-use Rattle.rdf_graph.specs.TermOrderLaws.{term_cmp_total}
-use Rattle.rdf_graph.proofs.lookup.by_object.Goals as goal
+use Rattle.rdf_graph.proofs.Candidates.{key_cmp_total}
+use Rattle.rdf_graph.proofs.index.index_of.Goals as goal
 
 pub returns : goal.returns
 returns c =
@@ -16,5 +19,5 @@ returns c =
     record {
       moved = subst (λ ts. IsPermutation ts (map (λ (r : Bor Triple). r.now) c.sort_unstable_by.new.self.items)) all
           (IsPermutation-map (λ (r : Bor Triple). r.now) c.in_ok-index.index.items c.sort_unstable_by.new.self.items c.sort_unstable_by.ensures.permutation);
-      sorted = c.sort_unstable_by.ensures.sorted _ (ranks_by term_cmp_total (λ (r : Bor Triple). r.now.o)) (answers_always _ _ _ (λ f a r g called. search rules));
+      sorted = c.sort_unstable_by.ensures.sorted _ (ranks_by key_cmp_total (λ (r : Bor Triple). key c.args.order r.now)) (always_returns_same _ (λ a r. is_lt r ≡ is_lt (key_cmp (key c.args.order a.0.now.now) (key c.args.order a.1.0.now.now))) _ (λ a r f' called. search rules));
     }
