@@ -1,9 +1,7 @@
 pub mod PatternLemmas
 pub mod RuleLemmas
 pub mod SizeLemmas
-pub mod Meant
-pub mod Telling
-pub mod Taking
-pub mod Ending
-pub mod OneSpelled
 pub mod VariableLemmas
+pub mod Meant
+pub mod OneSpelled
+pub mod OneAnswer

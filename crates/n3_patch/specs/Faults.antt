@@ -1,18 +1,15 @@
 -- Why a text is not a patch document, and which fault is reported.
 --
--- A fault of syntax has an index: the number of tokens before it. The least index is the least
+-- A fault of syntax has an index: the number of lexemes before it. The least index is the least
 -- position.
-use Rattle.std.specs.Prelude.{◌≡◌, ◌<◌, ◌≤◌, ◌⊎◌, ℕ, List, length, Result, Ok, Err}
-use Rattle.rdf_graph.specs.declared.patch.Patch.{Patch}
+use Rattle.std.specs.Prelude.{◌≡◌, ◌<◌, ℕ, List, Result, Ok, Err}
+use Rattle.rdf_graph.specs.declared.patch.Patch.{Patch as RdfPatch}
 use Rattle.rdf_graph.specs.declared.size.TheConstants.{TRIPLES_LIMIT}
-use Rattle.turtle_lex.specs.declared.token.Token.{Token}
-use Rattle.turtle_grammar.specs.declared.symbol.Start.TheVariants as start_of
-use Rattle.turtle_terms.specs.declared.fault.TurtleKind.TheVariants as Why
+use Rattle.turtle_grammar.specs.declared.symbol.Start.TheVariants.{Patch}
 use Rattle.turtle_terms.specs.declared.fault.TurtleFault.{TurtleFault}
 use Rattle.turtle_terms.specs.declared.fault.TurtleFault.TheVariants as turtle
-use Rattle.turtle_reader.specs.Faults.{IsFaultAfter, rank}
-use Rattle.turtle_reader.specs.Lexemes.{lexemes_of, lexeme_answer}
-use Rattle.turtle_reader.specs.FirstTokens.{Answer, AreFirst}
+use Rattle.turtle_reader.specs.FirstFaults as first
+use Rattle.turtle_reader.specs.FirstFaults.{NeverLarge}
 use Rattle.n3_patch.specs.declared.fault.N3Fault.{N3Fault}
 use Rattle.n3_patch.specs.declared.fault.N3Fault.TheVariants.{Syntax, Constraint, TooLarge}
 use Rattle.n3_patch.specs.declared.fault.N3Fault.TheVariants.{NoMemory}
@@ -22,26 +19,16 @@ use Rattle.n3_patch.specs.Rules.{IsFirstBroken, KeepsRules}
 use Rattle.n3_patch.specs.Size.{patch_size}
 use Rattle.n3_patch.specs.Spells.{SpellsTriples, PatchSpells}
 
--- The fault is that of what comes after these tokens.
-abbrev pub IsFaultAt : List ℕ → List ℕ → List Token → Answer → TurtleFault → Type 0
-IsFaultAt base bytes before next fault =
-    IsFaultAfter start_of.Patch base bytes (lexemes_of before) (lexeme_answer next) fault
-
 -- The bytes have this fault of syntax at this index, among others.
 abbrev pub HasFaultAt : List ℕ → List ℕ → ℕ → TurtleFault → Type 0
-HasFaultAt base bytes index fault = (before : List Token) × (next : Answer)
-    × AreFirst bytes before next × (length before ≡ index) × IsFaultAt base bytes before next fault
+HasFaultAt base bytes index fault = first.HasFaultAt NeverLarge Patch base bytes index fault
 
 abbrev pub HasNoFault : List ℕ → List ℕ → Type 0
-HasNoFault base bytes =
-    (index : ℕ) (fault : TurtleFault) → HasFaultAt base bytes index fault → ⊥
+HasNoFault base bytes = first.HasNoFault NeverLarge Patch base bytes
 
 -- The fault that is reported: none has a lesser index, and none of this index a lesser rank.
-pub record IsFirstFault (base bytes : List ℕ) (fault : TurtleFault) : Type 0 where
-  pub index : ℕ
-  pub has : HasFaultAt base bytes index fault
-  pub first : (other : ℕ) (one : TurtleFault) → HasFaultAt base bytes other one
-      → (index < other) ⊎ ((index ≡ other) × (rank fault ≤ rank one))
+abbrev pub IsFirstFault : List ℕ → List ℕ → TurtleFault → Type 0
+IsFirstFault base bytes fault = first.IsFirstFault NeverLarge Patch base bytes fault
 
 -- a fault of syntax as it is reported
 abbrev pub told_as : TurtleFault → N3Fault
@@ -67,15 +54,14 @@ IsN3Fault base bytes NoMemory = Unit {0}
 
 -- no bracket is too deep
 abbrev pub IsShallow : List ℕ → List ℕ → Type 0
-IsShallow base bytes =
-    (index at : ℕ) → HasFaultAt base bytes index (turtle.Bad at Why.Depth) → ⊥
+IsShallow base bytes = first.IsShallow NeverLarge Patch base bytes
 
 -- this patch, or out of memory
-abbrev pub IsPatchOrNoMemory : Result Patch N3Fault → Patch → Type 0
+abbrev pub IsPatchOrNoMemory : Result RdfPatch N3Fault → RdfPatch → Type 0
 IsPatchOrNoMemory (Ok found) patch = SamePatch found patch
 IsPatchOrNoMemory (Err fault) patch = fault ≡ NoMemory
 
 -- Where the bytes parse to a patch and no bracket is too deep, it is this patch, or out of memory.
-abbrev pub HasOnlyPatch : List ℕ → List ℕ → Result Patch N3Fault → Type 0
-HasOnlyPatch base bytes result = (patch : Patch) → PatchSpells base bytes patch
+abbrev pub HasOnlyPatch : List ℕ → List ℕ → Result RdfPatch N3Fault → Type 0
+HasOnlyPatch base bytes result = (patch : RdfPatch) → PatchSpells base bytes patch
     → IsShallow base bytes → IsPatchOrNoMemory result patch

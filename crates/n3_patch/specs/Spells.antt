@@ -1,24 +1,19 @@
 -- Which bytes parse to a patch (Solid Protocol, N3 Patch).
-use Rattle.std.specs.Prelude.{◌≡◌, ℕ, List, [], ◌∷◌, Option, Some, None}
+use Rattle.std.specs.Prelude.{◌≡◌, ℕ, List, Option, Some, None}
 use Rattle.rdf_graph.specs.declared.term.Term.TheVariants.{Blank}
 use Rattle.rdf_graph.specs.declared.patch.Patch.{Patch}
-use Rattle.turtle_lex.specs.declared.token.Token.{Token}
-use Rattle.turtle_lex.specs.Tokens.{AreTokens}
 use Rattle.turtle_grammar.specs.declared.production.Node.{Node}
 use Rattle.turtle_grammar.specs.declared.production.Within.{Within}
 use Rattle.turtle_grammar.specs.declared.production.Within.TheVariants as within
 use Rattle.turtle_grammar.specs.declared.production.SymbolicTriple.{SymbolicTriple}
 use Rattle.turtle_grammar.specs.declared.production.Production.{Production}
-use Rattle.turtle_grammar.specs.declared.production.Production.TheVariants.{Prefix, Base, Triple}
 use Rattle.turtle_grammar.specs.declared.symbol.Start.TheVariants as start_of
-use Rattle.turtle_grammar.specs.Derivations.{Derives}
 use Rattle.turtle_reader.specs.declared.meaning.Meaning.{Meaning}
 use Rattle.turtle_reader.specs.declared.referent.Referent.{Referent}
 use Rattle.turtle_reader.specs.declared.referent.Referent.TheVariants as referent_of
-use Rattle.turtle_reader.specs.Contexts.{at_start}
-use Rattle.turtle_reader.specs.Lexemes.{lexemes_of, symbols_of}
-use Rattle.turtle_reader.specs.Meanings.{AreMeanings}
+use Rattle.turtle_reader.specs.Handed.{AreMadeOf}
 use Rattle.turtle_reader.specs.Referents.{referent}
+use Rattle.turtle_reader.specs.Texts.{IsText}
 use Rattle.turtle_labels.specs.Documents.{IsLabelOf}
 use Rattle.n3_patch.specs.declared.triples.PatchNode.{PatchNode}
 use Rattle.n3_patch.specs.declared.triples.PatchNode.TheVariants as patch_node
@@ -52,24 +47,15 @@ pub record IsTripleOf (bytes : List ℕ) (meanings : List Meaning) (symbolic : S
 
 -- The triples of productions, in their order.
 abbrev pub AreTriplesOf : List ℕ → List Meaning → List Production → List PatchTriple → Type 0
-AreTriplesOf bytes meanings [] triples = triples ≡ []
-AreTriplesOf bytes meanings (Prefix name iri ∷ productions) triples =
-    AreTriplesOf bytes meanings productions triples
-AreTriplesOf bytes meanings (Base iri ∷ productions) triples =
-    AreTriplesOf bytes meanings productions triples
-AreTriplesOf bytes meanings (Triple symbolic ∷ productions) triples =
-    (first : PatchTriple) × (rest : List PatchTriple) × (triples ≡ first ∷ rest)
-    × IsTripleOf bytes meanings symbolic first × AreTriplesOf bytes meanings productions rest
+AreTriplesOf bytes meanings productions triples =
+    AreMadeOf (IsTripleOf bytes meanings) productions triples
 
--- The bytes parse to these triples under a base, in order of production: their tokens derive a
--- patch document, and each token has a meaning under the directives before it.
+-- The bytes parse to these triples under a base, in order of production: they are a patch document,
+-- whose productions these are.
 pub record SpellsTriples (base bytes : List ℕ) (triples : List PatchTriple) : Type 0 where
-  pub tokens : List Token
   pub productions : List Production
   pub meanings : List Meaning
-  pub are_tokens : AreTokens bytes tokens
-  pub derives : Derives start_of.Patch (symbols_of (lexemes_of tokens)) productions
-  pub means : AreMeanings bytes (at_start base) (lexemes_of tokens) meanings
+  pub text : IsText start_of.Patch base bytes productions meanings
   pub are_triples : AreTriplesOf bytes meanings productions triples
 
 -- The bytes parse to the patch of these triples, which break no rule.

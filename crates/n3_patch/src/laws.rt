@@ -3,6 +3,7 @@
 //! Each is the contract of a function that does nothing.
 
 ghost use Rattle.n3_patch.specs.Laws.{HasOnePatch, HasOneRule, PatchBreaksNone, HasOneSpelledPatch};
+ghost use Rattle.n3_patch.specs.Answers.{HasOneFirstFault, PlacesAscend, HasOneAnswer};
 
 /// Triples have at most one patch, or at most one rule that they break first.
 pub fn one_judgement()
@@ -14,4 +15,15 @@ pub fn one_judgement()
 /// A text parses to at most one patch.
 pub fn one_spelled_patch()
     ensures { HasOneSpelledPatch }
+{}
+
+/// A text has at most one first fault of syntax, which is at the least position of all its faults.
+pub fn first_fault()
+    ensures one { HasOneFirstFault }
+    ensures least { PlacesAscend }
+{}
+
+/// A text is read as one patch, or has one fault beside out of memory.
+pub fn one_answer()
+    ensures { HasOneAnswer }
 {}

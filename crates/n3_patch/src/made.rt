@@ -1,19 +1,18 @@
 //! The triples of a patch document, as the parser produces them.
 
 ghost use Rattle.std.specs.Prelude.{◌≡◌, ◌++◌, ◌∷◌, [], ℕ, List as ListOf, Some, IfOk, OnOk};
-ghost use Rattle.turtle_reader.specs.Readings.{produced_last};
 ghost use Rattle.turtle_labels.specs.Documents.{AreLazyLabelsOf};
 ghost use Rattle.n3_patch.specs.Spells.{IsReferentNode, within_formula};
-ghost use Rattle.n3_patch.specs.Reading.{IsReferentTriple, Makes, Adds, AreSound};
+ghost use Rattle.n3_patch.specs.Reading.{IsReferentTriple};
 
 use crate::kept::{KEPT_BYTES_LIMIT, kept_bytes};
 use crate::triples::{PatchNode, PatchTriple};
 use pod_base::{List, Mem, NoMemory};
 use rdf_graph::Term;
 use std::alloc::Global;
-use turtle_grammar::{Production, SymbolicTriple, Within};
+use turtle_grammar::{Start, Within};
 use turtle_labels::LazyLabels;
-use turtle_reader::{Reader, Referent, ResolvedTriple};
+use turtle_reader::{Language, Referent, ResolvedTriple};
 
 /// The triples so far, and the labels of unnamed nodes as soon as there is one.
 #[derive(Drop)]
@@ -79,28 +78,10 @@ fn triple_of(
     })
 }
 
-/// The triple that a production is.
-fn make_triple(
-    alloc: Global,
-    bytes: &[u8],
-    labels: &mut LazyLabels,
-    reader: &Reader,
-    symbolic: &SymbolicTriple,
-) -> Mem<PatchTriple>
-    requires { AreLazyLabelsOf bytes.now labels.old }
-    ensures labels { AreLazyLabelsOf bytes.now labels.new }
-    ensures triple { IfOk result (Makes bytes.now symbolic.now reader.now) }
-{
-    match reader.triple(alloc, symbolic) {
-        Ok(resolved) => triple_of(alloc, bytes, labels, resolved),
-        Err(full) => Err(full),
-    }
-}
-
 impl Made {
     pub(crate) fn new(alloc: Global) -> Made
         ensures list { result.list.items ≡ [] }
-        ensures sound { (bytes : ListOf ℕ) → AreSound bytes result }
+        ensures labels { (bytes : ListOf ℕ) → AreLazyLabelsOf bytes result.labels }
     {
         Made {
             list: List::new(alloc),
@@ -123,56 +104,36 @@ impl Made {
             Err(_) => Err(NoMemory),
         }
     }
+}
 
-    /// Appends the triple that a production is.
-    fn add(
-        &mut self,
-        alloc: Global,
-        bytes: &[u8],
-        reader: &Reader,
-        production: &Production,
-    ) -> Mem<()>
-        requires { AreSound bytes.now self.old }
-        ensures sound { OnOk result (AreSound bytes.now self.new) }
-        ensures adds { OnOk result (Adds bytes.now reader.now (production.now ∷ [])
-            self.old.list.items self.new.list.items) }
-    {
-        match production {
-            Production::Triple(symbolic) => {
-                let triple = make_triple(alloc, bytes, &mut self.labels, reader, symbolic)?;
-                self.push(alloc, triple)
-            }
-            Production::Prefix { .. } => Ok(()),
-            Production::Base { .. } => Ok(()),
-        }
+impl Language for Made {
+    ghost use Rattle.turtle_grammar.specs.declared.symbol.Start.TheVariants.{Patch};
+    ghost use Rattle.turtle_reader.specs.FirstFaults.{NeverLarge};
+    ghost use Rattle.n3_patch.specs.Reading.{AreMade};
+
+    ghost symbol = { Patch };
+
+    ghost is_sound = { λ bytes made. AreLazyLabelsOf bytes made.labels };
+
+    ghost is_kept = { λ bytes handed made. AreMade bytes handed made.list.items };
+
+    ghost is_large = { λ base bytes. NeverLarge };
+
+    fn start() -> Start {
+        Start::Patch
     }
 
-    /// Appends the triples of productions.
-    fn add_all(
-        &mut self,
-        alloc: Global,
-        bytes: &[u8],
-        reader: &Reader,
-        productions: &[Production],
-    ) -> Mem<()>
-        requires { AreSound bytes.now self.old }
-        ensures sound { OnOk result (AreSound bytes.now self.new) }
-        ensures adds { OnOk result (Adds bytes.now reader.now productions.now
-            self.old.list.items self.new.list.items) }
-    {
-        for production in productions {
-            self.add(alloc, bytes, reader, production)?;
-        }
-        Ok(())
+    fn keep(&mut self, alloc: Global, bytes: &[u8], triple: ResolvedTriple) -> Mem<()> {
+        let triple = triple_of(alloc, bytes, &mut self.labels, triple)?;
+        self.push(alloc, triple)
     }
 
-    /// Appends the triples that the last token produced.
-    pub(crate) fn add_produced(&mut self, alloc: Global, bytes: &[u8], reader: &Reader) -> Mem<()>
-        requires { AreSound bytes.now self.old }
-        ensures sound { OnOk result (AreSound bytes.now self.new) }
-        ensures adds { OnOk result (Adds bytes.now reader.now (produced_last reader.now)
-            self.old.list.items self.new.list.items) }
-    {
-        self.add_all(alloc, bytes, reader, reader.produced())
+    fn judge(
+        &mut self,
+        _alloc: Global,
+        _bytes: &[u8],
+        _waiting: Option<ResolvedTriple>,
+    ) -> Mem<bool> {
+        Ok(false)
     }
 }

@@ -1,7 +1,6 @@
 pub mod Same
 pub mod TurtleOnce
 pub mod JsonOnce
-pub mod PlaceLemmas
 pub mod PatchOnce
 pub mod UpdateOnce
 pub mod Once

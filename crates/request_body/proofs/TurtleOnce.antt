@@ -2,12 +2,13 @@
 use Rattle.std.proofs.Common.{◌≡◌, ◌⊎◌, ℕ, List, refl, sym, ap, ◌∙◌, inl, inr, Ok, Err}
 use Rattle.rdf_graph.specs.declared.triple.Triple.{Triple}
 use Rattle.pod_command.specs.declared.row.Content.TheVariants.{Graph, Bytes}
+use Rattle.turtle_grammar.specs.declared.symbol.Start.TheVariants as start_of
 use Rattle.turtle_terms.specs.declared.fault.TurtleFault.{TurtleFault}
 use Rattle.turtle_terms.specs.declared.fault.TurtleFault.TheVariants.{Bad, TooLarge, NoMemory}
+use Rattle.turtle_reader.proofs.OneFault.{one_first_fault}
 use Rattle.turtle_text.specs.Spells.{Spells}
-use Rattle.turtle_text.specs.Faults.{HasNoFault, IsFirstFault}
+use Rattle.turtle_text.specs.Faults.{IsLarge, HasNoFault, IsFirstFault}
 use Rattle.turtle_text.proofs.Spelling.{one_graph}
-use Rattle.turtle_text.proofs.OneFault.{one_first_fault}
 use Rattle.request_body.specs.declared.body.RequestBody.TheVariants.{Nothing, Content, Patch, Update}
 use Rattle.request_body.specs.declared.fault.BodyFault.TheVariants.{NoType, UnsupportedType, Syntax, Json, Rule, GraphSize}
 use Rattle.request_body.specs.Bodies.{Outcome, IsTurtleBody}
@@ -44,7 +45,7 @@ module _ (base bytes : List ℕ) where
   one a b (inl (g, e, spells, sound)) (inl (h, f, spells', sound')) = e ∙ ap graph (one_graph base bytes g h spells spells') ∙ sym f
   one a b (inl (g, e, spells, sound)) (inr (f, k, first)) = absurd (sound first.index f first.has)
   one a b (inr (f, k, first)) (inl (g, e, spells, sound)) = absurd (sound first.index f first.has)
-  one a b (inr (f, e, first)) (inr (g, k, first')) = e ∙ ap told (one_first_fault base bytes f g first first') ∙ sym k
+  one a b (inr (f, e, first)) (inr (g, k, first')) = e ∙ ap told (one_first_fault (IsLarge base bytes) start_of.Document base bytes f g first first') ∙ sym k
 
 pub one_turtle : (base bytes : List ℕ) (a b : Outcome) → IsTurtleBody base bytes a → IsTurtleBody base bytes b → SameOutcome a b
 one_turtle base bytes a b h k = same a b (one base bytes a b (ends base bytes a h) (ends base bytes b k))

@@ -1,13 +1,6 @@
 pub mod TripleLemmas
 pub mod NamedLemmas
-pub mod Words
-pub mod Lexemes
-pub mod Firsts
-pub mod Meant
-pub mod Telling
-pub mod Taking
-pub mod Ending
+pub mod Namings
+pub mod Counting
 pub mod OneNamed
-pub mod OneFault
-pub mod NamedSizes
 pub mod OneAnswer

@@ -1,16 +1,26 @@
--- A text is read in one way.
-use Rattle.std.proofs.Common.{◌≡◌, ℕ, ◌≤◌, List, Result, Ok, Err, refl, sym, ap, ◌∙◌, arith}
+-- A text is read in one way, and as what the code returns.
+use Rattle.std.proofs.Common.{◌≡◌, ◌≢◌, ℕ, ◌<◌, ◌≤◌, true, false, List, Result, Ok, Err, refl, sym, ap, ◌∙◌, subst, arith}
 use Rattle.std.proofs.lemmas.Bool.{false≢true}
 use Rattle.rdf_graph.specs.declared.size.TheConstants.{TRIPLES_LIMIT}
+use Rattle.turtle_grammar.specs.declared.symbol.Start.TheVariants.{Update}
 use Rattle.turtle_terms.specs.declared.fault.TurtleFault.{TurtleFault}
+use Rattle.turtle_terms.specs.declared.fault.TurtleFault.TheVariants as turtle
+use Rattle.turtle_reader.specs.declared.referent.ResolvedTriple.{ResolvedTriple}
+use Rattle.turtle_reader.specs.FirstFaults.{NeverLarge}
+use Rattle.turtle_reader.specs.Languages.{KeepsText}
+use Rattle.turtle_reader.proofs.OneFault.{one_first_fault}
+use Rattle.turtle_reader.proofs.OneText.{no_fault, nowhere_large}
+use Rattle.sparql_patch.specs.declared.collected.Collected.{Collected}
 use Rattle.sparql_patch.specs.declared.fault.SparqlFault.{SparqlFault}
 use Rattle.sparql_patch.specs.declared.fault.SparqlFault.TheVariants.{Syntax, Blank, TooLarge, NoMemory}
 use Rattle.sparql_patch.specs.declared.named.Named.{Named}
-use Rattle.sparql_patch.specs.Laws.{HasOneAnswer}
-use Rattle.sparql_patch.specs.UpdateSpells.{Names, named_size}
-use Rattle.sparql_patch.specs.UpdateFaults.{HasNoFault, IsFirstFault, IsSparqlFault, told_as}
-use Rattle.sparql_patch.proofs.OneFault.{one_first_fault}
-use Rattle.sparql_patch.proofs.OneNamed.{one_update, one_named, blank_along}
+use Rattle.sparql_patch.specs.Laws.{IsReadAs}
+use Rattle.sparql_patch.specs.Reading.{AreCounted, IsCollected}
+use Rattle.sparql_patch.specs.UpdateSpells.{has_blank, Names, named_size}
+use Rattle.sparql_patch.specs.UpdateFaults.{HasNoFault, IsFirstFault, IsShallow, IsSparqlFault, told_as}
+use Rattle.sparql_patch.proofs.Counting.{over_limit, within_limit}
+use Rattle.sparql_patch.proofs.Namings.{blank_is, namings_are}
+use Rattle.sparql_patch.proofs.OneNamed.{one_named, one_blank}
 
 abbrev Answer : Type 0
 Answer = Result (List Named) SparqlFault
@@ -21,38 +31,96 @@ answered named = Ok named
 abbrev refused : SparqlFault → Answer
 refused fault = Err fault
 
-never : (base bytes : List ℕ) (f : TurtleFault) → HasNoFault base bytes → IsFirstFault base bytes f → ⊥
-never base bytes f none first = none first.index f first.has
+module _ (base bytes : List ℕ) where
+  never : (f : TurtleFault) → HasNoFault base bytes → IsFirstFault base bytes f → ⊥
+  never f none first = none first.index f first.has
 
-not_blank : (base bytes : List ℕ) (named : List Named) → Names base bytes named → IsSparqlFault base bytes Blank → ⊥
-not_blank base bytes named h (ps, ms, update, none, blank) =
-    let same = one_update base bytes h.productions ps h.meanings ms h.is_update update in
-    false≢true (sym (blank_along h.productions ps h.meanings ms same ∙ h.without_blank) ∙ blank)
+  not_blank : (named : List Named) → Names base bytes named → IsSparqlFault base bytes Blank → ⊥
+  not_blank named h (ps, ms, update, none, blank) = false≢true (sym (one_blank base bytes ps ms named h update) ∙ blank)
 
-not_large : (base bytes : List ℕ) (named : List Named) → Names base bytes named → named_size named ≤ TRIPLES_LIMIT → IsSparqlFault base bytes TooLarge → ⊥
-not_large base bytes named h fits (other, k, none, large) =
-    let same : named_size named ≡ named_size other = ap named_size (one_named base bytes named other h k) in omega (arith, same, fits, large)
+  not_large : (named : List Named) → Names base bytes named → named_size named ≤ TRIPLES_LIMIT → IsSparqlFault base bytes TooLarge → ⊥
+  not_large named h fits (other, k, none, large) =
+      let same : named_size named ≡ named_size other = ap named_size (one_named base bytes named other h k) in omega (arith, same, fits, large)
 
-pub one_answer : HasOneAnswer
-one_answer base bytes (Ok a) (Ok b) h k = ap answered (one_named base bytes a b h.0 k.0)
-one_answer base bytes (Ok a) (Err (Syntax at)) h (f, first, is) = absurd (never base bytes f h.1 first)
-one_answer base bytes (Ok a) (Err Blank) h k = absurd (not_blank base bytes a h.0 k)
-one_answer base bytes (Ok a) (Err TooLarge) h k = absurd (not_large base bytes a h.0 h.2 k)
-one_answer base bytes (Ok a) (Err NoMemory) h k = absurd k
-one_answer base bytes (Err (Syntax at)) (Ok b) (f, first, is) k = absurd (never base bytes f k.1 first)
-one_answer base bytes (Err (Syntax at)) (Err (Syntax at')) (f, first, is) (g, first', is') =
-    ap refused (sym is ∙ ap told_as (one_first_fault base bytes f g first first') ∙ is')
-one_answer base bytes (Err (Syntax at)) (Err Blank) (f, first, is) (ps, ms, update, none, blank) = absurd (never base bytes f none first)
-one_answer base bytes (Err (Syntax at)) (Err TooLarge) (f, first, is) (named, k, none, large) = absurd (never base bytes f none first)
-one_answer base bytes (Err (Syntax at)) (Err NoMemory) h k = absurd k
-one_answer base bytes (Err Blank) (Ok b) h k = absurd (not_blank base bytes b k.0 h)
-one_answer base bytes (Err Blank) (Err (Syntax at)) (ps, ms, update, none, blank) (f, first, is) = absurd (never base bytes f none first)
-one_answer base bytes (Err Blank) (Err Blank) h k = refl
-one_answer base bytes (Err Blank) (Err TooLarge) h (named, k, none, large) = absurd (not_blank base bytes named k h)
-one_answer base bytes (Err Blank) (Err NoMemory) h k = absurd k
-one_answer base bytes (Err TooLarge) (Ok b) h k = absurd (not_large base bytes b k.0 k.2 h)
-one_answer base bytes (Err TooLarge) (Err (Syntax at)) (named, h, none, large) (f, first, is) = absurd (never base bytes f none first)
-one_answer base bytes (Err TooLarge) (Err Blank) (named, h, none, large) k = absurd (not_blank base bytes named h k)
-one_answer base bytes (Err TooLarge) (Err TooLarge) h k = refl
-one_answer base bytes (Err TooLarge) (Err NoMemory) h k = absurd k
-one_answer base bytes (Err NoMemory) b h k = absurd h
+  pub one_answer : (a b : Answer) → IsReadAs base bytes a → IsReadAs base bytes b → a ≡ b
+  one_answer (Ok a) (Ok b) h k = ap answered (one_named base bytes a b h.0 k.0)
+  one_answer (Ok a) (Err (Syntax at)) h (f, first, is) = absurd (never f h.1 first)
+  one_answer (Ok a) (Err Blank) h k = absurd (not_blank a h.0 k)
+  one_answer (Ok a) (Err TooLarge) h k = absurd (not_large a h.0 h.2 k)
+  one_answer a (Err NoMemory) h k = absurd k
+  one_answer (Err (Syntax at)) (Ok b) (f, first, is) k = absurd (never f k.1 first)
+  one_answer (Err (Syntax at)) (Err (Syntax at')) (f, first, is) (g, first', is') =
+      ap refused (sym is ∙ ap told_as (one_first_fault NeverLarge Update base bytes f g first first') ∙ is')
+  one_answer (Err (Syntax at)) (Err Blank) (f, first, is) (ps, ms, update, none, blank) = absurd (never f none first)
+  one_answer (Err (Syntax at)) (Err TooLarge) (f, first, is) (named, k, none, large) = absurd (never f none first)
+  one_answer (Err Blank) (Ok b) h k = absurd (not_blank b k.0 h)
+  one_answer (Err Blank) (Err (Syntax at)) (ps, ms, update, none, blank) (f, first, is) = absurd (never f none first)
+  one_answer (Err Blank) (Err Blank) h k = refl
+  one_answer (Err Blank) (Err TooLarge) h (named, k, none, large) = absurd (not_blank named k h)
+  one_answer (Err TooLarge) (Ok b) h k = absurd (not_large b k.0 k.2 h)
+  one_answer (Err TooLarge) (Err (Syntax at)) (named, h, none, large) (f, first, is) = absurd (never f none first)
+  one_answer (Err TooLarge) (Err Blank) (named, h, none, large) k = absurd (not_blank named h k)
+  one_answer (Err TooLarge) (Err TooLarge) h k = refl
+  one_answer (Err NoMemory) b h k = absurd h
+
+  -- Of a text that names triples within the limits only these are returned.
+
+  no_refusal : (f : SparqlFault) (named : List Named) → answered named ≡ refused f → ⊥
+  no_refusal f named e = cc
+
+  same_items : (a b : List Named) → answered a ≡ answered b → a ≡ b
+  same_items a b e = cc
+
+  module _ (named : List Named) (h : Names base bytes named) (shallow : IsShallow base bytes) (fits : named_size named ≤ TRIPLES_LIMIT) where
+    read_as : IsReadAs base bytes (Ok named)
+    read_as = (h, no_fault NeverLarge Update base bytes h.productions h.meanings h.is_update shallow (nowhere_large Update base bytes), fits)
+
+    pub only_memory : (f : SparqlFault) → IsSparqlFault base bytes f → f ≡ NoMemory
+    only_memory (Syntax at) is = absurd (no_refusal (Syntax at) named (one_answer (Ok named) (Err (Syntax at)) read_as is))
+    only_memory Blank is = absurd (no_refusal Blank named (one_answer (Ok named) (Err Blank) read_as is))
+    only_memory TooLarge is = absurd (no_refusal TooLarge named (one_answer (Ok named) (Err TooLarge) read_as is))
+    only_memory NoMemory is = refl
+
+    pub only_these : (found : List Named) → Names base bytes found → found ≡ named
+    only_these found k = one_named base bytes found named k h
+
+  -- What the code returns
+
+  pub syntax_told : (f : TurtleFault) → (f ≢ turtle.NoMemory → IsFirstFault base bytes f) → IsSparqlFault base bytes (told_as f)
+  syntax_told (turtle.Bad at kind) first = (turtle.Bad at kind, first (λ e. cc), refl)
+  syntax_told (turtle.TooLarge at) first = (turtle.TooLarge at, first (λ e. cc), refl)
+  syntax_told turtle.NoMemory first = tt
+
+  module _ (c : Collected) (k : KeepsText (λ (b : List ℕ) (handed : List ResolvedTriple) (c : Collected). IsCollected handed c) Update base bytes c)
+      (sound : HasNoFault base bytes) where
+    blank : has_blank k.meanings k.productions ≡ c.has_blank
+    blank = blank_is k.meanings k.productions k.handed k.resolved ∙ sym k.is_kept.blank
+
+    pub blank_told : c.has_blank ≡ true → IsSparqlFault base bytes Blank
+    blank_told some = (k.productions, k.meanings, k.text, sound, blank ∙ some)
+
+    module _ (none : c.has_blank ≡ false) where
+      counted : AreCounted k.handed c
+      counted = k.is_kept.named (sym k.is_kept.blank ∙ none)
+
+      names_all : Names base bytes counted.all
+      names_all = record {
+        productions = k.productions;
+        meanings = k.meanings;
+        is_update = k.text;
+        without_blank = blank ∙ none;
+        are_named = namings_are k.meanings k.productions k.handed counted.all k.resolved counted.are_named;
+      }
+
+      pub large_told : TRIPLES_LIMIT < c.size → IsSparqlFault base bytes TooLarge
+      large_told over = (counted.all, names_all, sound, over_limit c.size (named_size counted.all) counted.counted.size_is over)
+
+      module _ (within : c.size ≤ TRIPLES_LIMIT) where
+        small : named_size counted.all ≤ TRIPLES_LIMIT
+        small = within_limit c.size (named_size counted.all) counted.counted.size_is within
+
+        pub names_kept : Names base bytes c.named.items
+        names_kept = subst (Names base bytes) (sym (counted.counted.kept small)) names_all
+
+        pub size_kept : named_size c.named.items ≤ TRIPLES_LIMIT
+        size_kept = subst (λ (ns : List Named). named_size ns ≤ TRIPLES_LIMIT) (sym (counted.counted.kept small)) small

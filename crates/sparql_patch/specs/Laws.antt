@@ -9,7 +9,8 @@ use Rattle.sparql_patch.specs.declared.fault.SparqlFault.{SparqlFault}
 use Rattle.sparql_patch.specs.declared.fault.SparqlFault.TheVariants.{NoMemory}
 use Rattle.sparql_patch.specs.declared.named.Named.{Named}
 use Rattle.sparql_patch.specs.NamedUpdate.{triple_eq, has_triple, last_named, last_word}
-use Rattle.sparql_patch.specs.UpdateFaults.{HasFaultAt, HasNoFault, IsFirstFault, place_of}
+use Rattle.turtle_reader.specs.FirstFaults.{place_of}
+use Rattle.sparql_patch.specs.UpdateFaults.{HasFaultAt, HasNoFault, IsFirstFault}
 use Rattle.sparql_patch.specs.UpdateFaults.{IsSparqlFault}
 use Rattle.sparql_patch.specs.UpdateSpells.{Names, named_size}
 

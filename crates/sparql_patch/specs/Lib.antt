@@ -1,6 +1,5 @@
 pub mod NamedUpdate
 pub mod Laws
-pub mod UpdateLexemes
 pub mod UpdateSpells
 pub mod UpdateFaults
 -- internal: cited by private clauses alone

@@ -2,49 +2,32 @@
 --
 -- A fault of syntax has an index: the number of lexemes before it. The least index is the least
 -- position.
-use Rattle.std.specs.Prelude.{◌≡◌, ◌<◌, ◌≤◌, ◌⊎◌, ℕ, true, List, length, Result, Ok, Err}
+use Rattle.std.specs.Prelude.{◌≡◌, ◌<◌, ◌≤◌, ℕ, true, List, Result, Ok, Err}
 use Rattle.pod_base.specs.Listed.{Listed}
 use Rattle.rdf_graph.specs.declared.size.TheConstants.{TRIPLES_LIMIT}
 use Rattle.turtle_grammar.specs.declared.production.Production.{Production}
 use Rattle.turtle_grammar.specs.declared.symbol.Start.TheVariants.{Update}
-use Rattle.turtle_terms.specs.declared.fault.TurtleKind.TheVariants as Why
 use Rattle.turtle_terms.specs.declared.fault.TurtleFault.{TurtleFault}
 use Rattle.turtle_terms.specs.declared.fault.TurtleFault.TheVariants as turtle
-use Rattle.turtle_reader.specs.declared.lexeme.Lexeme.{Lexeme}
 use Rattle.turtle_reader.specs.declared.meaning.Meaning.{Meaning}
-use Rattle.turtle_reader.specs.Faults.{Next, IsFaultAfter, rank}
+use Rattle.turtle_reader.specs.FirstFaults as first
+use Rattle.turtle_reader.specs.FirstFaults.{NeverLarge}
 use Rattle.sparql_patch.specs.declared.fault.SparqlFault.{SparqlFault}
 use Rattle.sparql_patch.specs.declared.fault.SparqlFault.TheVariants.{Syntax, Blank, TooLarge}
 use Rattle.sparql_patch.specs.declared.fault.SparqlFault.TheVariants.{NoMemory}
 use Rattle.sparql_patch.specs.declared.named.Named.{Named}
-use Rattle.sparql_patch.specs.UpdateLexemes.{AreFirst}
 use Rattle.sparql_patch.specs.UpdateSpells.{has_blank, named_size, IsUpdate, Names}
-
--- The fault is that of what comes after these lexemes.
-abbrev pub IsFaultAt : List ℕ → List ℕ → List Lexeme → Next → TurtleFault → Type 0
-IsFaultAt base bytes before next fault = IsFaultAfter Update base bytes before next fault
 
 -- The bytes have this fault of syntax at this index, among others.
 abbrev pub HasFaultAt : List ℕ → List ℕ → ℕ → TurtleFault → Type 0
-HasFaultAt base bytes index fault = (before : List Lexeme) × (next : Next)
-    × AreFirst bytes before next × (length before ≡ index) × IsFaultAt base bytes before next fault
+HasFaultAt base bytes index fault = first.HasFaultAt NeverLarge Update base bytes index fault
 
 abbrev pub HasNoFault : List ℕ → List ℕ → Type 0
-HasNoFault base bytes =
-    (index : ℕ) (fault : TurtleFault) → HasFaultAt base bytes index fault → ⊥
-
--- the position of a fault
-abbrev pub place_of : TurtleFault → ℕ
-place_of (turtle.Bad at kind) = at
-place_of (turtle.TooLarge at) = at
-place_of turtle.NoMemory = 0
+HasNoFault base bytes = first.HasNoFault NeverLarge Update base bytes
 
 -- The fault that is told: none has a lesser index, and none of this index a lesser rank.
-pub record IsFirstFault (base bytes : List ℕ) (fault : TurtleFault) : Type 0 where
-  pub index : ℕ
-  pub has : HasFaultAt base bytes index fault
-  pub first : (other : ℕ) (one : TurtleFault) → HasFaultAt base bytes other one
-      → (index < other) ⊎ ((index ≡ other) × (rank fault ≤ rank one))
+abbrev pub IsFirstFault : List ℕ → List ℕ → TurtleFault → Type 0
+IsFirstFault base bytes fault = first.IsFirstFault NeverLarge Update base bytes fault
 
 -- a fault of syntax as it is told
 abbrev pub told_as : TurtleFault → SparqlFault
@@ -65,8 +48,7 @@ IsSparqlFault base bytes NoMemory = Unit {0}
 
 -- no bracket is too deep
 abbrev pub IsShallow : List ℕ → List ℕ → Type 0
-IsShallow base bytes =
-    (index at : ℕ) → HasFaultAt base bytes index (turtle.Bad at Why.Depth) → ⊥
+IsShallow base bytes = first.IsShallow NeverLarge Update base bytes
 
 -- these triples, or out of memory
 abbrev pub AreNamedOrNoMemory : Result (Listed Named) SparqlFault → List Named → Type 0

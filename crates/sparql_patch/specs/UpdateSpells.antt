@@ -11,17 +11,13 @@ use Rattle.turtle_grammar.specs.declared.production.SymbolicTriple.{SymbolicTrip
 use Rattle.turtle_grammar.specs.declared.production.Production.{Production}
 use Rattle.turtle_grammar.specs.declared.production.Production.TheVariants.{Prefix, Base, Triple}
 use Rattle.turtle_grammar.specs.declared.symbol.Start.TheVariants.{Update}
-use Rattle.turtle_grammar.specs.Derivations.{Derives}
-use Rattle.turtle_reader.specs.declared.lexeme.Lexeme.{Lexeme}
 use Rattle.turtle_reader.specs.declared.meaning.Meaning.{Meaning}
 use Rattle.turtle_reader.specs.declared.referent.Referent.{Referent}
 use Rattle.turtle_reader.specs.declared.referent.Referent.TheVariants as referent_of
-use Rattle.turtle_reader.specs.Contexts.{at_start}
-use Rattle.turtle_reader.specs.Lexemes.{symbols_of}
-use Rattle.turtle_reader.specs.Meanings.{AreMeanings}
+use Rattle.turtle_reader.specs.Handed.{AreMadeOf}
 use Rattle.turtle_reader.specs.Referents.{referent}
+use Rattle.turtle_reader.specs.Texts.{IsText}
 use Rattle.sparql_patch.specs.declared.named.Named.{Named}
-use Rattle.sparql_patch.specs.UpdateLexemes.{AreLexemes}
 
 -- Whether what a node refers to is a blank node: a label, ANON, a bracket, or a cell of a
 -- collection.
@@ -62,22 +58,12 @@ pub record IsNamingOf (meanings : List Meaning) (symbolic : SymbolicTriple) (nam
 
 -- The namings of productions, in their order.
 abbrev pub AreNamingsOf : List Meaning → List Production → List Named → Type 0
-AreNamingsOf meanings [] named = named ≡ []
-AreNamingsOf meanings (Prefix name iri ∷ productions) named =
-    AreNamingsOf meanings productions named
-AreNamingsOf meanings (Base iri ∷ productions) named = AreNamingsOf meanings productions named
-AreNamingsOf meanings (Triple t ∷ productions) named =
-    (first : Named) × (rest : List Named) × (named ≡ first ∷ rest)
-    × IsNamingOf meanings t first × AreNamingsOf meanings productions rest
+AreNamingsOf meanings productions named = AreMadeOf (IsNamingOf meanings) productions named
 
 -- The bytes are an update under a base: their lexemes derive one, and each has a meaning under the
 -- directives before it.
-pub record IsUpdate (base bytes : List ℕ) (productions : List Production) (meanings : List Meaning)
-    : Type 0 where
-  pub lexemes : List Lexeme
-  pub are_lexemes : AreLexemes bytes lexemes
-  pub derives : Derives Update (symbols_of lexemes) productions
-  pub means : AreMeanings bytes (at_start base) lexemes meanings
+abbrev pub IsUpdate : List ℕ → List ℕ → List Production → List Meaning → Type 0
+IsUpdate base bytes productions meanings = IsText Update base bytes productions meanings
 
 -- The bytes are an update without a blank node, which names these triples in this order.
 pub record Names (base bytes : List ℕ) (named : List Named) : Type 0 where

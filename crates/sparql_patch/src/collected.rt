@@ -1,35 +1,29 @@
 //! What an update names, as it is read.
 
-ghost use Rattle.std.specs.Prelude.{◌≡◌, ◌++◌, ◌∷◌, [], IfOk, OnOk};
-ghost use Rattle.turtle_reader.specs.Readings.{produced_last};
+ghost use Rattle.std.specs.Prelude.{◌≡◌, ◌+◌, ◌++◌, ◌∷◌, [], ℕ, List as ListOf, IfOk, OnOk};
+ghost use Rattle.rdf_graph.specs.Size.{saturated};
+ghost use Rattle.sparql_patch.specs.declared.named.Named.{Named as NamedTriple};
 ghost use Rattle.sparql_patch.specs.UpdateSpells.{is_insert};
 ghost use Rattle.sparql_patch.specs.Reading.{IsTermOrBlank, triple_from, IsNamingOrBlank};
-ghost use Rattle.sparql_patch.specs.Reading.{Makes, Adds, AreCollected};
+ghost use Rattle.sparql_patch.specs.Reading.{IsCounted, IsCollected};
 
 use crate::named::Named;
 use pod_base::{List, Mem, NoMemory};
-use rdf_graph::{Term, Triple};
+use rdf_graph::{TRIPLES_LIMIT, Term, Triple};
 use std::alloc::Global;
-use turtle_grammar::{Production, SymbolicTriple, Within};
-use turtle_reader::{Reader, Referent, ResolvedTriple};
+use turtle_grammar::{Start, Within};
+use turtle_reader::{Language, Referent, ResolvedTriple};
 
-/// The most bytes that the triples of an update count while it is read: past it the reader is out
-/// of memory. It is 8 times the limit of what an update names, so that a blank node in one that is
-/// too large is still told. A triple counts its encoded terms and [`TRIPLE_BYTES`].
-pub const KEPT_BYTES_LIMIT: u64 = 67_108_864;
-
-/// What a triple counts beside its terms. No update within `rdf_graph::TRIPLES_LIMIT` passes
-/// [`KEPT_BYTES_LIMIT`] by it.
-const TRIPLE_BYTES: u64 = 192;
-
-/// The triples that are named so far, and whether there was a blank node, in a triple that isn't
-/// listed then.
+/// What an update names so far. Past the limit on size nothing more is kept, and past a blank node
+/// nothing is known of the rest.
 #[derive(Drop)]
 pub(crate) struct Collected {
+    /// The triples that are named, as long as they keep the limit.
     pub(crate) named: List<Named>,
+    /// Their encoded size, repeats included, at most 2^64 - 1.
+    pub(crate) size: u64,
+    /// Whether there was a blank node, in a triple that isn't counted then.
     pub(crate) has_blank: bool,
-    /// How many bytes of triples it may still keep.
-    left: u64,
 }
 
 /// The term, unless it is a blank node.
@@ -86,74 +80,81 @@ fn naming_of(resolved: ResolvedTriple) -> Mem<Option<Named>>
     }
 }
 
-/// The naming of a production, unless it has a blank node.
-fn make_naming(alloc: Global, reader: &Reader, symbolic: &SymbolicTriple) -> Mem<Option<Named>>
-    ensures { IfOk result (Makes symbolic.now reader.now) }
+/// The sum of two sizes, at most 2^64 - 1.
+fn saturating_sum(first: u64, second: u64) -> u64
+    ensures { (m : ℕ) (n : ℕ) → first ≡ saturated m → second ≡ saturated n
+        → result ≡ saturated (m + n) }
 {
-    match reader.triple(alloc, symbolic) {
-        Ok(resolved) => naming_of(resolved),
-        Err(full) => Err(full),
+    first.saturating_add(second)
+}
+
+fn push(alloc: Global, named: &mut List<Named>, naming: Named) -> Mem<()>
+    ensures { OnOk result (named.new.items ≡ named.old.items ++ naming ∷ []) }
+{
+    match named.push(alloc, naming) {
+        Ok(()) => Ok(()),
+        Err(_) => Err(NoMemory),
     }
 }
 
 impl Collected {
     pub(crate) fn new(alloc: Global) -> Collected
-        ensures { AreCollected [] [] result }
+        ensures { IsCollected [] result }
     {
         Collected {
             named: List::new(alloc),
+            size: 0,
             has_blank: false,
-            left: KEPT_BYTES_LIMIT,
         }
     }
 
-    /// Appends a naming.
-    fn push(&mut self, alloc: Global, naming: Named) -> Mem<()>
-        ensures named { OnOk result (self.new.named.items ≡ self.old.named.items ++ naming ∷ []) }
-        ensures has_blank { self.new.has_blank ≡ self.old.has_blank }
+    /// Counts a naming, and appends it as long as all keep the limit.
+    fn add(&mut self, alloc: Global, naming: Named) -> Mem<()>
+        ensures counted { OnOk result ((all : ListOf NamedTriple) → IsCounted all self.old
+            → IsCounted (all ++ naming ∷ []) self.new) }
+        ensures has_blank { OnOk result (self.new.has_blank ≡ self.old.has_blank) }
     {
-        let bytes = naming.triple.encoded_size().saturating_add(TRIPLE_BYTES);
-        let Some(left) = self.left.checked_sub(bytes) else {
-            return Err(NoMemory);
-        };
-        self.left = left;
-        match self.named.push(alloc, naming) {
-            Ok(()) => Ok(()),
-            Err(_) => Err(NoMemory),
+        self.size = saturating_sum(self.size, naming.triple.encoded_size());
+        if self.size > TRIPLES_LIMIT {
+            return Ok(());
         }
-    }
-
-    /// Appends the naming of a production, or notes that it has a blank node.
-    fn add(&mut self, alloc: Global, reader: &Reader, production: &Production) -> Mem<()>
-        ensures { OnOk result (Adds reader.now (production.now ∷ []) self.old self.new) }
-    {
-        match production {
-            Production::Triple(symbolic) => match make_naming(alloc, reader, symbolic)? {
-                Some(naming) => self.push(alloc, naming),
-                None => {
-                    self.has_blank = true;
-                    Ok(())
-                }
-            },
-            Production::Prefix { .. } => Ok(()),
-            Production::Base { .. } => Ok(()),
-        }
-    }
-
-    /// Appends the namings of productions.
-    fn add_all(&mut self, alloc: Global, reader: &Reader, productions: &[Production]) -> Mem<()>
-        ensures { OnOk result (Adds reader.now productions.now self.old self.new) }
-    {
-        for production in productions {
-            self.add(alloc, reader, production)?;
-        }
+        push(alloc, &mut self.named, naming)?;
         Ok(())
     }
+}
 
-    /// Appends the namings that the last lexeme produced.
-    pub(crate) fn add_produced(&mut self, alloc: Global, reader: &Reader) -> Mem<()>
-        ensures { OnOk result (Adds reader.now (produced_last reader.now) self.old self.new) }
-    {
-        self.add_all(alloc, reader, reader.produced())
+impl Language for Collected {
+    ghost use Rattle.turtle_grammar.specs.declared.symbol.Start.TheVariants.{Update};
+    ghost use Rattle.turtle_reader.specs.FirstFaults.{NeverLarge};
+
+    ghost symbol = { Update };
+
+    ghost is_sound = { λ bytes collected. Unit {0} };
+
+    ghost is_kept = { λ bytes handed collected. IsCollected handed collected };
+
+    ghost is_large = { λ base bytes. NeverLarge };
+
+    fn start() -> Start {
+        Start::Update
+    }
+
+    fn keep(&mut self, alloc: Global, _bytes: &[u8], triple: ResolvedTriple) -> Mem<()> {
+        match naming_of(triple)? {
+            Some(naming) => self.add(alloc, naming),
+            None => {
+                self.has_blank = true;
+                Ok(())
+            }
+        }
+    }
+
+    fn judge(
+        &mut self,
+        _alloc: Global,
+        _bytes: &[u8],
+        _waiting: Option<ResolvedTriple>,
+    ) -> Mem<bool> {
+        Ok(false)
     }
 }

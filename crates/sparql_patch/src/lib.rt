@@ -14,28 +14,24 @@
 //! triples, no bracket is too deep and they keep the limit, they are returned, or out of memory
 //! (`only`).
 //!
-//! An update whose triples count more than [`KEPT_BYTES_LIMIT`] is answered out of memory.
+//! Past the limit on size [`read`] keeps nothing more, and only goes on checking.
 //!
 //! Proved of [`spelled`]: the patch that an update spells at a graph has no conditions; it deletes
 //! the triples of the graph whose last naming is with DELETE, and inserts those whose last naming
 //! is with INSERT (clause `spelled`, `IsSpelledAt` of `specs/NamedUpdate.antt`). Deletions that
 //! aren't in the graph are passed over. [`laws`] has what follows from the definitions.
 //!
-//! It depends on `turtle_reader` for what the lexemes of an update mean, and on `rdf_graph` for
-//! triples and patches.
+//! It depends on `turtle_reader`, which reads the lexemes of an update and hands out its triples,
+//! and on `rdf_graph` for triples and patches.
 #![tactic(auto)]
 
 mod collected;
-mod document;
 mod fault;
 pub mod laws;
-mod lexing;
 mod named;
 mod reading;
-mod size;
 mod spelling;
 
-pub use collected::KEPT_BYTES_LIMIT;
 pub use fault::SparqlFault;
 pub use named::Named;
 pub use reading::read;

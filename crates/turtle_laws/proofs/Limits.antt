@@ -7,10 +7,7 @@ use Rattle.rdf_graph.specs.Graph.{IsGraph, graph_text}
 use Rattle.rdf_graph.specs.Size.{triple_size, triples_size}
 use Rattle.rdf_graph.specs.declared.size.TheConstants.{TRIPLES_LIMIT}
 use Rattle.rdf_graph.specs.declared.triple.Triple.{Triple as RdfTriple}
-use Rattle.turtle_lex.specs.declared.token.Token.{Token as LexToken}
-use Rattle.turtle_lex.specs.declared.token.TokenKind.{TokenKind}
 use Rattle.turtle_lex.specs.declared.token.TokenKind.TheVariants as Kind
-use Rattle.turtle_lex.specs.Tokens.{AreTokensTo, is_string, kind_after}
 use Rattle.turtle_grammar.specs.declared.fault.TheConstants.{DEPTH_LIMIT}
 use Rattle.turtle_grammar.specs.declared.production.Production.{Production}
 use Rattle.turtle_grammar.specs.declared.symbol.Symbol.{Symbol}
@@ -21,25 +18,31 @@ use Rattle.turtle_grammar.specs.Productions.{document_end, start_point}
 use Rattle.turtle_grammar.specs.TreeSymbols.{document_symbols}
 use Rattle.turtle_grammar.proofs.OneProduced.{one_produced}
 use Rattle.turtle_terms.specs.declared.fault.TurtleKind.TheVariants as Why
+use Rattle.turtle_terms.specs.declared.fault.TurtleFault.{TurtleFault}
 use Rattle.turtle_terms.specs.declared.fault.TurtleFault.TheVariants.{Bad, TooLarge}
 use Rattle.turtle_reader.specs.declared.context.Context.{Context}
 use Rattle.turtle_reader.specs.declared.lexeme.Lexeme.{Lexeme}
 use Rattle.turtle_reader.specs.declared.meaning.Meaning.{Meaning}
 use Rattle.turtle_reader.specs.Contexts.{at_start, context_after}
-use Rattle.turtle_reader.specs.FirstTokens.{Answer, AreFirst}
-use Rattle.turtle_reader.specs.Lexemes.{lexeme_of, lexemes_of, symbols_of}
+use Rattle.turtle_reader.specs.declared.referent.ResolvedTriple.{ResolvedTriple}
+use Rattle.turtle_reader.specs.Faults.{Next}
+use Rattle.turtle_reader.specs.FirstFaults.{IsFaultAt}
+use Rattle.turtle_reader.specs.Handed.{AreResolved}
+use Rattle.turtle_reader.specs.Lexemes.{symbols_of}
 use Rattle.turtle_reader.specs.Meanings.{AreMeanings}
-use Rattle.turtle_reader.proofs.Firsts.{first_shorter, firsts_agree, lexemes_more, ended}
+use Rattle.turtle_reader.specs.Texts.{AreLexemesTo, AreFirst, AreComplete, AreCompleteWhere, adds, adds_to_string, is_string_symbol}
+use Rattle.turtle_reader.proofs.Firsts.{first_shorter, firsts_agree, ended}
+use Rattle.turtle_reader.proofs.Handing.{handed_still, made_first}
 use Rattle.turtle_reader.proofs.Sequences.{meanings_agree}
-use Rattle.turtle_text.specs.Faults.{adds, adds_to_string, AreCompleteWhere, HasSize, IsFaultAt, IsWithinLimits}
-use Rattle.turtle_text.specs.Triples.{AreTriplesOf}
-use Rattle.turtle_text.proofs.Sums.{one_triples, triples_first, triples_still}
+use Rattle.turtle_text.specs.Faults.{HasSize, IsLarge, IsWithinLimits}
+use Rattle.turtle_text.specs.Triples.{IsTripleOf, AreTriplesOf}
+use Rattle.turtle_text.proofs.Spelling.{one_triples, triples_are}
 use Rattle.turtle_laws.specs.Laws.{WrittenGraphsAreRead}
 use Rattle.turtle_laws.specs.ReadBack.{GraphHasTexts, GraphIsReadBack}
 use Rattle.turtle_laws.proofs.Cuts.{Adds, IsFirst, cut_graph}
 use Rattle.turtle_laws.proofs.Graphs.{graph_pieces}
 use Rattle.turtle_laws.proofs.Meanings.{meanings_of, graph_meant}
-use Rattle.turtle_laws.proofs.Spelled.{graph_tokens, are_tokens, are_meanings, are_triples, written_graphs_spell}
+use Rattle.turtle_laws.proofs.Spelled.{graph_lexemes, are_lexemes, are_meanings, are_triples, written_graphs_spell}
 use Rattle.turtle_laws.proofs.Trees.{document_of, symbols_are, document_same, ArePlain, are_plain, plain_first, no_depth}
 
 -- ---- sizes
@@ -72,53 +75,44 @@ first_meanings bytes c (x ∷ xs) ys (n ∷ all) (m ∷ ms) (one, more) (other, 
     let f = first_meanings bytes (context_after c x n) xs ys all ms more moved in
     record { more = f.more; is = ap (λ (z : List Meaning). n ∷ z) f.is ∙ ap (λ (z : Meaning). z ∷ (ms ++ f.more)) (sym same) }
 
--- with more meanings the triples stay
-triples_stay : (bytes : List ℕ) (ms more : List Meaning) (ps : List Production) (ts : List RdfTriple) → AreTriplesOf bytes ms ps ts
-    → AreTriplesOf bytes (ms ++ more) ps ts
-triples_stay bytes ms [] ps ts h = subst (λ (z : List Meaning). AreTriplesOf bytes z ps ts) (sym (append-nil ms)) h
-triples_stay bytes ms (m ∷ more) ps ts h = subst (λ (z : List Meaning). AreTriplesOf bytes z ps ts) (append_assoc ms (m ∷ []) more)
-    (triples_stay bytes (ms ++ m ∷ []) more ps ts (triples_still bytes ms m ps ts h))
+-- with more meanings nodes refer to the same
+resolved_stay : (ms more : List Meaning) (ps : List Production) (rs : List ResolvedTriple) → AreResolved ms ps rs → AreResolved (ms ++ more) ps rs
+resolved_stay ms [] ps rs h = subst (λ (z : List Meaning). AreResolved z ps rs) (sym (append-nil ms)) h
+resolved_stay ms (m ∷ more) ps rs h =
+    subst (λ (z : List Meaning). AreResolved z ps rs) (append_assoc ms (m ∷ []) more) (resolved_stay (ms ++ m ∷ []) more ps rs (handed_still ms m ps rs h))
 
 -- ---- a last String
 
-same_string : (a : Bool) (k : TokenKind) → is_string (kind_after a k) ≡ is_string k
-same_string true Kind.AtPrefix = refl
-same_string true Kind.AtBase = refl
-same_string true k = refl
-same_string false k = refl
-
-head_symbol : (k j : TokenKind) (xs ys : List Symbol) → Token k ∷ xs ≡ Token j ∷ ys → k ≡ j
-head_symbol k j xs ys e = cc
+head_symbol : (x y : Symbol) (xs ys : List Symbol) → x ∷ xs ≡ y ∷ ys → x ≡ y
+head_symbol x y xs ys e = cc
 
 tail_symbols : (x y : Symbol) (xs ys : List Symbol) → x ∷ xs ≡ y ∷ ys → xs ≡ ys
 tail_symbols x y xs ys e = cc
 
-last_string : (bytes : List ℕ) (xs : List LexToken) (from : ℕ) (s : Bool) (end : ℕ) (string : Bool) → AreTokensTo bytes from s xs end string
-    → (front : List Symbol) → symbols_of (lexemes_of xs) ≡ front ++ Token Kind.Quoted ∷ [] → string ≡ true
+last_string : (bytes : List ℕ) (xs : List Lexeme) (from : ℕ) (s : Bool) (end : ℕ) (string : Bool) → AreLexemesTo Document bytes from s xs end string
+    → (front : List Symbol) → symbols_of xs ≡ front ++ Token Kind.Quoted ∷ [] → string ≡ true
 last_string bytes [] from s end string h [] e = absurd (omega (arith, ap length e))
 last_string bytes [] from s end string h (f ∷ front) e = absurd (omega (arith, ap length e))
-last_string bytes (x ∷ []) from s end string (next, is_next, listed, (at, is)) [] e =
-    let kind : x.kind ≡ Kind.Quoted = head_symbol x.kind Kind.Quoted [] [] e in
-    sym is ∙ sym (same_string s next.kind) ∙ ap (λ (z : LexToken). is_string z.kind) (sym listed) ∙ ap is_string kind
+last_string bytes (x ∷ []) from s end string (lexed, (at, is)) [] e = sym is ∙ ap is_string_symbol (head_symbol x.symbol (Token Kind.Quoted) [] [] e)
 last_string bytes (x ∷ []) from s end string h (f ∷ front) e = absurd (omega (arith, ap length e, length-append front (Token Kind.Quoted ∷ [])))
 last_string bytes (x ∷ y ∷ ys) from s end string h [] e = absurd (omega (arith, ap length e))
-last_string bytes (x ∷ y ∷ ys) from s end string (next, is_next, listed, rest) (f ∷ front) e =
-    last_string bytes (y ∷ ys) next.to (is_string next.kind) end string rest front
-    (tail_symbols (Token x.kind) f (symbols_of (lexemes_of (y ∷ ys))) (front ++ Token Kind.Quoted ∷ []) e)
+last_string bytes (x ∷ y ∷ ys) from s end string (lexed, rest) (f ∷ front) e =
+    last_string bytes (y ∷ ys) x.to (is_string_symbol x.symbol) end string rest front
+    (tail_symbols x.symbol f (symbols_of (y ∷ ys)) (front ++ Token Kind.Quoted ∷ []) e)
 
-adds_kind : (k : TokenKind) (xs : List Symbol) → Adds (Token k ∷ xs) → adds k ≡ true
-adds_kind Kind.LangTag xs h = refl
-adds_kind Kind.Carets xs h = refl
-adds_kind _ xs h = absurd h
+adds_symbol : (x : Symbol) (xs : List Symbol) → Adds (x ∷ xs) → adds x ≡ true
+adds_symbol (Token Kind.LangTag) xs h = refl
+adds_symbol (Token Kind.Carets) xs h = refl
+adds_symbol _ xs h = absurd h
 
--- what follows some tokens of a whole list
-abbrev next_of : List LexToken → Answer
+-- what follows some lexemes of a whole list
+abbrev next_of : List Lexeme → Next
 next_of [] = Ok None
-next_of (t ∷ ts) = Ok (Some t)
+next_of (l ∷ ls) = Ok (Some l)
 
-next_adds : (rest : List LexToken) → Adds (symbols_of (lexemes_of rest)) → adds_to_string (next_of rest) ≡ true
+next_adds : (rest : List Lexeme) → Adds (symbols_of rest) → adds_to_string (next_of rest) ≡ true
 next_adds [] h = absurd h
-next_adds (t ∷ ts) h = adds_kind t.kind (symbols_of (lexemes_of ts)) h
+next_adds (l ∷ ls) h = adds_symbol l.symbol (symbols_of ls) h
 
 -- ---- complete productions are the first of all
 
@@ -157,86 +151,84 @@ module _ (base : List ℕ) (graph : List RdfTriple) (is_graph : IsGraph graph) (
   abbrev all : List Production
   all = (document_end (document_of graph) start_point).produced
 
-  last : AreFirst (graph_text graph) (graph_tokens graph) (Ok None)
-  last =
-      let (end, string, tokens, answer) = are_tokens base graph texts read_back in
-      record { to = end; string = string; answer = Ok None; tokens_are = tokens; answers = answer; next_is = refl }
+  last : AreFirst Document (graph_text graph) (graph_lexemes graph) (Ok None)
+  last = are_lexemes base graph texts read_back
 
-  same_symbols : symbols_of (lexemes_of (graph_tokens graph)) ≡ document_symbols (document_of graph) []
+  same_symbols : symbols_of (graph_lexemes graph) ≡ document_symbols (document_of graph) []
   same_symbols = symbols_are 0 (graph_pieces [] graph) ∙ sym (document_same [] graph is_graph.rdf)
 
   plain : ArePlain (document_symbols (document_of graph) [])
   plain = subst ArePlain (sym (document_same [] graph is_graph.rdf)) (are_plain base (graph_pieces [] graph) (graph_meant base [] graph texts read_back))
 
-  -- The tokens are the first of all, and this follows them.
-  record IsFollowed (xs : List LexToken) (next : Answer) : Type 0 where
-    rest : List LexToken
-    is : graph_tokens graph ≡ xs ++ rest
+  abbrev IsFault : List Lexeme → Next → TurtleFault → Type 0
+  IsFault before next fault = IsFaultAt (IsLarge base (graph_text graph)) Document base (graph_text graph) before next fault
+
+  -- The lexemes are the first of all, and this follows them.
+  record IsFollowed (xs : List Lexeme) (next : Next) : Type 0 where
+    rest : List Lexeme
+    is : graph_lexemes graph ≡ xs ++ rest
     next_is : next ≡ next_of rest
 
-  followed : (xs : List LexToken) (next : Answer) → AreFirst (graph_text graph) xs next → IsFollowed xs next
-  followed xs next first = elim (cases_lt (length xs) (length (graph_tokens graph))) [
+  followed : (xs : List Lexeme) (next : Next) → AreFirst Document (graph_text graph) xs next → IsFollowed xs next
+  followed xs next first = elim (cases_lt (length xs) (length (graph_lexemes graph))) [
     | inl lt ↦
-        let (t, rest, answer, split) = first_shorter (graph_text graph) xs (graph_tokens graph) next (Ok None) first last lt in
-        record { rest = t ∷ rest; is = split; next_is = answer }
-    | inr le ↦ elim (cases_lt (length (graph_tokens graph)) (length xs)) [
+        let (l, rest, answer, split) = first_shorter Document (graph_text graph) xs (graph_lexemes graph) next (Ok None) first last lt in
+        record { rest = l ∷ rest; is = split; next_is = answer }
+    | inr le ↦ elim (cases_lt (length (graph_lexemes graph)) (length xs)) [
       | inl more ↦
-          let (t, rest, answer, split) = first_shorter (graph_text graph) (graph_tokens graph) xs (Ok None) next last first more in
-          absurd (ended t (Ok None) refl answer)
+          let (l, rest, answer, split) = first_shorter Document (graph_text graph) (graph_lexemes graph) xs (Ok None) next last first more in
+          absurd (ended l (Ok None) refl answer)
       | inr ge ↦
-          let same : length xs ≡ length (graph_tokens graph) = omega (arith, le, ge) in
-          let agree = firsts_agree (graph_text graph) xs (graph_tokens graph) next (Ok None) first last same in
+          let same : length xs ≡ length (graph_lexemes graph) = omega (arith, le, ge) in
+          let agree = firsts_agree Document (graph_text graph) xs (graph_lexemes graph) next (Ok None) first last same in
           record { rest = []; is = sym agree.0 ∙ sym (append-nil xs); next_is = agree.1 }
     ]
   ]
 
-  symbols_split : (xs rest : List LexToken) → graph_tokens graph ≡ xs ++ rest
-      → symbols_of (lexemes_of xs) ++ symbols_of (lexemes_of rest) ≡ document_symbols (document_of graph) []
-  symbols_split xs rest is =
-      sym (map-append (λ (l : Lexeme). l.symbol) (lexemes_of xs) (lexemes_of rest))
-      ∙ ap symbols_of (sym (lexemes_more xs rest) ∙ ap lexemes_of (sym is)) ∙ same_symbols
+  symbols_split : (xs rest : List Lexeme) → graph_lexemes graph ≡ xs ++ rest
+      → symbols_of xs ++ symbols_of rest ≡ document_symbols (document_of graph) []
+  symbols_split xs rest is = sym (map-append (λ (l : Lexeme). l.symbol) xs rest) ∙ ap symbols_of (sym is) ∙ same_symbols
 
-  -- the first tokens open no bracket
-  shallow : (xs : List LexToken) (t : LexToken) (rest : List LexToken) → graph_tokens graph ≡ xs ++ t ∷ rest
-      → depth_from 0 (symbols_of (lexemes_of xs ++ lexeme_of t ∷ [])) ≡ 0
-  shallow xs t rest is =
-      let one : List LexToken = xs ++ t ∷ [] in
-      let split = symbols_split one rest (is ∙ sym (append_assoc xs (t ∷ []) rest)) in
-      let parts : ArePlain (symbols_of (lexemes_of one) ++ symbols_of (lexemes_of rest)) = subst ArePlain (sym split) plain in
-      ap (λ (z : List Lexeme). depth_from 0 (symbols_of z)) (sym (lexemes_more xs (t ∷ [])))
-      ∙ no_depth (symbols_of (lexemes_of one)) (plain_first (symbols_of (lexemes_of one)) (symbols_of (lexemes_of rest)) parts)
+  -- the first lexemes open no bracket
+  shallow : (xs : List Lexeme) (l : Lexeme) (rest : List Lexeme) → graph_lexemes graph ≡ xs ++ l ∷ rest
+      → depth_from 0 (symbols_of (xs ++ l ∷ [])) ≡ 0
+  shallow xs l rest is =
+      let one : List Symbol = symbols_of (xs ++ l ∷ []) in
+      let split = symbols_split (xs ++ l ∷ []) rest (is ∙ sym (append_assoc xs (l ∷ []) rest)) in
+      no_depth one (plain_first one (symbols_of rest) (subst ArePlain (sym split) plain))
 
-  not_deep_by : (xs rest : List LexToken) (at : ℕ) → graph_tokens graph ≡ xs ++ rest → IsFaultAt base (graph_text graph) xs (next_of rest) (Bad at Why.Depth) → ⊥
+  not_deep_by : (xs rest : List Lexeme) (at : ℕ) → graph_lexemes graph ≡ xs ++ rest → IsFault xs (next_of rest) (Bad at Why.Depth) → ⊥
   not_deep_by xs [] at is h = h
-  not_deep_by xs (t ∷ rest) at is h = no_less DEPTH_LIMIT (depth_from 0 (symbols_of (lexemes_of xs ++ lexeme_of t ∷ []))) (shallow xs t rest is) h.1
+  not_deep_by xs (l ∷ rest) at is h = no_less DEPTH_LIMIT (depth_from 0 (symbols_of (xs ++ l ∷ []))) (shallow xs l rest is) h.1
 
-  -- the productions that are complete with the first tokens are the first of all
-  complete_first : (xs : List LexToken) (size : ℕ) (h : HasSize base (graph_text graph) xs size) → IsFollowed xs h.next → IsFirst all h.complete
-  complete_first xs size h f =
-      let symbols : List Symbol = symbols_of (lexemes_of xs) in
-      let cut = cut_graph graph plain symbols (symbols_of (lexemes_of f.rest)) (symbols_split xs f.rest f.is) in
-      let same : h.productions ≡ cut.productions = one_produced Document symbols h.productions cut.productions h.produces cut.produces in
-      let completes : AreCompleteWhere h.follows.string (adds_to_string h.next) cut.productions h.complete =
-      subst (λ (z : List Production). AreCompleteWhere h.follows.string (adds_to_string h.next) z h.complete) same h.completes in
-      elim cut.fits [
-        | inl whole ↦ complete_of_first h.follows.string (adds_to_string h.next) all cut.productions h.complete completes whole
-        | inr own ↦
-            let string = last_string (graph_text graph) xs 0 false h.follows.to h.follows.string h.follows.tokens_are own.front own.ends in
-            let more : adds_to_string h.next ≡ true = ap adds_to_string f.next_is ∙ next_adds f.rest own.adds in
-            complete_of_own h.follows.string (adds_to_string h.next) all cut.productions own.before h.complete own.own string more completes own.is own.first
-      ]
+  module _ (xs : List Lexeme) (resolved : List ResolvedTriple) (h : AreComplete Document base (graph_text graph) xs resolved) where
+    follows : IsFollowed xs h.next
+    follows = followed xs h.next h.follows
 
-  -- so their triples are the first of the graph
-  first_triples : (xs : List LexToken) (size : ℕ) (h : HasSize base (graph_text graph) xs size) → IsFollowed xs h.next
-      → AreTriplesOf (graph_text graph) (meanings_of (graph_pieces [] graph)) h.complete h.triples
-  first_triples xs size h f =
-      let ms : List Meaning = meanings_of (graph_pieces [] graph) in
-      let lexemes : lexemes_of (graph_tokens graph) ≡ lexemes_of xs ++ lexemes_of f.rest = ap lexemes_of f.is ∙ lexemes_more xs f.rest in
-      let means : AreMeanings (graph_text graph) (at_start base) (lexemes_of xs ++ lexemes_of f.rest) ms =
-      subst (λ (z : List Lexeme). AreMeanings (graph_text graph) (at_start base) z ms) lexemes (are_meanings base graph texts read_back) in
-      let meanings = first_meanings (graph_text graph) (at_start base) (lexemes_of xs) (lexemes_of f.rest) ms h.meanings means h.means in
-      subst (λ (z : List Meaning). AreTriplesOf (graph_text graph) z h.complete h.triples) (sym meanings.is)
-      (triples_stay (graph_text graph) h.meanings meanings.more h.complete h.triples h.are_triples)
+    -- the productions that are complete with the first lexemes are the first of all
+    complete_first : IsFirst all h.complete
+    complete_first =
+        let symbols : List Symbol = symbols_of xs in
+        let cut = cut_graph graph plain symbols (symbols_of follows.rest) (symbols_split xs follows.rest follows.is) in
+        let same : h.productions ≡ cut.productions = one_produced Document symbols h.productions cut.productions h.produces cut.produces in
+        let completes : AreCompleteWhere h.follows.string (adds_to_string h.next) cut.productions h.complete =
+        subst (λ (z : List Production). AreCompleteWhere h.follows.string (adds_to_string h.next) z h.complete) same h.completes in
+        elim cut.fits [
+          | inl whole ↦ complete_of_first h.follows.string (adds_to_string h.next) all cut.productions h.complete completes whole
+          | inr own ↦
+              let string = last_string (graph_text graph) xs 0 false h.follows.to h.follows.string h.follows.lexemes_are own.front own.ends in
+              let more : adds_to_string h.next ≡ true = ap adds_to_string follows.next_is ∙ next_adds follows.rest own.adds in
+              complete_of_own h.follows.string (adds_to_string h.next) all cut.productions own.before h.complete own.own string more completes own.is own.first
+        ]
+
+    -- so their triples are the first of the graph
+    first_resolved : AreResolved (meanings_of (graph_pieces [] graph)) h.complete resolved
+    first_resolved =
+        let ms : List Meaning = meanings_of (graph_pieces [] graph) in
+        let means : AreMeanings (graph_text graph) (at_start base) (xs ++ follows.rest) ms =
+        subst (λ (z : List Lexeme). AreMeanings (graph_text graph) (at_start base) z ms) follows.is (are_meanings base graph texts read_back) in
+        let meanings = first_meanings (graph_text graph) (at_start base) xs follows.rest ms h.meanings means h.means in
+        subst (λ (z : List Meaning). AreResolved z h.complete resolved) (sym meanings.is) (resolved_stay h.meanings meanings.more h.complete resolved h.resolved)
 
   size_of_first : (ps : List Production) (found : List RdfTriple) → IsFirst all ps → AreTriplesOf (graph_text graph) (meanings_of (graph_pieces [] graph)) ps found
       → triples_size found ≤ triples_size graph
@@ -244,21 +236,22 @@ module _ (base : List ℕ) (graph : List RdfTriple) (is_graph : IsGraph graph) (
       let ms : List Meaning = meanings_of (graph_pieces [] graph) in
       let whole : AreTriplesOf (graph_text graph) ms (ps ++ first.more) graph =
       subst (λ (z : List Production). AreTriplesOf (graph_text graph) ms z graph) (sym first.is) (are_triples graph is_graph) in
-      let (a, b, split, has) = triples_first (graph_text graph) ms ps first.more graph whole in
+      let (a, b, split, has) = made_first (IsTripleOf (graph_text graph) ms) ps first.more graph whole in
       let sizes : triples_size graph ≡ triples_size a + triples_size b = ap triples_size split ∙ size_both a b in
       let same : triples_size found ≡ triples_size a = ap triples_size (one_triples (graph_text graph) ms ps found a h has) in
       omega (arith, sizes, same)
 
-  size_within : (xs : List LexToken) (size : ℕ) → HasSize base (graph_text graph) xs size → size ≤ triples_size graph
+  size_within : (xs : List Lexeme) (size : ℕ) → HasSize base (graph_text graph) xs size → size ≤ triples_size graph
   size_within xs size h =
-      let f = followed xs h.next h.follows in
-      let within = size_of_first h.complete h.triples (complete_first xs size h f) (first_triples xs size h f) in
+      let ps : List Production = h.complete.complete in
+      let are = triples_are (graph_text graph) (meanings_of (graph_pieces [] graph)) ps h.resolved h.triples (first_resolved xs h.resolved h.complete) h.are_triples in
+      let within = size_of_first ps h.triples (complete_first xs h.resolved h.complete) are in
       omega (arith, h.size_is, within)
 
   module _ (small : triples_size graph ≤ TRIPLES_LIMIT) where
-    not_large : (xs : List LexToken) (next : Answer) (at : ℕ) → IsFaultAt base (graph_text graph) xs next (TooLarge at) → ⊥
-    not_large xs (Ok (Some t)) at (here, size, has, large) =
-        low_high TRIPLES_LIMIT size (triples_size graph) (size_within (xs ++ t ∷ []) size has) small large
+    not_large : (xs : List Lexeme) (next : Next) (at : ℕ) → IsFault xs next (TooLarge at) → ⊥
+    not_large xs (Ok (Some l)) at (here, (size, has, large)) =
+        low_high TRIPLES_LIMIT size (triples_size graph) (size_within (xs ++ l ∷ []) size has) small large
     not_large xs (Ok None) at h = h
     not_large xs (Err f) at h = h
 
@@ -266,7 +259,7 @@ module _ (base : List ℕ) (graph : List RdfTriple) (is_graph : IsGraph graph) (
     within_limits index at = (
       λ (xs, next, first, size, is).
           let f = followed xs next first in
-          not_deep_by xs f.rest at f.is (subst (λ (z : Answer). IsFaultAt base (graph_text graph) xs z (Bad at Why.Depth)) f.next_is is),
+          not_deep_by xs f.rest at f.is (subst (λ (z : Next). IsFault xs z (Bad at Why.Depth)) f.next_is is),
       λ (xs, next, first, size, is). not_large xs next at is,
     )
 

@@ -21,17 +21,19 @@ use Rattle.turtle_lex.specs.Tokens.{IsTokenOf, MatchesKind}
 use Rattle.turtle_lex.specs.declared.token.Token.{Token as LexToken}
 use Rattle.turtle_lex.specs.declared.token.TokenKind.{TokenKind}
 use Rattle.turtle_lex.specs.declared.token.TokenKind.TheVariants as Kind
-use Rattle.turtle_reader.specs.Contexts.{context_after}
+use Rattle.turtle_reader.specs.Contexts.{at_start, context_after}
 use Rattle.turtle_reader.specs.Lexemes.{lexeme_of, lexemes_of}
 use Rattle.turtle_reader.specs.Meanings.{special_meaning, term_meaning, IsPlainMeaning, IsTokenMeaning, AreMeanings}
 use Rattle.turtle_reader.specs.Referents.{referent, term_referent, tagged, typed}
 use Rattle.turtle_reader.specs.declared.context.Context.{Context}
 use Rattle.turtle_reader.specs.declared.context.Directive.{Directive}
 use Rattle.turtle_reader.specs.declared.context.Directive.TheVariants as directive_of
+use Rattle.turtle_reader.specs.declared.lexeme.Lexeme.{Lexeme}
 use Rattle.turtle_reader.specs.declared.meaning.Meaning.{Meaning}
 use Rattle.turtle_reader.specs.declared.meaning.Meaning.TheVariants as meaning_of
 use Rattle.turtle_reader.specs.declared.referent.Referent.{Referent}
 use Rattle.turtle_reader.specs.declared.referent.Referent.TheVariants as referent_of
+use Rattle.turtle_reader.proofs.AsTokens.{lexemes_are_tokens}
 use Rattle.turtle_terms.specs.Meaning.{IsTermMeaning as IsTermOfKind, IsIriTerm, IsIriMeaning, datatype_of}
 use Rattle.turtle_terms.specs.Prefixes.{Prefixes}
 use Rattle.turtle_terms.specs.declared.fault.TurtleFault.{TurtleFault}
@@ -189,6 +191,7 @@ triples_kept bytes ms (Triple symbolic ∷ ps) ts h (first, rest, e, is, more) t
 pub spelled_graphs_are_read_back : SpelledGraphsAreReadBack
 spelled_graphs_are_read_back base bytes graph h =
     let s = h.spells in
-    let (end, string, tokens, answer) = s.are_tokens in
-    let kept = meanings_kept bytes _ s.tokens s.meanings (tokens_of bytes s.tokens 0 false end string tokens) s.means in
+    let (ts, same, (end, string, tokens, answer)) = lexemes_are_tokens bytes s.text.lexemes s.text.are_lexemes in
+    let means : AreMeanings bytes (at_start base) (lexemes_of ts) s.meanings = subst (λ (ls : List Lexeme). AreMeanings bytes (at_start base) ls s.meanings) same s.text.means in
+    let kept = meanings_kept bytes (at_start base) ts s.meanings (tokens_of bytes ts 0 false end string tokens) means in
     All-from_members TripleIsReadBack graph (λ t at. triples_kept bytes s.meanings s.productions h.triples kept s.are_triples t ((h.same t).0 at))

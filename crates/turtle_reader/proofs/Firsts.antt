@@ -1,111 +1,99 @@
--- The first tokens of some bytes: of two lists of them one is a prefix of the other. And what comes
--- after them.
-use Rattle.std.proofs.Common.{◌≡◌, ℕ, ◌<◌, Bool, false, List, [], ◌∷◌, ◌++◌, length, Some, None, Ok, Err}
-use Rattle.std.proofs.Common.{refl, sym, ap, ◌∙◌, subst, arith}
+-- The first lexemes of some bytes: of two lists of them one is a prefix of the other.
+use Rattle.std.proofs.Common.{◌≡◌, ℕ, ◌<◌, Bool, false, List, [], ◌∷◌, ◌++◌, length, Some, None, Ok}
+use Rattle.std.proofs.Common.{inl, inr, refl, sym, ap, ◌∙◌, subst, arith}
+use Rattle.std.proofs.lemmas.Bool.{cases_lt}
 use Rattle.std.proofs.lemmas.List.{map-append}
 use Rattle.turtle_lex.specs.declared.token.Token.{Token}
-use Rattle.turtle_lex.specs.declared.token.LexFault.{LexFault}
-use Rattle.turtle_lex.specs.Tokens.{IsNext, IsAnswer, AreTokensTo, is_string, listed_token}
-use Rattle.turtle_lex.proofs.NextLemmas.{one_answer}
-use Rattle.turtle_reader.specs.FirstTokens.{Answer, AreFirst, IsListedAnswer, listed_answer}
+use Rattle.turtle_grammar.specs.declared.symbol.Start.{Start}
+use Rattle.turtle_reader.specs.declared.lexeme.Lexeme.{Lexeme}
+use Rattle.turtle_reader.specs.Faults.{Next}
 use Rattle.turtle_reader.specs.Lexemes.{lexeme_of, lexemes_of}
+use Rattle.turtle_reader.specs.Texts.{IsLexed, is_string_symbol, AreLexemesTo, AreFirst}
+use Rattle.turtle_reader.proofs.OneLexeme.{one_lexed}
 
-abbrev found : Token → Answer
-found t = Ok (Some t)
+abbrev found : Lexeme → Next
+found l = Ok (Some l)
 
-same_token : (a b : Token) (r s : Answer) → r ≡ found a → s ≡ found b → r ≡ s → a ≡ b
-same_token a b r s e f h = cc
+same_lexeme : (a b : Lexeme) (r s : Next) → r ≡ found a → s ≡ found b → r ≡ s → a ≡ b
+same_lexeme a b r s e f h = cc
 
-module _ (bytes : List ℕ) where
-  -- the tokens of two walks from one position on
-  abbrev Walk : ℕ → Bool → List Token → ℕ → Bool → Answer → Type 0
-  Walk from string tokens to last answer = AreTokensTo bytes from string tokens to last × IsAnswer bytes to answer
-
-  next_agrees : (from : ℕ) (a b : Token) → IsNext bytes from a → IsNext bytes from b → a ≡ b
-  next_agrees from a b h k = same_token a b (Ok (Some a)) (Ok (Some b)) refl refl (one_answer bytes from (Ok (Some a)) (Ok (Some b)) h k)
-
-  walks_agree : (xs ys : List Token) (from : ℕ) (s : Bool) (e f : ℕ) (u v : Bool) (a b : Answer)
-      → Walk from s xs e u a → Walk from s ys f v b → length xs ≡ length ys
-      → (xs ≡ ys) × (listed_answer u a ≡ listed_answer v b) × (u ≡ v)
-  walks_agree [] [] from s e f u v a b ((at, string), h) ((at', string'), k) same =
-      let here : IsAnswer bytes from a = subst (λ (n : ℕ). IsAnswer bytes n a) (sym at) h in
-      let there : IsAnswer bytes from b = subst (λ (n : ℕ). IsAnswer bytes n b) (sym at') k in
-      let answers : a ≡ b = one_answer bytes from a b here there in
-      let strings : u ≡ v = sym string ∙ string' in
-      (refl, ap (listed_answer u) answers ∙ ap (λ (z : Bool). listed_answer z b) strings, strings)
-  walks_agree [] (y ∷ ys) from s e f u v a b h k same = absurd (omega (arith, same))
-  walks_agree (x ∷ xs) [] from s e f u v a b h k same = absurd (omega (arith, same))
-  walks_agree (x ∷ xs) (y ∷ ys) from s e f u v a b ((n, is_next, listed, rest), h) ((m, is_next', listed', rest'), k) same =
-      let one : m ≡ n = next_agrees from m n is_next' is_next in
-      let moved : AreTokensTo bytes n.to (is_string n.kind) ys f v = subst (λ (t : Token). AreTokensTo bytes t.to (is_string t.kind) ys f v) one rest' in
-      let more = walks_agree xs ys n.to (is_string n.kind) e f u v a b (rest, h) (moved, k) (omega (arith, same)) in
-      let head : x ≡ y = listed ∙ ap (listed_token s) (sym one) ∙ sym listed' in
-      (ap (λ (t : Token). t ∷ xs) head ∙ ap (λ (ts : List Token). y ∷ ts) more.0, more.1, more.2)
-
-  walk_shorter : (xs ys : List Token) (from : ℕ) (s : Bool) (e f : ℕ) (u v : Bool) (a b : Answer)
-      → Walk from s xs e u a → Walk from s ys f v b → length xs < length ys
-      → (t : Token) × (rest : List Token) × (listed_answer u a ≡ Ok (Some t)) × (ys ≡ xs ++ t ∷ rest)
-  walk_shorter [] [] from s e f u v a b h k lt = absurd (omega (arith, lt))
-  walk_shorter [] (y ∷ ys) from s e f u v a b ((at, string), h) ((m, is_next, listed, rest), k) lt =
-      let here : IsAnswer bytes from a = subst (λ (n : ℕ). IsAnswer bytes n a) (sym at) h in
-      let answers : a ≡ Ok (Some m) = one_answer bytes from a (Ok (Some m)) here is_next in
-      (y, ys, ap (listed_answer u) answers ∙ ap (λ (z : Bool). found (listed_token z m)) (sym string) ∙ ap found (sym listed), refl)
-  walk_shorter (x ∷ xs) [] from s e f u v a b h k lt = absurd (omega (arith, lt))
-  walk_shorter (x ∷ xs) (y ∷ ys) from s e f u v a b ((n, is_next, listed, rest), h) ((m, is_next', listed', rest'), k) lt =
-      let one : m ≡ n = next_agrees from m n is_next' is_next in
-      let moved : AreTokensTo bytes n.to (is_string n.kind) ys f v = subst (λ (t : Token). AreTokensTo bytes t.to (is_string t.kind) ys f v) one rest' in
-      let (t, more, is, split) = walk_shorter xs ys n.to (is_string n.kind) e f u v a b (rest, h) (moved, k) (omega (arith, lt)) in
-      let head : y ≡ x = listed' ∙ ap (listed_token s) one ∙ sym listed in
-      (t, more, is, ap (λ (z : Token). z ∷ ys) head ∙ ap (λ (ts : List Token). x ∷ ts) split)
-
-  pub ends_agree : (ts : List Token) (from : ℕ) (s : Bool) (e f : ℕ) (u v : Bool) → AreTokensTo bytes from s ts e u → AreTokensTo bytes from s ts f v
-      → (e ≡ f) × (u ≡ v)
-  ends_agree [] from s e f u v (at, string) (at', string') = (sym at ∙ at', sym string ∙ string')
-  ends_agree (t ∷ ts) from s e f u v (n, is_next, listed, rest) (m, is_next', listed', rest') =
-      let one : m ≡ n = next_agrees from m n is_next' is_next in
-      ends_agree ts n.to (is_string n.kind) e f u v rest (subst (λ (z : Token). AreTokensTo bytes z.to (is_string z.kind) ts f v) one rest')
-
-  pub firsts_agree : (xs ys : List Token) (a b : Answer) → AreFirst bytes xs a → AreFirst bytes ys b → length xs ≡ length ys
-      → (xs ≡ ys) × (a ≡ b)
-  firsts_agree xs ys a b h k same =
-      let all = walks_agree xs ys 0 false h.to k.to h.string k.string h.answer k.answer (h.tokens_are, h.answers) (k.tokens_are, k.answers) same in
-      (all.0, h.next_is ∙ all.1 ∙ sym k.next_is)
-
-  pub strings_agree : (xs ys : List Token) (a b : Answer) (h : AreFirst bytes xs a) (k : AreFirst bytes ys b) → length xs ≡ length ys
-      → h.string ≡ k.string
-  strings_agree xs ys a b h k same =
-      (walks_agree xs ys 0 false h.to k.to h.string k.string h.answer k.answer (h.tokens_are, h.answers) (k.tokens_are, k.answers) same).2
-
-  pub first_shorter : (xs ys : List Token) (a b : Answer) → AreFirst bytes xs a → AreFirst bytes ys b → length xs < length ys
-      → (t : Token) × (rest : List Token) × (a ≡ Ok (Some t)) × (ys ≡ xs ++ t ∷ rest)
-  first_shorter xs ys a b h k lt =
-      let (t, rest, is, split) = walk_shorter xs ys 0 false h.to k.to h.string k.string h.answer k.answer (h.tokens_are, h.answers) (k.tokens_are, k.answers) lt in
-      (t, rest, h.next_is ∙ is, split)
+pub ended : (l : Lexeme) (next : Next) → next ≡ Ok None → next ≡ Ok (Some l) → ⊥
+ended l next e f = cc
 
 pub lexemes_more : (ts us : List Token) → lexemes_of (ts ++ us) ≡ lexemes_of ts ++ lexemes_of us
 lexemes_more ts us = map-append lexeme_of ts us
 
-pub ended : (t : Token) (next : Answer) → next ≡ Ok None → next ≡ Ok (Some t) → ⊥
-ended t next e f = cc
+module _ (start : Start) (bytes : List ℕ) where
+  next_agrees : (from : ℕ) (s : Bool) (a b : Lexeme) → IsLexed start bytes from s (Ok (Some a)) → IsLexed start bytes from s (Ok (Some b)) → a ≡ b
+  next_agrees from s a b h k = same_lexeme a b (Ok (Some a)) (Ok (Some b)) refl refl (one_lexed start bytes from s (Ok (Some a)) (Ok (Some b)) h k)
 
-no_end : (f : LexFault) (next : Answer) → next ≡ Ok None → next ≡ Err f → ⊥
-no_end f next e g = cc
+  here : (from : ℕ) (s : Bool) (to : ℕ) (u : Bool) (a : Next) → from ≡ to → s ≡ u → IsLexed start bytes to u a → IsLexed start bytes from s a
+  here from s to u a at string h =
+      subst (λ (n : ℕ). IsLexed start bytes n s a) (sym at) (subst (λ (b : Bool). IsLexed start bytes to b a) (sym string) h)
 
-no_token : (f : LexFault) (t : Token) (next : Answer) → next ≡ Ok (Some t) → next ≡ Err f → ⊥
-no_token f t next e g = cc
+  -- the lexemes of two walks from one position on
+  abbrev Walk : ℕ → Bool → List Lexeme → ℕ → Bool → Next → Type 0
+  Walk from s ls to u next = AreLexemesTo start bytes from s ls to u × IsLexed start bytes to u next
 
-same_some : (t u : Token) (next : Answer) → next ≡ Ok (Some t) → next ≡ Ok (Some u) → t ≡ u
-same_some t u next e g = cc
+  walks_agree : (xs ys : List Lexeme) (from : ℕ) (s : Bool) (e f : ℕ) (u v : Bool) (a b : Next)
+      → Walk from s xs e u a → Walk from s ys f v b → length xs ≡ length ys → (xs ≡ ys) × (a ≡ b) × (u ≡ v)
+  walks_agree [] [] from s e f u v a b ((at, string), h) ((at', string'), k) same =
+      (refl, one_lexed start bytes from s a b (here from s e u a at string h) (here from s f v b at' string' k), sym string ∙ string')
+  walks_agree [] (y ∷ ys) from s e f u v a b h k same = absurd (omega (arith, same))
+  walks_agree (x ∷ xs) [] from s e f u v a b h k same = absurd (omega (arith, same))
+  walks_agree (x ∷ xs) (y ∷ ys) from s e f u v a b ((is_next, rest), h) ((is_next', rest'), k) same =
+      let one : y ≡ x = next_agrees from s y x is_next' is_next in
+      let moved : AreLexemesTo start bytes x.to (is_string_symbol x.symbol) ys f v =
+      subst (λ (l : Lexeme). AreLexemesTo start bytes l.to (is_string_symbol l.symbol) ys f v) one rest' in
+      let more = walks_agree xs ys x.to (is_string_symbol x.symbol) e f u v a b (rest, h) (moved, k) (omega (arith, same)) in
+      (ap (λ (l : Lexeme). l ∷ xs) (sym one) ∙ ap (λ (ls : List Lexeme). y ∷ ls) more.0, more.1, more.2)
 
--- what a list has next is the end where the lexer says so
-pub ends_with : (bytes : List ℕ) (from : ℕ) (s : Bool) (next : Answer) → IsListedAnswer bytes from s next → next ≡ Ok None → IsAnswer bytes from (Ok None)
-ends_with bytes from s next (Ok (Some t), answers, is) e = absurd (ended (listed_token s t) next e is)
-ends_with bytes from s next (Ok None, answers, is) e = answers
-ends_with bytes from s next (Err f, answers, is) e = absurd (no_end f next e is)
+  walk_shorter : (xs ys : List Lexeme) (from : ℕ) (s : Bool) (e f : ℕ) (u v : Bool) (a : Next)
+      → Walk from s xs e u a → AreLexemesTo start bytes from s ys f v
+      → length xs < length ys → (l : Lexeme) × (rest : List Lexeme) × (a ≡ Ok (Some l)) × (ys ≡ xs ++ l ∷ rest)
+  walk_shorter [] [] from s e f u v a h k lt = absurd (omega (arith, lt))
+  walk_shorter [] (y ∷ ys) from s e f u v a ((at, string), h) (is_next, rest) lt =
+      (y, ys, one_lexed start bytes from s a (Ok (Some y)) (here from s e u a at string h) is_next, refl)
+  walk_shorter (x ∷ xs) [] from s e f u v a h k lt = absurd (omega (arith, lt))
+  walk_shorter (x ∷ xs) (y ∷ ys) from s e f u v a ((is_next, rest), h) (is_next', rest') lt =
+      let one : y ≡ x = next_agrees from s y x is_next' is_next in
+      let moved : AreLexemesTo start bytes x.to (is_string_symbol x.symbol) ys f v =
+      subst (λ (l : Lexeme). AreLexemesTo start bytes l.to (is_string_symbol l.symbol) ys f v) one rest' in
+      let (l, more, is, split) = walk_shorter xs ys x.to (is_string_symbol x.symbol) e f u v a (rest, h) moved (omega (arith, lt)) in
+      (l, more, is, ap (λ (z : Lexeme). z ∷ ys) one ∙ ap (λ (ls : List Lexeme). x ∷ ls) split)
 
--- and a token where it says that
-pub token_with : (bytes : List ℕ) (from : ℕ) (s : Bool) (next : Answer) (t : Token) → IsListedAnswer bytes from s next → next ≡ Ok (Some t)
-    → (raw : Token) × IsNext bytes from raw × (t ≡ listed_token s raw)
-token_with bytes from s next t (Ok (Some raw), answers, is) e = (raw, answers, same_some t (listed_token s raw) next e is)
-token_with bytes from s next t (Ok None, answers, is) e = absurd (ended t next is e)
-token_with bytes from s next t (Err f, answers, is) e = absurd (no_token f t next e is)
+  pub firsts_agree : (xs ys : List Lexeme) (a b : Next) → AreFirst start bytes xs a → AreFirst start bytes ys b → length xs ≡ length ys
+      → (xs ≡ ys) × (a ≡ b)
+  firsts_agree xs ys a b h k same =
+      let all = walks_agree xs ys 0 false h.to k.to h.string k.string a b (h.lexemes_are, h.lexed) (k.lexemes_are, k.lexed) same in (all.0, all.1)
+
+  pub strings_agree : (xs ys : List Lexeme) (a b : Next) (h : AreFirst start bytes xs a) (k : AreFirst start bytes ys b) → length xs ≡ length ys
+      → h.string ≡ k.string
+  strings_agree xs ys a b h k same =
+      (walks_agree xs ys 0 false h.to k.to h.string k.string a b (h.lexemes_are, h.lexed) (k.lexemes_are, k.lexed) same).2
+
+  pub first_shorter : (xs ys : List Lexeme) (a b : Next) → AreFirst start bytes xs a → AreFirst start bytes ys b → length xs < length ys
+      → (l : Lexeme) × (rest : List Lexeme) × (a ≡ Ok (Some l)) × (ys ≡ xs ++ l ∷ rest)
+  first_shorter xs ys a b h k lt = walk_shorter xs ys 0 false h.to k.to h.string k.string a (h.lexemes_are, h.lexed) k.lexemes_are lt
+
+  -- a prefix of the first lexemes, with the lexeme after it
+  front : (bs : List Lexeme) (l : Lexeme) (rest : List Lexeme) (from : ℕ) (s : Bool) (to : ℕ) (u : Bool) → AreLexemesTo start bytes from s (bs ++ l ∷ rest) to u
+      → (e : ℕ) × (v : Bool) × Walk from s bs e v (Ok (Some l))
+  front [] l rest from s to u (is_next, more) = (from, s, ((refl, refl), is_next))
+  front (b ∷ bs) l rest from s to u (is_next, more) =
+      let (e, v, walk) = front bs l rest b.to (is_string_symbol b.symbol) to u more in (e, v, ((is_next, walk.0), walk.1))
+
+  pub first_front : (bs : List Lexeme) (l : Lexeme) (rest : List Lexeme) (to : ℕ) (u : Bool) → AreLexemesTo start bytes 0 false (bs ++ l ∷ rest) to u
+      → AreFirst start bytes bs (Ok (Some l))
+  first_front bs l rest to u h =
+      let (e, v, walk) = front bs l rest 0 false to u h in record { to = e; string = v; lexemes_are = walk.0; lexed = walk.1 }
+
+  -- the lexemes of a whole text are one list
+  pub one_list : (xs ys : List Lexeme) → AreFirst start bytes xs (Ok None) → AreFirst start bytes ys (Ok None) → xs ≡ ys
+  one_list xs ys h k = elim (cases_lt (length xs) (length ys)) [
+    | inl lt ↦ (let (l, rest, answer, split) = first_shorter xs ys (Ok None) (Ok None) h k lt in absurd (ended l (Ok None) refl answer))
+    | inr le ↦ elim (cases_lt (length ys) (length xs)) [
+      | inl more ↦ (let (l, rest, answer, split) = first_shorter ys xs (Ok None) (Ok None) k h more in absurd (ended l (Ok None) refl answer))
+      | inr ge ↦ (let same : length xs ≡ length ys = omega arith in (firsts_agree xs ys (Ok None) (Ok None) h k same).0)
+    ]
+  ]

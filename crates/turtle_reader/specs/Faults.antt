@@ -77,3 +77,9 @@ pub record IsLeastAfter (start : Start) (base bytes : List ℕ) (before : List L
 abbrev pub HasNoFaultAfter : Start → List ℕ → List ℕ → List Lexeme → Next → Type 0
 HasNoFaultAfter start base bytes before next =
     (fault : TurtleFault) → IsFaultAfter start base bytes before next fault → ⊥
+
+-- the fault of a lexer as that of a text
+abbrev pub document_fault : LexFault → TurtleFault
+document_fault (lex.NotText at) = Bad at Why.NotText
+document_fault (lex.BadToken at) = Bad at Why.BadToken
+document_fault lex.NoMemory = NoMemory

@@ -1,16 +1,17 @@
 -- The triples of a document, by the meanings of its tokens (RDF 1.1 Turtle, section 7).
-use Rattle.std.specs.Prelude.{◌≡◌, ℕ, List, [], ◌∷◌, Option, Some}
+use Rattle.std.specs.Prelude.{◌≡◌, ℕ, List, Option, Some}
 use Rattle.rdf_graph.specs.declared.term.Term.{Term}
 use Rattle.rdf_graph.specs.declared.term.Term.TheVariants.{Blank}
 use Rattle.rdf_graph.specs.declared.triple.Triple.{Triple as RdfTriple}
 use Rattle.turtle_grammar.specs.declared.production.Node.{Node}
 use Rattle.turtle_grammar.specs.declared.production.SymbolicTriple.{SymbolicTriple}
 use Rattle.turtle_grammar.specs.declared.production.Production.{Production}
-use Rattle.turtle_grammar.specs.declared.production.Production.TheVariants.{Prefix, Base, Triple}
 use Rattle.turtle_labels.specs.Documents.{IsLabelOf}
 use Rattle.turtle_reader.specs.declared.meaning.Meaning.{Meaning}
 use Rattle.turtle_reader.specs.declared.referent.Referent.{Referent}
 use Rattle.turtle_reader.specs.declared.referent.Referent.TheVariants as referent_of
+use Rattle.turtle_reader.specs.declared.referent.ResolvedTriple.{ResolvedTriple}
+use Rattle.turtle_reader.specs.Handed.{AreMadeOf, AreEach}
 use Rattle.turtle_reader.specs.Referents.{referent}
 
 -- The term of what a node refers to. A document has neither variables nor formulas.
@@ -32,11 +33,16 @@ pub record IsTripleOf (bytes : List ℕ) (meanings : List Meaning) (symbolic : S
 
 -- The triples of productions, in their order.
 abbrev pub AreTriplesOf : List ℕ → List Meaning → List Production → List RdfTriple → Type 0
-AreTriplesOf bytes meanings [] triples = triples ≡ []
-AreTriplesOf bytes meanings (Prefix name iri ∷ productions) triples =
-    AreTriplesOf bytes meanings productions triples
-AreTriplesOf bytes meanings (Base iri ∷ productions) triples =
-    AreTriplesOf bytes meanings productions triples
-AreTriplesOf bytes meanings (Triple symbolic ∷ productions) triples =
-    (first : RdfTriple) × (rest : List RdfTriple) × (triples ≡ first ∷ rest)
-    × IsTripleOf bytes meanings symbolic first × AreTriplesOf bytes meanings productions rest
+AreTriplesOf bytes meanings productions triples =
+    AreMadeOf (IsTripleOf bytes meanings) productions triples
+
+-- the triple is that of these referents
+pub record IsReferentTriple (bytes : List ℕ) (resolved : ResolvedTriple) (triple : RdfTriple)
+    : Type 0 where
+  pub subject : IsReferentTerm bytes (Some resolved.subject) triple.s
+  pub predicate : IsReferentTerm bytes (Some resolved.predicate) triple.p
+  pub object : IsReferentTerm bytes (Some resolved.object) triple.o
+
+-- the triples are those of these referents, in their order
+abbrev pub AreReferentTriples : List ℕ → List ResolvedTriple → List RdfTriple → Type 0
+AreReferentTriples bytes resolved triples = AreEach (IsReferentTriple bytes) resolved triples

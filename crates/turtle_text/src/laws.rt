@@ -9,7 +9,7 @@ pub fn one_graph()
     ensures { HasOneGraph }
 {}
 
-/// The derivation of a text has one list of tokens, one tree and one list of triples.
+/// The derivation of a text has one list of lexemes, one tree and one list of triples.
 pub fn one_derivation()
     ensures { HasOneDerivation }
 {}

@@ -12,14 +12,13 @@
 //! `specs/Spells.antt`), and they then have no fault (`sound`); else the first fault over all kinds
 //! (`fault`, by `IsFirstFault` of `specs/Faults.antt`). Where the bytes spell a graph, no bracket
 //! is too deep and the triples aren't too large, that graph is the answer, or out of memory
-//! (`only`). By [`laws`] a text spells one graph, by one list of tokens and one tree, and has one
+//! (`only`). By [`laws`] a text spells one graph, by one list of lexemes and one tree, and has one
 //! first fault, at the least position of all its faults.
 //!
-//! It reads the tokens once, by the reader of `turtle_reader`, and once more for the labels of
+//! It reads the tokens once, by the walk of `turtle_reader`, and once more for the labels of
 //! `turtle_labels` where the document has an unnamed node. Triples share the memory of their terms.
 #![tactic(auto)]
 
-mod document;
 pub mod laws;
 mod reading;
 mod triples;

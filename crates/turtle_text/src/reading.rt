@@ -1,44 +1,19 @@
 //! The reading of a whole document.
 
-ghost use Rattle.std.specs.Prelude.{◌≡◌, ◌≢◌, Ok, IfOk, IfErr, IfSome, OnOk, false};
+ghost use Rattle.std.specs.Prelude.{◌≢◌, IfOk, IfErr, OnOk};
 ghost use Rattle.std.specs.List.{All};
 ghost use Rattle.rdf_graph.specs.Triple.{IsRdf};
-ghost use Rattle.turtle_lex.specs.Tokens.{IsTokenOf};
 ghost use Rattle.turtle_terms.specs.declared.fault.TurtleFault.TheVariants.{NoMemory as NoMemoryFault};
-ghost use Rattle.turtle_reader.specs.FirstTokens.{IsListedAnswer};
 ghost use Rattle.turtle_text.specs.Faults.{HasNoFault, IsFirstFault, HasOnlyGraph};
 ghost use Rattle.turtle_text.specs.Spells.{Spells, SpellsTriples};
-ghost use Rattle.turtle_text.specs.Progress.{is_large, IsRefusedNext};
 
-use crate::document::Document;
+use crate::triples::Triples;
 use iri_ref::Iri;
 use pod_base::List;
 use rdf_graph::{Graph, Triple};
 use std::alloc::Global;
-use turtle_lex::{Lexer, Token};
-use turtle_reader::{document_fault, next_listed};
-use turtle_terms::{TurtleFault, TurtleKind};
-
-/// The next token of a document.
-fn next(lexer: &mut Lexer<'_>, document: &Document) -> Result<Option<Token>, TurtleFault>
-    ensures answer { IfOk result (λ o. IsListedAnswer lexer.old.bytes lexer.old.from
-        document.now.after_string (Ok o)) }
-    ensures small { IfOk result (λ o. is_large document.now (Ok o) ≡ false) }
-    ensures of_bytes { IfOk result (λ o. IfSome o (IsTokenOf lexer.old.bytes)) }
-    ensures from { IfOk result (λ o. IfSome o (λ token. lexer.new.from ≡ token.to)) }
-    ensures bytes { lexer.new.bytes ≡ lexer.old.bytes }
-    ensures fault { IfErr result (λ fault. fault ≢ NoMemoryFault
-        → IsRefusedNext lexer.old.bytes lexer.old.from document.now fault) }
-{
-    let next = next_listed(lexer, document.after_string);
-    if document.is_large(&next) {
-        return Err(TurtleFault::TooLarge { at: document.last });
-    }
-    match next {
-        Ok(token) => Ok(token),
-        Err(fault) => Err(document_fault(fault)),
-    }
-}
+use turtle_reader::walk;
+use turtle_terms::TurtleFault;
 
 /// The triples of a document, in order of production.
 fn read_triples(alloc: Global, base: &Iri, bytes: &[u8]) -> Result<List<Triple>, TurtleFault>
@@ -48,18 +23,10 @@ fn read_triples(alloc: Global, base: &Iri, bytes: &[u8]) -> Result<List<Triple>,
     ensures fault { IfErr result (λ fault. fault ≢ NoMemoryFault
         → IsFirstFault base.now bytes.now fault) }
 {
-    let mut document = Document::new(alloc, base)?;
-    let mut lexer = Lexer::new(bytes);
-    while let Some(token) = next(&mut lexer, &document)? {
-        document.take(alloc, bytes, token)?;
-    }
-    if document.reader.is_complete() {
-        Ok(document.into_list())
-    } else {
-        Err(TurtleFault::Bad {
-            at: bytes.len(),
-            kind: TurtleKind::Grammar,
-        })
+    let mut triples = Triples::new(alloc);
+    match walk(alloc, base, bytes, &mut triples) {
+        Ok(()) => Ok(triples.list),
+        Err(fault) => Err(fault),
     }
 }
 

@@ -1,0 +1,8 @@
+use Rattle.n3_patch.proofs.OneAnswer.{one_first_fault, places_ascend}
+use Rattle.n3_patch.proofs.laws.first_fault.Goals as goal
+
+pub returns-clause-one : goal.returns-clause-one
+returns-clause-one c = one_first_fault
+
+pub returns-clause-least : goal.returns-clause-least
+returns-clause-least c = places_ascend

@@ -1,0 +1,187 @@
+-- A text has one first fault, and faults of a lesser index have a lesser position.
+use Rattle.std.proofs.Common.{◌≡◌, ◌⊎◌, ℕ, ◌<◌, ◌≤◌, ◌==◌, if◌then◌else◌, Bool, false, List, [], ◌∷◌, ◌++◌, length, Option, Some, None, Result, Ok, Err}
+use Rattle.std.proofs.Common.{inl, inr, refl, sym, ap, ◌∙◌, subst, arith}
+use Rattle.turtle_lex.specs.declared.token.Token.{Token as LexToken}
+use Rattle.turtle_lex.specs.Laws.{text_of}
+use Rattle.turtle_grammar.specs.declared.symbol.Symbol.{Symbol}
+use Rattle.turtle_grammar.specs.declared.symbol.Symbol.TheVariants.{Token}
+use Rattle.turtle_grammar.specs.declared.symbol.Start.{Start}
+use Rattle.turtle_terms.specs.declared.fault.TurtleKind.TheVariants as Why
+use Rattle.turtle_terms.specs.declared.fault.TurtleFault.{TurtleFault}
+use Rattle.turtle_terms.specs.declared.fault.TurtleFault.TheVariants.{Bad, TooLarge, NoMemory}
+use Rattle.turtle_terms.specs.Prefixes.{Prefixes}
+use Rattle.turtle_terms.specs.Meaning.{IsTermOf}
+use Rattle.turtle_reader.specs.declared.lexeme.Lexeme.{Lexeme}
+use Rattle.turtle_reader.specs.declared.meaning.Meaning.{Meaning}
+use Rattle.turtle_reader.specs.declared.context.Directive.{Directive}
+use Rattle.turtle_reader.specs.declared.context.Directive.TheVariants as directive_of
+use Rattle.turtle_reader.specs.declared.context.Context.{Context}
+use Rattle.turtle_reader.specs.Contexts.{at_start, context_from}
+use Rattle.turtle_reader.specs.Faults.{Next, IsStop, HasNoIri, IsDeep, rank}
+use Rattle.turtle_reader.specs.FirstFaults.{IsFaultAt, IsLargeAt, HasFaultAt, IsFirstFault, place_of}
+use Rattle.turtle_reader.specs.Lexemes.{token_at}
+use Rattle.turtle_reader.specs.Meanings.{special_meaning, IsPlainMeaning, IsTokenMeaning, IsMeaningBy}
+use Rattle.turtle_reader.specs.Texts.{IsLexed, is_string_symbol, AreLexemesTo}
+use Rattle.turtle_reader.proofs.Firsts.{firsts_agree, first_shorter}
+use Rattle.turtle_reader.proofs.OneLexeme.{lex_at, placed, fault_after}
+
+-- the fault of a rank at a position
+abbrev fault_of : ℕ → ℕ → TurtleFault
+fault_of n at =
+    if n == 0 then Bad at Why.NotText else
+    if n == 1 then Bad at Why.BadToken else
+    if n == 2 then Bad at Why.Grammar else
+    if n == 3 then Bad at Why.Prefix else
+    if n == 4 then Bad at Why.BadIri else
+    if n == 5 then Bad at Why.Depth else
+    if n == 6 then TooLarge at else NoMemory
+
+fault_is : (f : TurtleFault) → f ≡ fault_of (rank f) (place_of f)
+fault_is (Bad at Why.NotText) = refl
+fault_is (Bad at Why.BadToken) = refl
+fault_is (Bad at Why.Grammar) = refl
+fault_is (Bad at Why.Prefix) = refl
+fault_is (Bad at Why.BadIri) = refl
+fault_is (Bad at Why.Depth) = refl
+fault_is (TooLarge at) = refl
+fault_is NoMemory = refl
+
+-- where a fault after some lexemes is
+abbrev pub places : ℕ → Next → ℕ
+places end (Ok (Some l)) = l.from
+places end (Ok None) = end
+places end (Err f) = lex_at f
+
+-- The position of an IRI's fault
+
+abbrev MeaningResult : Type 0
+MeaningResult = Result Meaning TurtleFault
+
+not_ok : (f : TurtleFault) (m : Meaning) (a : MeaningResult) → a ≡ Err f → a ≡ Ok m → ⊥
+not_ok f m a e h = cc
+
+term_place : (base : List ℕ) (prefixes : Prefixes) (bytes : List ℕ) (token : LexToken) (f : TurtleFault) → IsTermOf base prefixes bytes token (Err f)
+    → place_of f ≡ token.from
+term_place base prefixes bytes token (Bad at why) h = h.0
+term_place base prefixes bytes token (TooLarge at) h = absurd h
+term_place base prefixes bytes token NoMemory h = absurd h
+
+plain_place : (special : Option Meaning) (base : List ℕ) (prefixes : Prefixes) (bytes : List ℕ) (token : LexToken) (f : TurtleFault)
+    → IsPlainMeaning special base prefixes bytes token (Err f) → place_of f ≡ token.from
+plain_place (Some m) base prefixes bytes token f h = absurd (not_ok f m (Err f) refl h)
+plain_place None base prefixes bytes token f h = term_place base prefixes bytes token f h
+
+token_place : (d : Directive) (base : List ℕ) (prefixes : Prefixes) (bytes : List ℕ) (token : LexToken) (f : TurtleFault)
+    → IsTokenMeaning d base prefixes bytes token (Err f) → place_of f ≡ token.from
+token_place directive_of.Name base prefixes bytes token f h = absurd (not_ok f _ (Err f) refl h)
+token_place _ base prefixes bytes token f h = plain_place (special_meaning token.kind (text_of bytes token)) base prefixes bytes token f h
+
+by_place : (s : Symbol) (bytes : List ℕ) (c : Context) (l : Lexeme) (f : TurtleFault) → IsMeaningBy s bytes c l (Err f) → place_of f ≡ l.from
+by_place (Token kind) bytes c l f h = token_place c.directive c.base c.scope bytes (token_at kind l) f h
+by_place _ bytes c l f h = absurd (not_ok f _ (Err f) refl h)
+
+iri_place : (base bytes : List ℕ) (before : List Lexeme) (next : Next) (f : TurtleFault) → HasNoIri base bytes before next f
+    → place_of f ≡ places (length bytes) next
+iri_place base bytes before (Ok (Some l)) f (ms, means, bad) = by_place l.symbol bytes (context_from (at_start base) before ms) l f bad
+iri_place base bytes before (Ok None) f h = absurd h
+iri_place base bytes before (Err e) f h = absurd h
+
+stop_place : (start : Start) (end : ℕ) (before : List Lexeme) (next : Next) (at : ℕ) → IsStop start end before next at → at ≡ places end next
+stop_place start end before (Ok (Some l)) at h = h.0
+stop_place start end before (Ok None) at h = h.0
+stop_place start end before (Err f) at h = absurd h
+
+deep_place : (end : ℕ) (before : List Lexeme) (next : Next) (at : ℕ) → IsDeep before next at → at ≡ places end next
+deep_place end before (Ok (Some l)) at h = h.0
+deep_place end before (Ok None) at h = absurd h
+deep_place end before (Err f) at h = absurd h
+
+large_place : (IsLarge : List Lexeme → Type 0) (end : ℕ) (before : List Lexeme) (next : Next) (at : ℕ) → IsLargeAt IsLarge before next at → at ≡ places end next
+large_place IsLarge end before (Ok (Some l)) at h = h.0
+large_place IsLarge end before (Ok None) at h = absurd h
+large_place IsLarge end before (Err f) at h = absurd h
+
+-- The positions of lexemes
+
+module _ (start : Start) (bytes : List ℕ) where
+  walk_on : (ls : List Lexeme) (from : ℕ) (s : Bool) (e : ℕ) (u : Bool) → AreLexemesTo start bytes from s ls e u → from ≤ e
+  walk_on [] from s e u (at, string) = omega (arith, at)
+  walk_on (l ∷ ls) from s e u (is_next, rest) =
+      let p = placed start bytes from s l is_next in let a = p.after in let b = p.in_order in
+      let c = walk_on ls l.to (is_string_symbol l.symbol) e u rest in
+      omega (arith, a, b, c)
+
+  walk_within : (ls : List Lexeme) (from : ℕ) (s : Bool) (e : ℕ) (u : Bool) → from ≤ length bytes → AreLexemesTo start bytes from s ls e u → e ≤ length bytes
+  walk_within [] from s e u low (at, string) = omega (arith, at, low)
+  walk_within (l ∷ ls) from s e u low (is_next, rest) =
+      let p = placed start bytes from s l is_next in walk_within ls l.to (is_string_symbol l.symbol) e u p.within rest
+
+  -- the position of one of the lexemes
+  walk_past : (bs : List Lexeme) (l : Lexeme) (rest : List Lexeme) (from : ℕ) (s : Bool) (e : ℕ) (u : Bool) → AreLexemesTo start bytes from s (bs ++ l ∷ rest) e u
+      → l.from < e
+  walk_past [] l rest from s e u (is_next, more) =
+      let p = placed start bytes from s l is_next in let b = p.in_order in let c = walk_on rest l.to (is_string_symbol l.symbol) e u more in
+      omega (arith, b, c)
+  walk_past (b ∷ bs) l rest from s e u (is_next, more) = walk_past bs l rest b.to (is_string_symbol b.symbol) e u more
+
+  later : (to : ℕ) (s : Bool) (next : Next) → to ≤ length bytes → IsLexed start bytes to s next → to ≤ places (length bytes) next
+  later to s (Ok (Some l)) low h = let p = placed start bytes to s l h in p.after
+  later to s (Ok None) low h = low
+  later to s (Err f) low h = fault_after start bytes to s f h
+
+module _ (IsLarge : List Lexeme → Type 0) (start : Start) (base bytes : List ℕ) where
+  abbrev Here : List Lexeme → Next → TurtleFault → Type 0
+  Here before next f = IsFaultAt IsLarge start base bytes before next f
+
+  abbrev Has : ℕ → TurtleFault → Type 0
+  Has i f = HasFaultAt IsLarge start base bytes i f
+
+  place_is : (before : List Lexeme) (next : Next) (f : TurtleFault) → Here before next f → place_of f ≡ places (length bytes) next
+  place_is before next (Bad at Why.NotText) h = sym (ap (places (length bytes)) h)
+  place_is before next (Bad at Why.BadToken) h = sym (ap (places (length bytes)) h)
+  place_is before next (Bad at Why.Grammar) h = stop_place start (length bytes) before next at h
+  place_is before next (Bad at Why.Prefix) h = iri_place base bytes before next (Bad at Why.Prefix) h
+  place_is before next (Bad at Why.BadIri) h = iri_place base bytes before next (Bad at Why.BadIri) h
+  place_is before next (Bad at Why.Depth) h = deep_place (length bytes) before next at h
+  place_is before next (TooLarge at) h = large_place IsLarge (length bytes) before next at h
+  place_is before next NoMemory h = absurd h
+
+  same_fault : (before : List Lexeme) (next : Next) (f g : TurtleFault) → rank f ≡ rank g → Here before next f → Here before next g → f ≡ g
+  same_fault before next f g same h k =
+      fault_is f ∙ ap (λ (n : ℕ). fault_of n (place_of f)) same
+      ∙ ap (fault_of (rank g)) (place_is before next f h ∙ sym (place_is before next g k)) ∙ sym (fault_is g)
+
+  -- faults of one index and one rank are one
+  at_one_index : (i j : ℕ) (f g : TurtleFault) → i ≡ j → rank f ≡ rank g → Has i f → Has j g → f ≡ g
+  at_one_index i j f g index same (before, next, first, size, is) (other, next', first', size', is') =
+      let agree = firsts_agree start bytes before other next next' first first' (size ∙ index ∙ sym size') in
+      let lexemes : Here before next' g = subst (λ (z : List Lexeme). Here z next' g) (sym agree.0) is' in
+      let moved : Here before next g = subst (λ (z : Next). Here before z g) (sym agree.1) lexemes in
+      same_fault before next f g same is moved
+
+  abbrev Order : ℕ → ℕ → ℕ → ℕ → Type 0
+  Order i j m n = (i < j) ⊎ ((i ≡ j) × (m ≤ n))
+
+  both : (i j m n : ℕ) → Order i j m n → Order j i n m → (i ≡ j) × (m ≡ n)
+  both i j m n (inl a) (inl b) = absurd (omega (arith, a, b))
+  both i j m n (inl a) (inr b) = let e = b.0 in absurd (omega (arith, a, e))
+  both i j m n (inr a) (inl b) = let e = a.0 in absurd (omega (arith, b, e))
+  both i j m n (inr a) (inr b) = (a.0, let p = a.1 in let q = b.1 in omega (arith, p, q))
+
+  pub one_first_fault : (f g : TurtleFault) → IsFirstFault IsLarge start base bytes f → IsFirstFault IsLarge start base bytes g → f ≡ g
+  one_first_fault f g h k =
+      let same = both h.index k.index (rank f) (rank g) (h.first k.index g k.has) (k.first h.index f h.has) in
+      at_one_index h.index k.index f g same.0 same.1 h.has k.has
+
+  pub places_ascend : (i j : ℕ) (f g : TurtleFault) → Has i f → Has j g → i < j → place_of f < place_of g
+  places_ascend i j f g (before, next, first, size, is) (other, next', first', size', is') lt =
+      let less : length before < length other = omega (arith, size, size', lt) in
+      let (l, rest, answer, split) = first_shorter start bytes before other next next' first first' less in
+      let here : place_of f ≡ l.from = place_is before next f is ∙ ap (places (length bytes)) answer in
+      let there : place_of g ≡ places (length bytes) next' = place_is other next' g is' in
+      let walk : AreLexemesTo start bytes 0 false (before ++ l ∷ rest) first'.to first'.string =
+      subst (λ (z : List Lexeme). AreLexemesTo start bytes 0 false z first'.to first'.string) split first'.lexemes_are in
+      let past : l.from < first'.to = walk_past start bytes before l rest 0 false first'.to first'.string walk in
+      let within : first'.to ≤ length bytes = walk_within start bytes other 0 false first'.to first'.string (omega arith) first'.lexemes_are in
+      let on : first'.to ≤ places (length bytes) next' = later start bytes first'.to first'.string next' within first'.lexed in
+      omega (arith, here, there, past, on)

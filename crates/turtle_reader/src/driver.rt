@@ -1,0 +1,210 @@
+//! [`walk`]: reads a whole text.
+
+ghost use Rattle.std.specs.Prelude.{◌≡◌, ◌≢◌, [], ◌∷◌, Ok, IfOk, IfErr, IfSome, OnOk};
+ghost use Rattle.turtle_terms.specs.declared.fault.TurtleFault.TheVariants.{NoMemory as NoMemoryFault};
+ghost use Rattle.turtle_reader.specs.Faults.{document_fault};
+ghost use Rattle.turtle_reader.specs.FirstFaults.{HasNoFault, IsFirstFault};
+ghost use Rattle.turtle_reader.specs.Languages.{KeepsText, StaysKept};
+ghost use Rattle.turtle_reader.specs.Lexemes.{IsLexemeOf};
+ghost use Rattle.turtle_reader.specs.Texts.{IsLexed};
+ghost use Rattle.turtle_reader.specs.Walks.{KeepsAll, SizesUp, Fits, IsRefusedNext, TakesOn};
+ghost use Rattle.turtle_reader.specs.Walks.{IsRefusedAfter};
+
+use crate::language::Language;
+use crate::lexeme::Lexeme;
+use crate::lexing::next_lexeme;
+use crate::progress::Progress;
+use crate::reader::Reader;
+use iri_ref::Iri;
+use pod_base::{Mem, NoMemory};
+use std::alloc::Global;
+use turtle_grammar::Production;
+use turtle_lex::{LexFault, Lexer};
+use turtle_terms::{TurtleFault, TurtleKind};
+
+/// The fault of a lexer as that of a text.
+fn document_fault(fault: LexFault) -> TurtleFault
+    ensures { result ≡ document_fault fault }
+{
+    match fault {
+        LexFault::NotText { at } => TurtleFault::Bad {
+            at,
+            kind: TurtleKind::NotText,
+        },
+        LexFault::BadToken { at } => TurtleFault::Bad {
+            at,
+            kind: TurtleKind::BadToken,
+        },
+        LexFault::NoMemory => TurtleFault::NoMemory,
+    }
+}
+
+/// Keeps the triple that a production is.
+fn keep_one<L: Language>(
+    alloc: Global,
+    bytes: &[u8],
+    reader: &Reader,
+    kept: &mut L,
+    production: &Production,
+) -> Mem<()>
+    requires { L.is_sound bytes.now kept.old }
+    ensures sound { OnOk result (L.is_sound bytes.now kept.new) }
+    ensures kept { OnOk result (KeepsAll L.is_kept bytes.now reader.now (production.now ∷ [])
+        kept.old kept.new) }
+{
+    match production {
+        Production::Triple(symbolic) => {
+            let triple = reader.triple(alloc, symbolic)?;
+            kept.keep(alloc, bytes, triple)
+        }
+        Production::Prefix { .. } => Ok(()),
+        Production::Base { .. } => Ok(()),
+    }
+}
+
+/// Keeps the triples that productions are.
+fn keep_all<L: Language>(
+    alloc: Global,
+    bytes: &[u8],
+    reader: &Reader,
+    kept: &mut L,
+    productions: &[Production],
+) -> Mem<()>
+    requires { L.is_sound bytes.now kept.old }
+    ensures sound { OnOk result (L.is_sound bytes.now kept.new) }
+    ensures kept { OnOk result (KeepsAll L.is_kept bytes.now reader.now productions.now
+        kept.old kept.new) }
+{
+    for production in productions {
+        keep_one(alloc, bytes, reader, kept, production)?;
+    }
+    Ok(())
+}
+
+/// Where the triples are too large that are complete with the last lexeme, where this comes next.
+fn too_large<L: Language>(
+    alloc: Global,
+    bytes: &[u8],
+    progress: &Progress,
+    kept: &mut L,
+    next: &Result<Option<Lexeme>, LexFault>,
+) -> Mem<Option<usize>>
+    requires { L.is_sound bytes.now kept.old }
+    ensures sound { OnOk result (L.is_sound bytes.now kept.new) }
+    ensures kept { OnOk result (StaysKept L.is_kept kept.old kept.new) }
+    ensures sizes { IfOk result (SizesUp L.symbol L.is_kept L.is_large bytes.now progress.now
+        next.now kept.old) }
+{
+    match progress.last {
+        None => Ok(None),
+        Some(at) => {
+            let waiting = progress.completed(alloc, next)?;
+            if kept.judge(alloc, bytes, waiting)? {
+                Ok(Some(at))
+            } else {
+                Ok(None)
+            }
+        }
+    }
+}
+
+/// The next lexeme of a text.
+fn next<'a, L: Language>(
+    alloc: Global,
+    lexer: &mut Lexer<'a>,
+    bytes: &'a [u8],
+    progress: &Progress,
+    kept: &mut L,
+) -> Result<Option<Lexeme>, TurtleFault>
+    requires lexer { lexer.old.bytes ≡ bytes.now }
+    requires sound { L.is_sound bytes.now kept.old }
+    ensures answer { IfOk result (λ o. IsLexed L.symbol bytes.now lexer.old.from
+        progress.now.after_string (Ok o)) }
+    ensures of_bytes { IfOk result (λ o. IfSome o (IsLexemeOf bytes.now)) }
+    ensures from { IfOk result (λ o. IfSome o (λ lexeme. lexer.new.from ≡ lexeme.to)) }
+    ensures bytes { lexer.new.bytes ≡ bytes.now }
+    ensures sound { OnOk result (L.is_sound bytes.now kept.new) }
+    ensures kept { OnOk result (StaysKept L.is_kept kept.old kept.new) }
+    ensures fits { OnOk result (Fits L.symbol L.is_kept L.is_large bytes.now lexer.old.from
+        progress.now kept.old) }
+    ensures fault { IfErr result (λ fault. fault ≢ NoMemoryFault → IsRefusedNext L.symbol L.is_kept
+        L.is_large bytes.now lexer.old.from progress.now kept.old fault) }
+{
+    let next = next_lexeme(lexer, bytes, L::start(), progress.after_string);
+    match too_large(alloc, bytes, progress, kept, &next) {
+        Ok(None) => match next {
+            Ok(lexeme) => Ok(lexeme),
+            Err(fault) => Err(document_fault(fault)),
+        },
+        Ok(Some(at)) => Err(TurtleFault::TooLarge { at }),
+        Err(NoMemory) => Err(TurtleFault::NoMemory),
+    }
+}
+
+/// Reads the next lexeme.
+fn take<L: Language>(
+    alloc: Global,
+    bytes: &[u8],
+    progress: &mut Progress,
+    kept: &mut L,
+    lexeme: Lexeme,
+) -> Result<(), TurtleFault>
+    requires of_bytes { IsLexemeOf bytes.now lexeme }
+    requires sound { L.is_sound bytes.now kept.old }
+    ensures sound { OnOk result (L.is_sound bytes.now kept.new) }
+    ensures read { OnOk result (TakesOn L.symbol L.is_kept L.is_large bytes.now lexeme progress.old
+        progress.new kept.old kept.new) }
+    ensures refused { IfErr result (λ fault. fault ≢ NoMemoryFault → IsRefusedAfter L.symbol
+        L.is_large bytes.now lexeme progress.old fault) }
+{
+    match progress.reader.step(alloc, bytes, lexeme) {
+        Ok(()) => {
+            keep_all(
+                alloc,
+                bytes,
+                &progress.reader,
+                kept,
+                progress.reader.produced(),
+            )?;
+            progress.pass(lexeme);
+            Ok(())
+        }
+        Err(fault) => Err(fault),
+    }
+}
+
+/// Reads a text under a base, and hands its triples out, in order of production. After an error it
+/// isn't known which of them were kept.
+///
+/// # Errors
+///
+/// The first fault of the bytes, by the position and then in the order `NotText`, `BadToken`,
+/// `Grammar`, `Prefix`, `BadIri`, `Depth`, and `TooLarge` as the language judges it.
+pub fn walk<L: Language>(
+    alloc: Global,
+    base: &Iri,
+    bytes: &[u8],
+    kept: &mut L,
+) -> Result<(), TurtleFault>
+    requires sound { L.is_sound bytes.now kept.old }
+    requires empty { L.is_kept bytes.now [] kept.old }
+    ensures text { OnOk result (KeepsText L.is_kept L.symbol base.now bytes.now kept.new) }
+    ensures no_fault { OnOk result (HasNoFault (L.is_large base.now bytes.now) L.symbol base.now
+        bytes.now) }
+    ensures fault { IfErr result (λ fault. fault ≢ NoMemoryFault → IsFirstFault
+        (L.is_large base.now bytes.now) L.symbol base.now bytes.now fault) }
+{
+    let mut progress = Progress::new(alloc, L::start(), base)?;
+    let mut lexer = Lexer::new(bytes);
+    while let Some(lexeme) = next(alloc, &mut lexer, bytes, &progress, kept)? {
+        take(alloc, bytes, &mut progress, kept, lexeme)?;
+    }
+    if progress.reader.is_complete() {
+        Ok(())
+    } else {
+        Err(TurtleFault::Bad {
+            at: bytes.len(),
+            kind: TurtleKind::Grammar,
+        })
+    }
+}
