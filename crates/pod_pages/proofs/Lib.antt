@@ -9,6 +9,7 @@ pub mod Trees
 pub mod Assembled
 pub mod Readiness
 pub mod EditSteps
+pub mod Children
 pub mod VersionLaws
 pub mod Placed
 pub mod History

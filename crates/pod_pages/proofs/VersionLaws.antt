@@ -1,5 +1,5 @@
 -- What versions have, from what they keep.
-use Rattle.std.proofs.Common.{◌≡◌, ◌+◌, ◌-◌, ◌≤◌, ℕ, Bool, true, false, not, cond, List, [], ◌∷◌, ◌++◌, length, take, filter, map, Option, Some, None, refl, sym, ap, ◌∙◌, subst, arith}
+use Rattle.std.proofs.Common.{◌≡◌, ◌+◌, ◌-◌, ◌≤◌, ℕ, Bool, true, false, not, cond, ◌&&◌, List, [], ◌∷◌, ◌++◌, length, take, drop, filter, map, Option, Some, None, refl, sym, ap, ◌∙◌, subst, arith}
 use Rattle.std.specs.Prelude.{is_some, nat_le, nat_eq}
 use Rattle.std.specs.List.{list_all, starts_with}
 use Rattle.std.proofs.lemmas.Bool.{true≢false, false≢true, and_parts}
@@ -20,6 +20,7 @@ use Rattle.pod_rows.specs.Pod.{Pod}
 use Rattle.pod_rows.specs.Tree.{children_of, is_child_of, is_the_path}
 use Rattle.pod_rows.specs.WellFormed.{WellFormed, IsWellFormedSnapshot, pod_of, has_normal_path}
 use Rattle.pod_rows.proofs.Tests.{parse_is}
+use Rattle.row_pages.specs.Delimited.{is_direct, is_one_part, items_direct}
 use Rattle.row_pages.specs.Items.{Placed, begins_with, item_at, items_below, rows_of}
 use Rattle.pod_pages.specs.Edited.{AreMarkedBy}
 use Rattle.pod_pages.specs.Effects.{effects_of, entry_effects, kept_effects, oldest_after}
@@ -31,6 +32,7 @@ use Rattle.pod_pages.specs.Versions.{IsVersion, state_of, path_of_edit, unmarked
 use Rattle.pod_pages.specs.declared.effects.Effect.{Effect}
 use Rattle.pod_pages.specs.declared.lists.AccessList.{AccessList}
 use Rattle.pod_pages.specs.declared.numbers.Mark.{Mark}
+use Rattle.pod_pages.proofs.Children.{one_child}
 use Rattle.pod_pages.proofs.EditSteps.{beside_edits, kept_all}
 use Rattle.pod_pages.proofs.Placing.{map_filter, row_of}
 use Rattle.pod_pages.proofs.Readiness.{ready_after, ready_first}
@@ -159,14 +161,19 @@ twice p q (r ∷ rs) n f = by_tests (q r) (p r) refl refl (twice p q rs (and_par
     by_tests false true ea eb more = absurd (true≢false (sym (f r here eb) ∙ ea))
     by_tests false false ea eb more = more
 
-pub children_below : (pod : Pod) (items : List Placed) (container : List ℕ) → WellFormed pod → pod.rows ≡ rows_of items
-    → map (λ (i : Placed). i.row.path) (filter (λ (i : Placed). is_child_of container i.row) (items_below items container)) ≡ children_of pod.rows container
-children_below pod items container w same =
-    paths_of (filter (λ (i : Placed). is_child_of container i.row) (items_below items container))
-    ∙ ap (map (λ (r : Row). r.path)) (map_filter row_of (is_child_of container) (items_below items container))
+child_direct : (container : List ℕ) (r : Row) → has_normal_path r ≡ true → is_child_of container r ≡ true → is_direct container r.path ≡ true
+child_direct container r n h =
+    let parts = and_parts (not (is_auxiliary r.path)) (is_the_path container (parent_of r.path)) h in
+    ap (λ b. b && is_one_part (drop (length container) r.path)) (child_begins container r n h) ∙ one_child r.path container (parent_is container (parent_of r.path) parts.1)
+
+pub children_direct : (pod : Pod) (items : List Placed) (container : List ℕ) → WellFormed pod → pod.rows ≡ rows_of items
+    → map (λ (i : Placed). i.row.path) (filter (λ (i : Placed). is_child_of container i.row) (items_direct items container)) ≡ children_of pod.rows container
+children_direct pod items container w same =
+    paths_of (filter (λ (i : Placed). is_child_of container i.row) (items_direct items container))
+    ∙ ap (map (λ (r : Row). r.path)) (map_filter row_of (is_child_of container) (items_direct items container))
     ∙ ap (λ (rs : List Row). map (λ (r : Row). r.path) (filter (is_child_of container) rs))
-    (map_filter row_of (λ (r : Row). starts_with nat_eq r.path container) items ∙ ap (filter (λ (r : Row). starts_with nat_eq r.path container)) (sym same))
-    ∙ ap (map (λ (r : Row). r.path)) (twice (is_child_of container) (λ (r : Row). starts_with nat_eq r.path container) pod.rows w.paths (child_begins container))
+    (map_filter row_of (λ (r : Row). is_direct container r.path) items ∙ ap (filter (λ (r : Row). is_direct container r.path)) (sym same))
+    ∙ ap (map (λ (r : Row). r.path)) (twice (is_child_of container) (λ (r : Row). is_direct container r.path) pod.rows w.paths (child_direct container))
   where
     paths_of : (xs : List Placed) → map (λ (i : Placed). i.row.path) xs ≡ map (λ (r : Row). r.path) (rows_of xs)
     paths_of [] = refl

@@ -12,8 +12,8 @@
 //! well-formed (`refused`, `well_formed`); a version has all that a [`pod_rows::PodState`] has;
 //! `after` is the version after an entry (`Version::after_entry`), and so is [`Replay::after`],
 //! which changes in place what nobody looks at; `find_counted` finds the row and the access list
-//! that governs it, and reads at most 16 paths more than the number of rows has binary digits
-//! (`cost`); a copy is equal (`Version::share`). [`laws`] says what a version is after a history.
+//! that governs it, and compares the path at most 16 times more than the number of rows has binary
+//! digits (`cost`); a copy is equal (`Version::share`). [`laws`] says what a version is after a history.
 //! No clause says which memory is shared.
 //!
 //! The crate stands on `row_pages`, `access_index`, `pod_rows`, `slug_naming`, `acl_rules`,
@@ -38,5 +38,5 @@ mod version;
 pub use effects::{Effect, EffectKind};
 pub use limits::EFFECTS_ENTRIES_LIMIT;
 pub use replay::Replay;
-pub use row_pages::Steps;
+pub use row_pages::{Sought, Steps};
 pub use version::Version;

@@ -35,7 +35,7 @@ use pod_rows::{
     Effective, PodState, StateFault, is_child_of, is_snapshot_well_formed, states_member,
 };
 use rdf_graph::copy_iri;
-use row_pages::{Item, Rows, Steps};
+use row_pages::{Item, Rows, Sought, Steps};
 use slug_naming::TakenNames;
 use std::alloc::Global;
 use std::marker::Model;
@@ -129,24 +129,25 @@ impl Version {
         })
     }
 
-    /// The row at a path, and the access list that governs it. `steps` counts the paths that are
-    /// read: at most 16 more than the binary digits of the number of rows.
-    pub fn find_counted<L: Ledger>(
+    /// The row at a path, of which it knows [`Sought`] alone, and the access list that governs the
+    /// row. `steps` counts the comparisons of the path: at most 16 more than the binary digits of
+    /// the number of rows.
+    pub fn find_counted<P: Sought<L>, L: Ledger>(
         &self,
-        path: &Path,
+        path: &P,
         steps: &mut Steps<L>,
     ) -> Option<(&Row, Effective<'_>)>
-        ensures some { IfSome result (λ found. row_at self.now.pod.rows path.now
+        ensures some { IfSome result (λ found. row_at self.now.pod.rows (P.text path.now)
             ≡ Some found.0.now) }
-        ensures governs { IfSome result (λ found. effective_of self.now.pod.rows path.now
+        ensures governs { IfSome result (λ found. effective_of self.now.pod.rows (P.text path.now)
             ≡ Some (governed found.1.at.now found.1.how)) }
         ensures rules { IfSome result (λ found. found.1.rules.now.list
             ≡ rules_at self.now.pod found.1.at.now) }
-        ensures none { IfNone result (row_at self.now.pod.rows path.now ≡ None) }
+        ensures none { IfNone result (row_at self.now.pod.rows (P.text path.now) ≡ None) }
         ensures cost { (b : ℕ) → length self.now.pod.rows < 2 ^ b
             → steps.new ≤ steps.old + b + 16 }
     {
-        match self.rows.find_counted(path.as_str().as_bytes(), steps) {
+        match self.rows.find_counted(path, steps) {
             Some(item) => Some((item.row(), access(&self.table, item.list(), item.is_own()))),
             None => None,
         }
@@ -326,7 +327,7 @@ impl PodState for Version {
     }
 
     fn children(&self, alloc: Global, path: &Path) -> Mem<List<Path>> {
-        let below = self.rows.below(alloc, path.as_str().as_bytes())?;
+        let below = self.rows.direct_below(alloc, path.as_str().as_bytes())?;
         let paths = children_among(alloc, below.as_slice(), path)?;
         Ok(List::from_vec(paths))
     }

@@ -21,12 +21,12 @@ pub begun : (a p : List ℕ) → starts_with nat_eq a p ≡ true → a ≡ p ++ 
 begun a p h = sym (take-append-drop (length p) a) ∙ ap (λ (x : List ℕ). x ++ drop (length p) a) (sym ((bytes_decides p (take (length p) a)).0 h))
 
 -- a text isn't before one that it begins with
-not_less : (p r : List ℕ) → bytes_cmp (p ++ r) p ≡ Less → ⊥
+pub not_less : (p r : List ℕ) → bytes_cmp (p ++ r) p ≡ Less → ⊥
 not_less [] [] h = absurd cc
 not_less [] (x ∷ xs) h = absurd cc
 not_less (c ∷ ps) r h = not_less ps r (sym (ap (λ o. ordering_then o (bytes_cmp (ps ++ r) ps)) (tied_itself nat_cmp_total c)) ∙ h)
 
-less_begins : (a p : List ℕ) → bytes_cmp a p ≡ Less → starts_with nat_eq a p ≡ false
+pub less_begins : (a p : List ℕ) → bytes_cmp a p ≡ Less → starts_with nat_eq a p ≡ false
 less_begins a p h =
     false_from_ne_true (starts_with nat_eq a p)
     (λ t. not_less p (drop (length p) a) (ap (λ (x : List ℕ). bytes_cmp x p) (sym (begun a p t)) ∙ h))
@@ -50,14 +50,14 @@ between (c ∷ ps) (d ∷ ds) r h k = by_order (nat_cmp c d) refl (between ps ds
         let never : Greater ≡ Less = sym (ap (λ o. ordering_then o (bytes_cmp ps ds)) e) ∙ h in
         absurd cc
 
-begins_from : (p s : List ℕ) → starts_with nat_eq (p ++ s) p ≡ true
+pub begins_from : (p s : List ℕ) → starts_with nat_eq (p ++ s) p ≡ true
 begins_from p s = (bytes_decides p (take (length p) (p ++ s))).1 (sym (taken p s))
   where
     taken : (p s : List ℕ) → take (length p) (p ++ s) ≡ p
     taken [] s = refl
     taken (c ∷ cs) s = ap (λ (x : List ℕ). c ∷ x) (taken cs s)
 
-past : (p a b : List ℕ) → bytes_cmp p a ≡ Less → starts_with nat_eq a p ≡ false → bytes_cmp a b ≡ Less → starts_with nat_eq b p ≡ false
+pub past : (p a b : List ℕ) → bytes_cmp p a ≡ Less → starts_with nat_eq a p ≡ false → bytes_cmp a b ≡ Less → starts_with nat_eq b p ≡ false
 past p a b h n l =
     false_from_ne_true (starts_with nat_eq b p)
     (λ t. let m = between p a (drop (length p) b) h (ap (bytes_cmp a) (sym (begun b p t)) ∙ l) in

@@ -5,3 +5,5 @@ pub mod Changed
 pub mod Joined
 pub mod Taken
 pub mod Done
+pub mod Seeking
+pub mod Directly

@@ -57,3 +57,12 @@ begins_with prefix item = starts_with nat_eq item.row.path prefix
 -- The items whose paths begin with a text.
 abbrev pub items_below : List Placed → List ℕ → List Placed
 items_below items prefix = filter (begins_with prefix) items
+
+-- The first item whose path isn't before the text.
+abbrev pub first_from : List Placed → List ℕ → Option Placed
+first_from items text = find (λ item. not (is_before item.row.path text)) items
+
+-- The first item, if there is one.
+abbrev pub first_item : List Placed → Option Placed
+first_item [] = None
+first_item (item ∷ items) = Some item

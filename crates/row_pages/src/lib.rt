@@ -15,31 +15,34 @@
 //!
 //! Contracts see a version as the list of its items, each a row with the access list that governs
 //! it. Proved: the items are in strict byte order of their paths ([`Rows::are_in_order`]); a search
-//! finds exactly the item at a path (`found`), and reads at most 15 paths more than the number of
-//! items has binary digits (`cost`); putting an item gives the items before it, the item and those
-//! after it, and a removal all others ([`Rows::put`], [`Rows::into_with`], [`Rows::without`]); the
-//! items below a text are those whose paths begin with it, in order ([`Rows::below`]). No clause
-//! says which memory is shared.
+//! finds exactly the item at a path (`found`), and compares the path at most 15 times more than the
+//! number of items has binary digits (`cost`); putting an item gives the items before it, the item
+//! and those after it, and a removal all others ([`Rows::put`], [`Rows::into_with`],
+//! [`Rows::without`]); the items below a text are those whose paths begin with it, in order
+//! ([`Rows::below`]), and those directly below it have after it a slash at most at their end
+//! ([`Rows::direct_below`]); the first item from a text on is the first that isn't before it
+//! ([`Rows::first_from`]). No clause says which memory is shared.
 //!
-//! The search, [`find_in`], is generic in the parts that it goes through, of which it knows
-//! [`Keyed`] alone: it has no way to a path but one that adds a step to the count of its ledger, and
-//! no way to a second count. So its `cost` bounds the paths that it reads.
+//! The counted search, [`Rows::find_counted`], is generic in the path that it looks for, of which it
+//! knows [`Sought`] alone: it learns nothing of the path but by a comparison that adds a step to the
+//! count of its ledger, and it has no way to a second count. So its `cost` bounds the comparisons
+//! that it makes: one that compares more often, or counts less, doesn't meet its contract.
 //!
-//! The crate stands on `pod_command`, `pod_path`, `rdf_graph` and `pod_base`.
+//! The crate stands on `pod_command`, `pod_path`, `rdf_graph`, `iri_ref` and `pod_base`.
 #![tactic(auto)]
 
+mod delimited;
 mod item;
-mod keyed;
 mod limits;
 mod node;
 mod part;
 mod parts;
 mod rows;
+mod sought;
 mod steps;
 
 pub use item::Item;
-pub use keyed::Keyed;
 pub use limits::PAGE_LIMIT;
-pub use parts::find_in;
 pub use rows::Rows;
+pub use sought::Sought;
 pub use steps::Steps;

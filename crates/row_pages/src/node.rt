@@ -8,7 +8,8 @@ ghost use Rattle.row_pages.specs.Parts.{items_of_both};
 use crate::item::Item;
 use crate::limits::PAGE_LIMIT;
 use crate::part::{Grown, Part};
-use crate::parts::{below_in, find_in, into_with_in, put_in, share_all, without_in};
+use crate::parts::{below_in, find_in, first_from_in, into_with_in, put_in, share_all, without_in};
+use crate::sought::Sought;
 use crate::steps::Steps;
 use pod_base::{Mem, NoMemory};
 use std::alloc::Global;
@@ -190,9 +191,16 @@ impl<T: Part> Part for Node<T> {
         let _parts = self.parts();
     }
 
-    fn first_path<L: Ledger>(&self, steps: &mut Steps<L>) -> &[u8] {
+    fn first_item(&self) -> &Item {
         match self.parts().first() {
-            Some(part) => part.first_path(steps),
+            Some(part) => part.first_item(),
+            None => unreachable!(),
+        }
+    }
+
+    fn first_path(&self) -> &[u8] {
+        match self.parts().first() {
+            Some(part) => part.first_path(),
             None => unreachable!(),
         }
     }
@@ -204,8 +212,12 @@ impl<T: Part> Part for Node<T> {
         }
     }
 
-    fn find<L: Ledger>(&self, path: &[u8], steps: &mut Steps<L>) -> Option<&Item> {
+    fn find<P: Sought<L>, L: Ledger>(&self, path: &P, steps: &mut Steps<L>) -> Option<&Item> {
         find_in(self.parts(), path, steps)
+    }
+
+    fn first_from(&self, text: &[u8]) -> Option<&Item> {
+        first_from_in(self.parts(), text)
     }
 
     fn put(&self, alloc: Global, item: &Item) -> Mem<Grown<Node<T>>> {

@@ -3,10 +3,11 @@ ghost use Rattle.std.specs.Prelude.{◌≡◌, ◌+◌, ◌<◌, ◌≤◌, ◌+
 ghost use Rattle.std.specs.Prelude.{length, option_copied};
 ghost use Rattle.row_pages.specs.Borders.{first_begins};
 ghost use Rattle.row_pages.specs.Items.{Placed, AreItemsInOrder, first_of, item_at, put_item};
-ghost use Rattle.row_pages.specs.Items.{remove_item, items_below, begins_with};
+ghost use Rattle.row_pages.specs.Items.{remove_item, items_below, begins_with, first_from, first_item};
 ghost use Rattle.row_pages.specs.Parts.{items_if, items_of_both};
 
 use crate::item::Item;
+use crate::sought::{Sought, text_is_before};
 use crate::steps::Steps;
 use pod_base::Mem;
 use std::alloc::Global;
@@ -33,7 +34,7 @@ pub(crate) trait Part: Drop {
     /// The items of the part, in their order.
     ghost items: { Self → List Placed };
 
-    /// How many paths a search in it reads at most.
+    /// How often a search in it compares the path at most.
     ghost cost: { ℕ };
 
     /// The part of one item.
@@ -48,20 +49,28 @@ pub(crate) trait Part: Drop {
     fn has_items(&self)
         ensures { 0 < length (items self.now) };
 
-    /// The path of its first item: one step.
-    fn first_path<L: Ledger>(&self, steps: &mut Steps<L>) -> &[u8]
-        ensures path { first_of (items self.now) ≡ Some result.now }
-        ensures cost { steps.new ≡ steps.old + 1 };
+    /// Its first item.
+    fn first_item(&self) -> &Item
+        ensures { first_item (items self.now) ≡ Some result.now };
+
+    /// The path of its first item.
+    fn first_path(&self) -> &[u8]
+        ensures { first_of (items self.now) ≡ Some result.now };
 
     /// Whether the path of its first item begins with the text.
     fn begins_below(&self, prefix: &[u8]) -> bool
         ensures { first_begins prefix.now (items self.now) ≡ Some result };
 
     /// The item at a path.
-    fn find<L: Ledger>(&self, path: &[u8], steps: &mut Steps<L>) -> Option<&Item>
+    fn find<P: Sought<L>, L: Ledger>(&self, path: &P, steps: &mut Steps<L>) -> Option<&Item>
         requires { AreItemsInOrder (items self.now) }
-        ensures found { option_copied result ≡ item_at (items self.now) path.now }
+        ensures found { option_copied result ≡ item_at (items self.now) (P.text path.now) }
         ensures cost { steps.new ≤ steps.old + cost };
+
+    /// The first item whose path isn't before a text.
+    fn first_from(&self, text: &[u8]) -> Option<&Item>
+        requires { AreItemsInOrder (items self.now) }
+        ensures { option_copied result ≡ first_from (items self.now) text.now };
 
     /// The part with this item, in one part or two.
     fn put(&self, alloc: Global, item: &Item) -> Mem<Grown<Self>>
@@ -103,8 +112,11 @@ impl Part for Item {
 
     fn has_items(&self) {}
 
-    fn first_path<L: Ledger>(&self, steps: &mut Steps<L>) -> &[u8] {
-        steps.tick();
+    fn first_item(&self) -> &Item {
+        self
+    }
+
+    fn first_path(&self) -> &[u8] {
         self.path()
     }
 
@@ -112,11 +124,19 @@ impl Part for Item {
         begins_with(self, prefix)
     }
 
-    fn find<L: Ledger>(&self, path: &[u8], steps: &mut Steps<L>) -> Option<&Item> {
-        if self.first_path(steps) == path {
+    fn find<P: Sought<L>, L: Ledger>(&self, path: &P, steps: &mut Steps<L>) -> Option<&Item> {
+        if path.is_same(self.path(), steps) {
             Some(self)
         } else {
             None
+        }
+    }
+
+    fn first_from(&self, text: &[u8]) -> Option<&Item> {
+        if text_is_before(self.path(), text) {
+            None
+        } else {
+            Some(self)
         }
     }
 

@@ -6,58 +6,55 @@ ghost use Rattle.std.specs.List.{flat_map};
 ghost use Rattle.std.specs.Option.{option_to_list};
 ghost use Rattle.row_pages.specs.Borders.{first_at, starts_by, starts_after};
 ghost use Rattle.row_pages.specs.Borders.{AreBefore, AreAfter};
-ghost use Rattle.row_pages.specs.Items.{AreItemsInOrder, first_of, is_before, item_at};
-ghost use Rattle.row_pages.specs.Items.{put_item, remove_item, items_below};
+ghost use Rattle.row_pages.specs.Items.{AreItemsInOrder, first_of, item_at};
+ghost use Rattle.row_pages.specs.Items.{put_item, remove_item, items_below, first_from};
+ghost use Rattle.row_pages.specs.Items.{first_item};
 ghost use Rattle.row_pages.specs.Nodes.{HaveItems};
 
 use crate::item::Item;
-use crate::keyed::Keyed;
 use crate::part::Part;
+use crate::sought::{PathText, Sought};
 use crate::steps::Steps;
 use pod_base::Mem;
 use std::alloc::Global;
-use std::cmp::Ordering;
 use std::marker::Brand;
 use std::sync::ledger::{Blank, Ledger};
 
-/// Whether the path is before the other in byte order.
-fn is_before(path: &[u8], other: &[u8]) -> bool
-    ensures { result ≡ is_before path.now other.now }
-{
-    path.cmp(other) == Ordering::Less
-}
-
 /// Whether the path is before the first one of the part.
-fn is_before_part<T: Keyed<L>, L: Ledger>(path: &[u8], part: &T, steps: &mut Steps<L>) -> bool
+fn is_before_part<T: Part, P: Sought<L>, L: Ledger>(
+    path: &P,
+    part: &T,
+    steps: &mut Steps<L>,
+) -> bool
     ensures after { IsTrue result
-        → IsTrue (starts_after path.now (first_of (T.items part.now))) }
-    ensures by { result ≡ false → IsTrue (starts_by path.now (first_of (T.items part.now))) }
+        → IsTrue (starts_after (P.text path.now) (first_of (T.items part.now))) }
+    ensures by { result ≡ false
+        → IsTrue (starts_by (P.text path.now) (first_of (T.items part.now))) }
     ensures cost { steps.new ≡ steps.old + 1 }
 {
-    let first = part.first_counted(steps);
-    is_before(path, first)
+    path.is_before(part.first_path(), steps)
 }
 
 /// How many of the parts begin at the path or before it. The first `low` parts do, and those from
 /// `high` on don't. It halves what is between.
-fn place_between<T: Keyed<L>, L: Ledger>(
+fn place_between<T: Part, P: Sought<L>, L: Ledger>(
     parts: &[T],
     low: usize,
     high: usize,
-    path: &[u8],
+    path: &P,
     steps: &mut Steps<L>,
 ) -> usize
     requires range { low ≤ high }
     requires within { high ≤ length parts.now }
     requires before { 0 < low
-        → IsTrue (starts_by path.now (first_at T.items parts.now (low - 1))) }
+        → IsTrue (starts_by (P.text path.now) (first_at T.items parts.now (low - 1))) }
     requires after { high < length parts.now
-        → IsTrue (starts_after path.now (first_at T.items parts.now high)) }
+        → IsTrue (starts_after (P.text path.now) (first_at T.items parts.now high)) }
     ensures within { result ≤ length parts.now }
     ensures before { 0 < result
-        → IsTrue (starts_by path.now (first_at T.items parts.now (result - 1))) }
+        → IsTrue (starts_by (P.text path.now) (first_at T.items parts.now (result - 1))) }
     ensures after { result < length parts.now
-        → IsTrue (starts_after path.now (first_at T.items parts.now result)) }
+        → IsTrue (starts_after (P.text path.now) (first_at T.items parts.now result)) }
     ensures cost { (b : ℕ) → high - low < 2 ^ b → steps.new ≤ steps.old + b }
 {
     if low == high {
@@ -81,18 +78,18 @@ pub(crate) struct Around<'a, T> {
 
 /// The part to which a path belongs: all items before the part are before the path, and all after
 /// the part are after it. None where there are no parts.
-pub(crate) fn around_counted<'a, T: Keyed<L>, L: Ledger>(
+pub(crate) fn around_counted<'a, T: Part, P: Sought<L>, L: Ledger>(
     parts: &'a [T],
-    path: &[u8],
+    path: &P,
     steps: &mut Steps<L>,
 ) -> Option<Around<'a, T>>
     requires { AreItemsInOrder (flat_map T.items parts.now) }
     ensures whole { IfSome result (λ around. parts.entry.now
         ≡ around.before.now ++ around.part.now ∷ around.after.now) }
     ensures before { IfSome result (λ around.
-        AreBefore path.now (flat_map T.items around.before.now)) }
+        AreBefore (P.text path.now) (flat_map T.items around.before.now)) }
     ensures after { IfSome result (λ around.
-        AreAfter path.now (flat_map T.items around.after.now)) }
+        AreAfter (P.text path.now) (flat_map T.items around.after.now)) }
     ensures none { IfNone result (parts.entry.now ≡ []) }
     ensures cost { (b : ℕ) → length parts.entry.now < 2 ^ b → steps.new ≤ steps.old + b }
 {
@@ -127,7 +124,8 @@ fn around_blank<'a, T: Part, L: Ledger>(
     ensures none { IfNone result (parts.entry.now ≡ []) }
 {
     let mut steps = Steps::<L>::new(blank);
-    around_counted(parts, path, &mut steps)
+    let sought = PathText { text: path };
+    around_counted(parts, &sought, &mut steps)
 }
 
 /// The part to which a path belongs.
@@ -144,22 +142,21 @@ fn split_at_path<'a, T: Part>(parts: &'a [T], path: &[u8]) -> Option<Around<'a, 
     around_blank::<T, Brand>(parts, path, Blank::new(1))
 }
 
-/// The item at a path among parts in order. `steps` counts the paths that are read: at most as many
-/// as the number of parts has binary digits, and what a search in one part costs. It knows of the
-/// parts no more than [`Keyed`], so no path is read that isn't counted.
-pub fn find_in<'a, T: Keyed<L>, L: Ledger>(
+/// The item at a path among parts in order. `steps` counts the comparisons of the path: at most as
+/// many as the number of parts has binary digits, and what a search in one part costs.
+pub(crate) fn find_in<'a, T: Part, P: Sought<L>, L: Ledger>(
     parts: &'a [T],
-    path: &[u8],
+    path: &P,
     steps: &mut Steps<L>,
 ) -> Option<&'a Item>
     requires { AreItemsInOrder (flat_map T.items parts.now) }
     ensures found { option_copied result
-        ≡ item_at (flat_map T.items parts.entry.now) path.now }
+        ≡ item_at (flat_map T.items parts.entry.now) (P.text path.now) }
     ensures cost { (b : ℕ) → length parts.entry.now < 2 ^ b
         → steps.new ≤ steps.old + b + T.cost }
 {
     match around_counted(parts, path, steps) {
-        Some(around) => around.part.find_counted(path, steps),
+        Some(around) => around.part.find(path, steps),
         None => None,
     }
 }
@@ -249,7 +246,8 @@ fn place_blank<T: Part, L: Ledger>(parts: &[T], path: &[u8], blank: Blank) -> us
     ensures after { AreAfter path.now (flat_map T.items (drop (result + 1) parts.now)) }
 {
     let mut steps = Steps::<L>::new(blank);
-    let place = place_between(parts, 0, parts.len(), path, &mut steps);
+    let sought = PathText { text: path };
+    let place = place_between(parts, 0, parts.len(), &sought, &mut steps);
     place.saturating_sub(1)
 }
 
@@ -381,4 +379,28 @@ pub(crate) fn below_in<T: Part>(parts: &[T], prefix: &[u8], into: &mut Vec<Item>
     around.part.below(prefix, into)?;
     below_after(around.after, prefix, into)?;
     Ok(())
+}
+
+/// The first item of parts.
+fn first_item_in<T: Part>(parts: &[T]) -> Option<&Item>
+    ensures { option_copied result ≡ first_item (flat_map T.items parts.entry.now) }
+{
+    match parts.split_first() {
+        Some((part, _)) => Some(part.first_item()),
+        None => None,
+    }
+}
+
+/// The first item whose path isn't before a text.
+pub(crate) fn first_from_in<'a, T: Part>(parts: &'a [T], text: &[u8]) -> Option<&'a Item>
+    requires { AreItemsInOrder (flat_map T.items parts.now) }
+    ensures { option_copied result ≡ first_from (flat_map T.items parts.entry.now) text.now }
+{
+    match split_at_path(parts, text) {
+        Some(around) => match around.part.first_from(text) {
+            Some(item) => Some(item),
+            None => first_item_in(around.after),
+        },
+        None => None,
+    }
 }

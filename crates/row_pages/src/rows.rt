@@ -2,12 +2,15 @@
 ghost use Rattle.std.specs.Prelude.{◌≡◌, ◌+◌, ◌<◌, ◌≤◌, ◌^◌, [], ℕ, List, IfOk, length};
 ghost use Rattle.std.specs.Prelude.{option_copied, is_some, if◌then◌else◌};
 ghost use Rattle.row_pages.specs.Items.{AreItemsInOrder, Placed, item_at, put_item, remove_item};
-ghost use Rattle.row_pages.specs.Items.{items_below};
+ghost use Rattle.row_pages.specs.Items.{items_below, first_from};
+ghost use Rattle.row_pages.specs.Delimited.{items_direct};
 
+use crate::delimited::direct_in;
 use crate::item::Item;
 use crate::node::{Node, push_nodes};
 use crate::part::Part;
-use crate::parts::{below_in, find_in, into_with_in, put_in, share_all, without_in};
+use crate::parts::{below_in, find_in, first_from_in, into_with_in, put_in, share_all, without_in};
+use crate::sought::{PathText, Sought};
 use crate::steps::Steps;
 use pod_base::{Mem, NoMemory};
 use std::alloc::Global;
@@ -65,10 +68,14 @@ impl Rows {
         let _books = self.books.as_slice();
     }
 
-    /// The item at a path. `steps` counts the paths that are read: at most 15 more than the binary
-    /// digits of the number of items.
-    pub fn find_counted<L: Ledger>(&self, path: &[u8], steps: &mut Steps<L>) -> Option<&Item>
-        ensures found { option_copied result ≡ item_at self.now path.now }
+    /// The item at a path, of which it knows [`Sought`] alone. `steps` counts the comparisons of the
+    /// path: at most 15 more than the binary digits of the number of items.
+    pub fn find_counted<P: Sought<L>, L: Ledger>(
+        &self,
+        path: &P,
+        steps: &mut Steps<L>,
+    ) -> Option<&Item>
+        ensures found { option_copied result ≡ item_at self.now (P.text path.now) }
         ensures cost { (b : ℕ) → length self.now < 2 ^ b → steps.new ≤ steps.old + b + 15 }
     {
         find_in(self.books.as_slice(), path, steps)
@@ -82,7 +89,8 @@ impl Rows {
         ensures { option_copied result ≡ item_at self.now path.now }
     {
         let mut steps = Steps::<L>::new(blank);
-        self.find_counted(path, &mut steps)
+        let sought = PathText { text: path };
+        self.find_counted(&sought, &mut steps)
     }
 
     /// The item at a path.
@@ -154,6 +162,23 @@ impl Rows {
         let len = self.len_without(path);
         let books = without_in(alloc, self.books.as_slice(), path)?;
         Ok(Rows { books, len })
+    }
+
+    /// The first item whose path isn't before a text.
+    pub fn first_from(&self, text: &[u8]) -> Option<&Item>
+        ensures { option_copied result ≡ first_from self.now text.now }
+    {
+        first_from_in(self.books.as_slice(), text)
+    }
+
+    /// The items directly below a text, in order: their paths begin with it, and have after it a
+    /// slash at most at their end. Each is one search.
+    pub fn direct_below(&self, alloc: Global, prefix: &[u8]) -> Mem<Vec<Item>>
+        ensures { IfOk result (λ items. items.items ≡ items_direct self.now prefix.now) }
+    {
+        self.are_in_order();
+        let items = direct_in(alloc, self, prefix)?;
+        Ok(items)
     }
 
     /// The items whose paths begin with a text, in order. Other pages aren't read.

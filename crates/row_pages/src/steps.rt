@@ -1,10 +1,10 @@
-//! [`Steps`]: a count of the paths that a search reads.
+//! [`Steps`]: a count of the comparisons that a search makes.
 ghost use Rattle.std.specs.Prelude.{◌≡◌, ◌+◌, ◌<◌, ◌^◌};
 
 use std::marker::Model;
 use std::sync::ledger::{Blank, Book, Ledger, Share};
 
-/// How many paths of rows were read. Only [`Steps::tick`] changes it.
+/// How many comparisons of paths were made. Only [`Steps::tick`] changes it.
 #[derive(Drop)]
 pub struct Steps<L: Ledger> {
     book: Book<L>,
@@ -39,7 +39,7 @@ impl<L: Ledger> Steps<L> {
         }
     }
 
-    /// One more path was read.
+    /// One more comparison.
     pub fn tick(&mut self)
         ensures { self.new ≡ self.old + 1 }
     {
@@ -47,7 +47,7 @@ impl<L: Ledger> Steps<L> {
         self.count = self.count.saturating_add(1);
     }
 
-    /// How many paths were read, where that is under 2^64.
+    /// How many comparisons were made, where that is under 2^64.
     pub fn count(&self) -> u64
         ensures { self.now < 2 ^ 64 → result ≡ self.now }
     {

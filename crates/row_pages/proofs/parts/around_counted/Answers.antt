@@ -8,12 +8,12 @@ pub returns-clause-before : goal.returns-clause-before
 returns-clause-before g c =
     let whole : c.args.parts.now ≡ c.split_at.result.0.now ++ (c.in-Some.part.now ∷ c.in-Some.after.now) = search rules in
     let front : length c.split_at.result.0.now ≡ c.place_between-place.result - 1 = search rules in
-    let order : AreItemsInOrder (flat_map g.T.Keyed.items c.args.parts.now) = search rules in
-    place_before g.T.Keyed.items c.args.parts.now c.split_at.result.0.now c.in-Some.after.now c.in-Some.part.now c.place_between-place.result c.args.path.now whole front order c.place_between-place.ensures.before
+    let order : AreItemsInOrder (flat_map g.T.Part.items c.args.parts.now) = search rules in
+    place_before g.T.Part.items c.args.parts.now c.split_at.result.0.now c.in-Some.after.now c.in-Some.part.now c.place_between-place.result (g.P.Sought.text c.args.path.now) whole front order c.place_between-place.ensures.before
 
 pub returns-clause-after : goal.returns-clause-after
 returns-clause-after g c =
     let whole : c.args.parts.now ≡ c.split_at.result.0.now ++ (c.in-Some.part.now ∷ c.in-Some.after.now) = search rules in
     let front : length c.split_at.result.0.now ≡ c.place_between-place.result - 1 = search rules in
-    let order : AreItemsInOrder (flat_map g.T.Keyed.items c.args.parts.now) = search rules in
-    place_after g.T.Keyed.items c.args.parts.now c.split_at.result.0.now c.in-Some.after.now c.in-Some.part.now c.place_between-place.result c.args.path.now whole front order c.place_between-place.ensures.after
+    let order : AreItemsInOrder (flat_map g.T.Part.items c.args.parts.now) = search rules in
+    place_after g.T.Part.items c.args.parts.now c.split_at.result.0.now c.in-Some.after.now c.in-Some.part.now c.place_between-place.result (g.P.Sought.text c.args.path.now) whole front order c.place_between-place.ensures.after

@@ -4,13 +4,13 @@ use Rattle.row_pages.specs.Items.{AreItemsInOrder}
 use Rattle.row_pages.proofs.Around.{order_part, found_around}
 use Rattle.row_pages.proofs.parts.find_in.Goals as goal
 
-pub find_counted-requires : goal.find_counted-requires
-find_counted-requires g c =
+pub find-requires : goal.find-requires
+find-requires g c =
     let whole : c.args.parts.now ≡ c.in-Some.around.before.now ++ (c.in-Some.around.part.now ∷ c.in-Some.around.after.now) = search rules in
-    let order : AreItemsInOrder (flat_map g.T.Keyed.items c.args.parts.now) = search rules in
-    order_part g.T.Keyed.items c.args.parts.now c.in-Some.around.before.now c.in-Some.around.after.now c.in-Some.around.part.now whole order
+    let order : AreItemsInOrder (flat_map g.T.Part.items c.args.parts.now) = search rules in
+    order_part g.T.Part.items c.args.parts.now c.in-Some.around.before.now c.in-Some.around.after.now c.in-Some.around.part.now whole order
 
 pub returns-in-Some-clause-found : goal.returns-in-Some-clause-found
 returns-in-Some-clause-found g c =
     let whole : c.args.parts.now ≡ c.in-Some.around.before.now ++ (c.in-Some.around.part.now ∷ c.in-Some.around.after.now) = search rules in
-    c.find_counted.ensures.found ∙ sym (found_around g.T.Keyed.items c.args.parts.now c.in-Some.around.before.now c.in-Some.around.after.now c.in-Some.around.part.now c.args.path.now whole (search rules) (search rules))
+    c.find.ensures.found ∙ sym (found_around g.T.Part.items c.args.parts.now c.in-Some.around.before.now c.in-Some.around.after.now c.in-Some.around.part.now (g.P.Sought.text c.args.path.now) whole (search rules) (search rules))
