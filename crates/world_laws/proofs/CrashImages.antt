@@ -16,7 +16,7 @@ use Rattle.reply_laws.specs.Laws.{EntriesApply}
 use Rattle.token_table.specs.Credentials.{AskedAgent}
 use Rattle.world_laws.specs.CrashedWorlds.{HoldHistory, ImageStandsFor, ImageStandsForMore, IsRecordable, IsRecordableHistory}
 use Rattle.world_laws.proofs.NextEntries.{Fits, IsNext, following, run_fits, with_next}
-use Rattle.world_laws.proofs.RecordedEntries.{Records, may_follow, recordable_more}
+use Rattle.world_laws.proofs.RecordedEntries.{recordable_more}
 use Rattle.world_laws.proofs.WorldLists.{map_snoc}
 
 -- ---- the records of a history
@@ -72,15 +72,9 @@ module _ (history : History) (image : List ℕ) (h : IsHistory history) (r : IsR
 
 -- ---- an image that a crash may leave
 
-module _ (world : World) (image : List ℕ) (fits : Fits world.keeper) (published : world.published ≤ end_of world.keeper.history) (records : Records world.keeper) where
+module _ (world : World) (image : List ℕ) (fits : Fits world.keeper) (published : world.published ≤ end_of world.keeper.history) (r : IsRecordableHistory world.keeper.history) (each : (entry : Entry) → MayFollow world.keeper entry → IsRecordable entry) where
   abbrev here : History
   here = world.keeper.history
-
-  abbrev r : IsRecordableHistory here
-  r = records.history
-
-  each : (entry : Entry) → MayFollow world.keeper entry → IsRecordable entry
-  each entry follows = may_follow world.keeper entry records follows
 
   stands_with : (entry : Entry) → MayFollow world.keeper entry → Stands 2 1 (journal_records here ++ entry_bytes entry ∷ []) image → ImageStandsForMore world image
   stands_with entry follows s =

@@ -33,26 +33,27 @@ pub record IsRecordableHistory (history : History) : Type 0 where
   pub entries : AllByRecursion IsRecordable history.entries
 
 module _ (may_give : ℕ → Type 0) (asking : Request → AskedAgent) where
-  -- Where a step writes the record of an entry, a journal can hold it.
-  abbrev pub WritesRecordable : (old : World) (event : Event) (new : World)
+  -- Where a step writes the record of an entry, the entry has a stored form, as it has where it is a
+  -- value of its type. How long that is follows from the reply that made it.
+  abbrev pub WritesStorable : (old : World) (event : Event) (new : World)
       → DoesEvent may_give asking old event new → Type 0
-  WritesRecordable old (world.body true) new does = IsRecordable does.step.holder.entry
-  WritesRecordable old (world.body false) new does = Unit {0}
-  WritesRecordable old (world.arrive conn piece) new does = Unit {0}
-  WritesRecordable old (world.look conn place moment) new does = Unit {0}
-  WritesRecordable old (world.take conn moment) new does = Unit {0}
-  WritesRecordable old (world.repair ok) new does = Unit {0}
-  WritesRecordable old (world.gate ok) new does = Unit {0}
-  WritesRecordable old world.publish new does = Unit {0}
-  WritesRecordable old (world.stop image) new does = Unit {0}
+  WritesStorable old (world.body true) new does = IsStorable does.step.holder.entry
+  WritesStorable old (world.body false) new does = Unit {0}
+  WritesStorable old (world.arrive conn piece) new does = Unit {0}
+  WritesStorable old (world.look conn place moment) new does = Unit {0}
+  WritesStorable old (world.take conn moment) new does = Unit {0}
+  WritesStorable old (world.repair ok) new does = Unit {0}
+  WritesStorable old (world.gate ok) new does = Unit {0}
+  WritesStorable old world.publish new does = Unit {0}
+  WritesStorable old (world.stop image) new does = Unit {0}
 
   -- Each step of the run that writes a record writes such a one.
-  abbrev pub AppendsRecordable : (old : World) (events : List Event) (new : World)
+  abbrev pub AppendsStorable : (old : World) (events : List Event) (new : World)
       → WorldRun may_give asking old events new → Type 0
-  AppendsRecordable old [] new run = Unit {0}
-  AppendsRecordable old (event ∷ events) new run =
-      WritesRecordable old event run.1.done run.1.does
-      × AppendsRecordable run.0 events new run.2
+  AppendsStorable old [] new run = Unit {0}
+  AppendsStorable old (event ∷ events) new run =
+      WritesStorable old event run.1.done run.1.does
+      × AppendsStorable run.0 events new run.2
 
 -- ---- what an image stands for
 
@@ -81,12 +82,23 @@ pub record ImageStandsForMore (old : World) (image : List ℕ) : Type 0 where
 
 -- Whatever the events from a history on that a journal can hold, each image with which the world may
 -- stop then stands for its history, or for that with one entry more, where each record that was
--- written is one that a journal can hold.
+-- written is of an entry that has a stored form.
 abbrev pub StopsStand : (ℕ → Type 0) → Type 0
 StopsStand may_give = (asking : Request → AskedAgent) (history : History) (numbers : ℕ → Bool)
     (events : List Event) (new stopped : World) (image : List ℕ) → IsHistory history
     → IsRecordableHistory history
     → (run : WorldRun may_give asking (first_world history numbers) events new)
-    → AppendsRecordable may_give asking (first_world history numbers) events new run
+    → AppendsStorable may_give asking (first_world history numbers) events new run
+    → WorldStep may_give asking new (world.stop image) stopped
+    → ImageStandsFor new.keeper.history image ⊎ ImageStandsForMore new image
+
+-- So it does where a journal can hold the history to which the events come, and what may follow it,
+-- whatever was written before.
+abbrev pub EndsStand : (ℕ → Type 0) → Type 0
+EndsStand may_give = (asking : Request → AskedAgent) (history : History) (numbers : ℕ → Bool)
+    (events : List Event) (new stopped : World) (image : List ℕ) → IsHistory history
+    → WorldRun may_give asking (first_world history numbers) events new
+    → IsRecordableHistory new.keeper.history
+    → ((entry : Entry) → MayFollow new.keeper entry → IsRecordable entry)
     → WorldStep may_give asking new (world.stop image) stopped
     → ImageStandsFor new.keeper.history image ⊎ ImageStandsForMore new image
