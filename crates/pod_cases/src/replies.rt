@@ -16,17 +16,20 @@
 use crate::requests::request_of;
 use audit_trail::entry_line;
 use case_lines::shown_whole;
-use case_pods::{BASE, response_text, state_of};
+use case_pods::{BASE, response_text, snapshot_of};
 use case_values::pod_iri;
-use pod_base::{Mem, Moment, Response, Stamp, Text};
+use entry_fits::fits;
+use pod_base::{Mem, Moment, NoMemory, Response, Stamp, Text};
 use pod_command::Entry;
-use pod_reply::{Replied, reply};
-use pod_rows::{PlainRows, PodState, fits};
+use pod_core::answer as answer_to;
+use pod_pages::Version;
+use pod_reply::Replied;
+use pod_rows::{PodState, StateFault};
 use std::alloc::Global;
 use token_table::Asked;
 
 /// The reply to the request of a text, the number of which is one of its connection.
-fn reply_to(alloc: Global, state: &PlainRows, number: u64, text: &str) -> Mem<Replied> {
+fn reply_to(alloc: Global, state: &Version, number: u64, text: &str) -> Mem<Replied> {
     let (request, word) = request_of(alloc, text)?;
     let seq = state.next();
     let stamp = Stamp {
@@ -35,12 +38,12 @@ fn reply_to(alloc: Global, state: &PlainRows, number: u64, text: &str) -> Mem<Re
         moment: Moment(784_111_777),
     };
     match word {
-        "-" => reply(alloc, state, &request, &Asked::Public, seq, stamp),
-        "!" => reply(alloc, state, &request, &Asked::Refused, seq, stamp),
+        "-" => answer_to(alloc, state, &request, &Asked::Public, seq, stamp),
+        "!" => answer_to(alloc, state, &request, &Asked::Refused, seq, stamp),
         _ => {
             let iri = pod_iri(alloc, BASE, word)?;
             let agent = Text::of(alloc, iri.as_str())?;
-            reply(alloc, state, &request, &Asked::Known(&agent), seq, stamp)
+            answer_to(alloc, state, &request, &Asked::Known(&agent), seq, stamp)
         }
     }
 }
@@ -58,10 +61,10 @@ fn push_entry(alloc: Global, shown: &mut String, entry: &Entry, wanted: &str) ->
 /// The state after an entry, if it applies; that it doesn't is noted.
 fn state_after(
     alloc: Global,
-    state: &PlainRows,
+    state: &Version,
     entry: &Entry,
     shown: &mut String,
-) -> Mem<Option<PlainRows>> {
+) -> Mem<Option<Version>> {
     if fits(alloc, state, entry)? {
         Ok(Some(state.after(alloc, entry)?))
     } else {
@@ -89,12 +92,12 @@ fn push_response(
 /// Appends the reply to a request, and returns the state after it where it is another one.
 fn step(
     alloc: Global,
-    state: &PlainRows,
+    state: &Version,
     shown: &mut String,
     wanted: &str,
     number: u64,
     text: &str,
-) -> Mem<Option<PlainRows>> {
+) -> Mem<Option<Version>> {
     let replied = reply_to(alloc, state, number, text)?;
     push_response(alloc, shown, &replied.response, wanted, number)?;
     match &replied.entry {
@@ -107,7 +110,7 @@ fn step(
 }
 
 /// The replies to requests to a pod.
-fn replies(alloc: Global, first: PlainRows, wanted: &str, requests: &[&str]) -> Mem<String> {
+fn replies(alloc: Global, first: Version, wanted: &str, requests: &[&str]) -> Mem<String> {
     let mut shown = String::new(alloc);
     let mut state = first;
     for (index, text) in requests.iter().enumerate() {
@@ -118,10 +121,20 @@ fn replies(alloc: Global, first: PlainRows, wanted: &str, requests: &[&str]) -> 
     Ok(shown)
 }
 
+/// The version of the pod with a head and rows, unless that isn't well-formed.
+fn version_of(alloc: Global, head: &str, rows: &str) -> Mem<Option<Version>> {
+    let snapshot = snapshot_of(alloc, head, rows)?;
+    match Version::of(alloc, snapshot) {
+        Ok(version) => Ok(Some(version)),
+        Err(StateFault::NotWellFormed) => Ok(None),
+        Err(StateFault::NoMemory) => Err(NoMemory),
+    }
+}
+
 /// The replies to the requests of a case.
 pub(crate) fn answer(alloc: Global, fields: &[&str]) -> Mem<String> {
     match fields {
-        [head, rows, wanted, requests @ ..] => match state_of(alloc, head, rows)? {
+        [head, rows, wanted, requests @ ..] => match version_of(alloc, head, rows)? {
             Some(state) => replies(alloc, state, wanted, requests),
             None => Ok(String::from_str(alloc, "not well-formed")?),
         },

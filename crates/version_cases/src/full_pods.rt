@@ -1,6 +1,7 @@
 //! Cases of pods with many rows.
 
 use crate::entries::pod_of;
+use crate::searches::steps_of;
 use crate::version_text::place_text;
 use case_values::path_or_root;
 use pod_base::{Mem, NoMemory};
@@ -36,7 +37,23 @@ fn is_same_at(alloc: Global, plain: &PlainRows, version: &Version, path: &Path) 
     Ok(found.as_str() == wanted.as_str())
 }
 
-/// How many rows both have, and at how many paths they have the same.
+/// The most comparisons that a search may make among 65,536 rows, a number of 17 binary digits.
+const MOST_STEPS: u64 = 33;
+
+/// At how many paths a search makes at most as many comparisons.
+fn searched_within(alloc: Global, version: &Version) -> Mem<usize> {
+    let mut within: usize = 0;
+    for text in FULL_PATHS {
+        let path = path_or_root(alloc, text)?;
+        if steps_of(version, &path) <= MOST_STEPS {
+            within = within.saturating_add(1);
+        }
+    }
+    Ok(within)
+}
+
+/// How many rows both have, at how many paths they have the same, and at how many a search makes at
+/// most 33 comparisons.
 fn places_text(alloc: Global, plain: &PlainRows, version: &Version) -> Mem<String> {
     let mut same: usize = 0;
     for text in FULL_PATHS {
@@ -45,8 +62,11 @@ fn places_text(alloc: Global, plain: &PlainRows, version: &Version) -> Mem<Strin
             same = same.saturating_add(1);
         }
     }
+    let within = searched_within(alloc, version)?;
     let (rows, pages) = (plain.count(), version.count());
-    Ok(format!(in alloc; "{rows} and {pages} rows, the same at {same} paths")?)
+    Ok(format!(in alloc;
+        "{rows} and {pages} rows, the same at {same} paths, found in at most 33 comparisons at {within}"
+    )?)
 }
 
 /// What a list of rows and the version of a snapshot have.

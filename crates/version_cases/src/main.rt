@@ -32,6 +32,7 @@ mod index_runs;
 mod index_text;
 mod paths;
 mod replays;
+mod searches;
 mod version_runs;
 mod version_text;
 
