@@ -1,10 +1,10 @@
 -- Parts that are joined, and parts that have items.
-use Rattle.std.proofs.Common.{subst, ◌≡◌, ◌+◌, ◌<◌, ◌≤◌, ℕ, List, [], ◌∷◌, ◌++◌, length, Option, Some, None, refl, sym, ap, ◌∙◌, arith, append_assoc}
+use Rattle.std.proofs.Common.{subst, ◌≡◌, ◌+◌, ◌<◌, ◌≤◌, ℕ, Bool, true, false, not, List, [], ◌∷◌, ◌++◌, length, Option, Some, None, refl, sym, ap, ◌∙◌, arith, append_assoc}
 use Rattle.std.specs.Option.{option_to_list}
 use Rattle.std.specs.List.{flat_map}
 use Rattle.std.proofs.lemmas.List.Concat.{flat_map-append}
-use Rattle.row_pages.specs.Borders.{first_begins}
-use Rattle.row_pages.specs.Items.{Placed, first_of}
+use Rattle.row_pages.specs.Borders.{first_begins, first_path, starts_by, starts_after}
+use Rattle.row_pages.specs.Items.{Placed, first_of, is_before}
 use Rattle.row_pages.specs.Nodes.{HaveItems, IsNode}
 use Rattle.row_pages.specs.Parts.{items_if, page_items, all_items}
 
@@ -22,7 +22,7 @@ joined_items items before after part more =
     both items after (Some p) None = sym (append_assoc (items p) [] (flat_map items after))
     both items after (Some p) (Some m) = sym (append_assoc (items p) (items m) (flat_map items after))
 
-length_append : {X : Type 0} (xs ys : List X) → length (xs ++ ys) ≡ length xs + length ys
+pub length_append : {X : Type 0} (xs ys : List X) → length (xs ++ ys) ≡ length xs + length ys
 length_append [] ys = omega arith
 length_append (x ∷ xs) ys = let l = length_append xs ys in omega (arith, l)
 
@@ -99,7 +99,7 @@ pub each_has : (is : List Placed) → HaveItems (λ (i : Placed). i ∷ []) is
 each_has [] = tt
 each_has (i ∷ is) = (omega arith, each_has is)
 
-first_append : (is zs : List Placed) → 0 < length is → first_of (is ++ zs) ≡ first_of is
+first_append : (is zs : List Placed) → 0 < length is → first_path (is ++ zs) ≡ first_path is
 first_append [] zs h = absurd (omega (arith, h))
 first_append (i ∷ is) zs h = refl
 
@@ -107,14 +107,23 @@ begins_append : (p : List ℕ) (is zs : List Placed) → 0 < length is → first
 begins_append p [] zs h = absurd (omega (arith, h))
 begins_append p (i ∷ is) zs h = refl
 
-pub first_whole : {X : Type 0} (items : X → List Placed) (parts more : List X) (part : X) → parts ≡ part ∷ more → HaveItems items parts → first_of (flat_map items parts) ≡ first_of (items part)
+pub first_whole : {X : Type 0} (items : X → List Placed) (parts more : List X) (part : X) → parts ≡ part ∷ more → HaveItems items parts → first_path (flat_map items parts) ≡ first_path (items part)
 first_whole items parts more part e h =
-    ap (λ ps. first_of (flat_map items ps)) e ∙ first_append (items part) (flat_map items more) ((subst (HaveItems items) e h).0)
+    ap (λ ps. first_path (flat_map items ps)) e ∙ first_append (items part) (flat_map items more) ((subst (HaveItems items) e h).0)
 
 pub begins_whole : {X : Type 0} (items : X → List Placed) (p : List ℕ) (parts more : List X) (part : X) → parts ≡ part ∷ more → HaveItems items parts
     → first_begins p (flat_map items parts) ≡ first_begins p (items part)
 begins_whole items p parts more part e h =
     ap (λ ps. first_begins p (flat_map items ps)) e ∙ begins_append p (items part) (flat_map items more) ((subst (HaveItems items) e h).0)
+
+-- a path before the key of a part, and one that isn't
+pub after_key : (p : List ℕ) (is : List Placed) (key : List ℕ) (b : Bool) → 0 < length is → key ≡ first_path is → b ≡ is_before p key → b ≡ true → starts_after p (first_of is) ≡ true
+after_key p [] key b h k e t = absurd (omega (arith, h))
+after_key p (i ∷ is) key b h k e t = ap (is_before p) (sym k) ∙ sym e ∙ t
+
+pub by_key : (p : List ℕ) (is : List Placed) (key : List ℕ) (b : Bool) → 0 < length is → key ≡ first_path is → b ≡ is_before p key → b ≡ false → starts_by p (first_of is) ≡ true
+by_key p [] key b h k e t = absurd (omega (arith, h))
+by_key p (i ∷ is) key b h k e t = ap not (ap (is_before p) (sym k) ∙ sym e ∙ t)
 
 -- ---- the items of pages
 

@@ -5,5 +5,6 @@ pub mod Changed
 pub mod Joined
 pub mod Taken
 pub mod Done
+pub mod Replaced
 pub mod Seeking
 pub mod Directly

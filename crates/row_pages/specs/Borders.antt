@@ -5,6 +5,11 @@ use Rattle.std.specs.declared.cmp.Ordering.TheVariants.{Less}
 use Rattle.rdf_graph.specs.Triple.{bytes_cmp}
 use Rattle.row_pages.specs.Items.{Placed, first_of, is_before, begins_with}
 
+-- The path of the first item; an empty text where there is no item.
+abbrev pub first_path : List Placed → List ℕ
+first_path [] = []
+first_path (item ∷ items) = item.row.path
+
 -- Does the first path begin with the text? None where there is no item.
 abbrev pub first_begins : List ℕ → List Placed → Option Bool
 first_begins prefix [] = None

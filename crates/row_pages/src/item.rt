@@ -2,11 +2,14 @@
 ghost use Rattle.std.specs.Prelude.{◌≡◌, IfOk};
 ghost use Rattle.row_pages.specs.Items.{Placed};
 
+use crate::keyed::Keyed;
+use crate::steps::Steps;
 use pod_base::{Mem, NoMemory};
 use pod_command::Row;
 use std::alloc::Global;
 use std::marker::Model;
 use std::sync::Arc;
+use std::sync::ledger::Ledger;
 
 /// A row, and the access list that governs it: the number of the list in a table of the caller's,
 /// and whether the list is the row's own. A copy shares the row.
@@ -81,5 +84,14 @@ impl Item {
         ensures { IfOk result (λ copy. copy ≡ self.now) }
     {
         self.governed_by(self.list, self.own)
+    }
+}
+
+impl Keyed for Item {
+    ghost key = { λ item. item.row.path };
+
+    fn key<L: Ledger>(&self, steps: &mut Steps<L>) -> &[u8] {
+        steps.tick();
+        self.path()
     }
 }

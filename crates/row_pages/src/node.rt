@@ -1,14 +1,19 @@
 //! [`Node`]: a page of items, or a book of pages.
-ghost use Rattle.std.specs.Prelude.{◌≡◌, ◌+◌, ◌<◌, ◌≤◌, ◌++◌, length, IfOk, OnOk};
+ghost use Rattle.std.specs.Prelude.{◌≡◌, ◌+◌, ◌<◌, ◌≤◌, ◌++◌, length, refl, IfNone, IfOk, IfSome, OnOk};
 ghost use Rattle.std.specs.Arc.{arc_value};
 ghost use Rattle.std.specs.List.{flat_map};
+ghost use Rattle.row_pages.specs.Borders.{first_path};
+ghost use Rattle.row_pages.specs.Items.{AreItemsInOrder, put_item};
 ghost use Rattle.row_pages.specs.Nodes.{IsNode, HaveItems};
 ghost use Rattle.row_pages.specs.Parts.{items_of_both};
 
 use crate::item::Item;
+use crate::keyed::Keyed;
 use crate::limits::PAGE_LIMIT;
-use crate::part::{Grown, Part};
-use crate::parts::{below_in, find_in, first_from_in, into_with_in, put_in, share_all, without_in};
+use crate::part::{Grown, Listed, Part};
+use crate::parts::{
+    below_in, find_in, first_from_in, into_with_in, put_in, replace_in, share_all, without_in,
+};
 use crate::sought::Sought;
 use crate::steps::Steps;
 use pod_base::{Mem, NoMemory};
@@ -81,6 +86,26 @@ fn taken_out<T: Part>(alloc: Global, memory: &mut Arc<Vec<T>>) -> Mem<Vec<T>>
             share_all(memory.as_slice(), &mut copies)?;
             Ok(copies)
         }
+    }
+}
+
+/// Puts an item in place of the one at its path, among the parts that lie in some memory. It is given
+/// back where there is none, and where this memory or some further in is shared.
+fn replace_at<T: Part>(memory: &mut Arc<Vec<T>>, item: Item) -> Option<Item>
+    requires { AreItemsInOrder (flat_map T.items (arc_value memory.old).items) }
+    ensures put { IfNone result (flat_map T.items (arc_value memory.new).items
+        ≡ put_item (flat_map T.items (arc_value memory.old).items) item) }
+    ensures count { length (flat_map T.items (arc_value memory.new).items)
+        ≡ length (flat_map T.items (arc_value memory.old).items) }
+    ensures kept { IfSome result (λ _. (arc_value memory.new).items
+        ≡ (arc_value memory.old).items) }
+    ensures back { IfSome result (λ other. other ≡ item) }
+    ensures node { IsNode T.items (arc_value memory.old).items
+        → IsNode T.items (arc_value memory.new).items }
+{
+    match Arc::get_mut(memory) {
+        Some(parts) => replace_in(parts, item),
+        None => Some(item),
     }
 }
 
@@ -167,10 +192,23 @@ pub(crate) fn push_nodes<T: Part>(alloc: Global, parts: &[T], nodes: &mut Vec<No
     push_nodes(alloc, rest, nodes)
 }
 
+impl<T: Part> Keyed for Node<T> {
+    ghost key = { λ node. first_path (flat_map T.items node) };
+
+    fn key<L: Ledger>(&self, steps: &mut Steps<L>) -> &[u8] {
+        match self.parts().first() {
+            Some(part) => part.key(steps),
+            None => unreachable!(),
+        }
+    }
+}
+
 impl<T: Part> Part for Node<T> {
     ghost items = { λ node. flat_map T.items node };
 
     ghost cost = { 7 + T.cost };
+
+    ghost keyed = { λ _. refl };
 
     fn single(alloc: Global, item: &Item) -> Mem<Node<T>> {
         let mut parts = Vec::with_capacity(alloc, 1)?;
@@ -191,33 +229,8 @@ impl<T: Part> Part for Node<T> {
         let _parts = self.parts();
     }
 
-    fn first_item(&self) -> &Item {
-        match self.parts().first() {
-            Some(part) => part.first_item(),
-            None => unreachable!(),
-        }
-    }
-
-    fn first_path(&self) -> &[u8] {
-        match self.parts().first() {
-            Some(part) => part.first_path(),
-            None => unreachable!(),
-        }
-    }
-
-    fn begins_below(&self, prefix: &[u8]) -> bool {
-        match self.parts().first() {
-            Some(part) => part.begins_below(prefix),
-            None => unreachable!(),
-        }
-    }
-
     fn find<P: Sought<L>, L: Ledger>(&self, path: &P, steps: &mut Steps<L>) -> Option<&Item> {
         find_in(self.parts(), path, steps)
-    }
-
-    fn first_from(&self, text: &[u8]) -> Option<&Item> {
-        first_from_in(self.parts(), text)
     }
 
     fn put(&self, alloc: Global, item: &Item) -> Mem<Grown<Node<T>>> {
@@ -232,6 +245,10 @@ impl<T: Part> Part for Node<T> {
         grown_in(alloc, memory, all)
     }
 
+    fn replace(&mut self, item: Item) -> Option<Item> {
+        replace_at(&mut self.parts, item)
+    }
+
     fn without(&self, alloc: Global, path: &[u8]) -> Mem<Option<Node<T>>> {
         let parts = without_in(alloc, self.parts(), path)?;
         if parts.is_empty() {
@@ -239,6 +256,26 @@ impl<T: Part> Part for Node<T> {
         }
         let node = Node::of(alloc, parts)?;
         Ok(Some(node))
+    }
+}
+
+impl<T: Listed> Listed for Node<T> {
+    fn first_item(&self) -> &Item {
+        match self.parts().first() {
+            Some(part) => part.first_item(),
+            None => unreachable!(),
+        }
+    }
+
+    fn begins_below(&self, prefix: &[u8]) -> bool {
+        match self.parts().first() {
+            Some(part) => part.begins_below(prefix),
+            None => unreachable!(),
+        }
+    }
+
+    fn first_from(&self, text: &[u8]) -> Option<&Item> {
+        first_from_in(self.parts(), text)
     }
 
     fn below(&self, prefix: &[u8], into: &mut Vec<Item>) -> Mem<()> {

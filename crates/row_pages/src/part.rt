@@ -1,12 +1,13 @@
 //! [`Part`]: an item, a page of items, or a book of pages.
-ghost use Rattle.std.specs.Prelude.{◌≡◌, ◌+◌, ◌<◌, ◌≤◌, ◌++◌, ◌∷◌, [], ℕ, List, Some, IfOk, OnOk};
-ghost use Rattle.std.specs.Prelude.{length, option_copied};
-ghost use Rattle.row_pages.specs.Borders.{first_begins};
-ghost use Rattle.row_pages.specs.Items.{Placed, AreItemsInOrder, first_of, item_at, put_item};
+ghost use Rattle.std.specs.Prelude.{◌≡◌, ◌+◌, ◌<◌, ◌≤◌, ◌++◌, ◌∷◌, [], ℕ, List, Some, IfOk, IfSome};
+ghost use Rattle.std.specs.Prelude.{IfNone, OnOk, length, option_copied, refl};
+ghost use Rattle.row_pages.specs.Borders.{first_begins, first_path};
+ghost use Rattle.row_pages.specs.Items.{Placed, AreItemsInOrder, item_at, put_item};
 ghost use Rattle.row_pages.specs.Items.{remove_item, items_below, begins_with, first_from, first_item};
 ghost use Rattle.row_pages.specs.Parts.{items_if, items_of_both};
 
 use crate::item::Item;
+use crate::keyed::Keyed;
 use crate::sought::{Sought, text_is_before};
 use crate::steps::Steps;
 use pod_base::Mem;
@@ -28,9 +29,10 @@ pub(crate) struct Grown<P> {
     pub more: Option<P>,
 }
 
-/// A part of the items. A change makes new parts, which share what stays; one that takes the part
-/// by value uses its memory again.
-pub(crate) trait Part: Drop {
+/// A part of the items, with that of its first item as its key. A change makes new parts, which
+/// share what stays; one that takes the part by value uses its memory again. A search knows of the
+/// parts no more than this: it has no way to the key of one, or of what is in it, but by [`Keyed`].
+pub(crate) trait Part: Keyed + Drop {
     /// The items of the part, in their order.
     ghost items: { Self → List Placed };
 
@@ -49,28 +51,11 @@ pub(crate) trait Part: Drop {
     fn has_items(&self)
         ensures { 0 < length (items self.now) };
 
-    /// Its first item.
-    fn first_item(&self) -> &Item
-        ensures { first_item (items self.now) ≡ Some result.now };
-
-    /// The path of its first item.
-    fn first_path(&self) -> &[u8]
-        ensures { first_of (items self.now) ≡ Some result.now };
-
-    /// Whether the path of its first item begins with the text.
-    fn begins_below(&self, prefix: &[u8]) -> bool
-        ensures { first_begins prefix.now (items self.now) ≡ Some result };
-
     /// The item at a path.
     fn find<P: Sought<L>, L: Ledger>(&self, path: &P, steps: &mut Steps<L>) -> Option<&Item>
         requires { AreItemsInOrder (items self.now) }
         ensures found { option_copied result ≡ item_at (items self.now) (P.text path.now) }
         ensures cost { steps.new ≤ steps.old + cost };
-
-    /// The first item whose path isn't before a text.
-    fn first_from(&self, text: &[u8]) -> Option<&Item>
-        requires { AreItemsInOrder (items self.now) }
-        ensures { option_copied result ≡ first_from (items self.now) text.now };
 
     /// The part with this item, in one part or two.
     fn put(&self, alloc: Global, item: &Item) -> Mem<Grown<Self>>
@@ -84,23 +69,53 @@ pub(crate) trait Part: Drop {
         ensures { IfOk result (λ grown. items_of_both items grown.part grown.more
             ≡ put_item (items self) item) };
 
+    /// Puts an item in place of the one at its path. It is given back, and the part is as before,
+    /// where there is none, and where memory is shared.
+    fn replace(&mut self, item: Item) -> Option<Item>
+        requires { AreItemsInOrder (items self.old) }
+        ensures put { IfNone result (items self.new ≡ put_item (items self.old) item) }
+        ensures count { length (items self.new) ≡ length (items self.old) }
+        ensures kept { IfSome result (λ _. self.new ≡ self.old) }
+        ensures back { IfSome result (λ other. other ≡ item) };
+
     /// The part without the item at the path, if an item is left.
     fn without(&self, alloc: Global, path: &[u8]) -> Mem<Option<Self>>
         requires { AreItemsInOrder (items self.now) }
         ensures { IfOk result (λ part. items_if items part
             ≡ remove_item (items self.now) path.now) };
 
+    /// Its key is the path of its first item.
+    ghost keyed: { (part : Self) → Self.key part ≡ first_path (items part) };
+}
+
+/// A part whose items are looked at in their order.
+pub(crate) trait Listed: Part {
+    /// Its first item.
+    fn first_item(&self) -> &Item
+        ensures { first_item (Self.items self.now) ≡ Some result.now };
+
+    /// Whether the path of its first item begins with the text.
+    fn begins_below(&self, prefix: &[u8]) -> bool
+        ensures { first_begins prefix.now (Self.items self.now) ≡ Some result };
+
+    /// The first item whose path isn't before a text.
+    fn first_from(&self, text: &[u8]) -> Option<&Item>
+        requires { AreItemsInOrder (Self.items self.now) }
+        ensures { option_copied result ≡ first_from (Self.items self.now) text.now };
+
     /// Appends the items whose paths begin with a text.
     fn below(&self, prefix: &[u8], into: &mut Vec<Item>) -> Mem<()>
-        requires { AreItemsInOrder (items self.now) }
+        requires { AreItemsInOrder (Self.items self.now) }
         ensures { OnOk result (into.new.items
-            ≡ into.old.items ++ items_below (items self.now) prefix.now) };
+            ≡ into.old.items ++ items_below (Self.items self.now) prefix.now) };
 }
 
 impl Part for Item {
     ghost items = { λ item. item ∷ [] };
 
     ghost cost = { 1 };
+
+    ghost keyed = { λ _. refl };
 
     fn single(_alloc: Global, item: &Item) -> Mem<Item> {
         item.copy()
@@ -112,31 +127,11 @@ impl Part for Item {
 
     fn has_items(&self) {}
 
-    fn first_item(&self) -> &Item {
-        self
-    }
-
-    fn first_path(&self) -> &[u8] {
-        self.path()
-    }
-
-    fn begins_below(&self, prefix: &[u8]) -> bool {
-        begins_with(self, prefix)
-    }
-
     fn find<P: Sought<L>, L: Ledger>(&self, path: &P, steps: &mut Steps<L>) -> Option<&Item> {
-        if path.is_same(self.path(), steps) {
+        if path.is_same(self, steps) {
             Some(self)
         } else {
             None
-        }
-    }
-
-    fn first_from(&self, text: &[u8]) -> Option<&Item> {
-        if text_is_before(self.path(), text) {
-            None
-        } else {
-            Some(self)
         }
     }
 
@@ -178,12 +173,40 @@ impl Part for Item {
         }
     }
 
+    fn replace(&mut self, item: Item) -> Option<Item> {
+        match item.path().cmp(self.path()) {
+            Ordering::Equal => {
+                *self = item;
+                None
+            }
+            _ => Some(item),
+        }
+    }
+
     fn without(&self, _alloc: Global, path: &[u8]) -> Mem<Option<Item>> {
         if self.path() == path {
             return Ok(None);
         }
         let part = self.copy()?;
         Ok(Some(part))
+    }
+}
+
+impl Listed for Item {
+    fn first_item(&self) -> &Item {
+        self
+    }
+
+    fn begins_below(&self, prefix: &[u8]) -> bool {
+        begins_with(self, prefix)
+    }
+
+    fn first_from(&self, text: &[u8]) -> Option<&Item> {
+        if text_is_before(self.path(), text) {
+            None
+        } else {
+            Some(self)
+        }
     }
 
     fn below(&self, prefix: &[u8], into: &mut Vec<Item>) -> Mem<()> {

@@ -12,7 +12,7 @@ ghost use Rattle.row_pages.specs.Items.{first_item};
 ghost use Rattle.row_pages.specs.Nodes.{HaveItems};
 
 use crate::item::Item;
-use crate::part::Part;
+use crate::part::{Listed, Part};
 use crate::sought::{PathText, Sought};
 use crate::steps::Steps;
 use pod_base::Mem;
@@ -20,7 +20,7 @@ use std::alloc::Global;
 use std::marker::Brand;
 use std::sync::ledger::{Blank, Ledger};
 
-/// Whether the path is before the first one of the part.
+/// Whether the path is before the key of the part.
 fn is_before_part<T: Part, P: Sought<L>, L: Ledger>(
     path: &P,
     part: &T,
@@ -32,7 +32,8 @@ fn is_before_part<T: Part, P: Sought<L>, L: Ledger>(
         → IsTrue (starts_by (P.text path.now) (first_of (T.items part.now))) }
     ensures cost { steps.new ≡ steps.old + 1 }
 {
-    path.is_before(part.first_path(), steps)
+    part.has_items();
+    path.is_before(part, steps)
 }
 
 /// How many of the parts begin at the path or before it. The first `low` parts do, and those from
@@ -142,8 +143,8 @@ fn split_at_path<'a, T: Part>(parts: &'a [T], path: &[u8]) -> Option<Around<'a, 
     around_blank::<T, Brand>(parts, path, Blank::new(1))
 }
 
-/// The item at a path among parts in order. `steps` counts the comparisons of the path: at most as
-/// many as the number of parts has binary digits, and what a search in one part costs.
+/// The item at a path among parts in order. `steps` counts the keys that are read: at most as many
+/// as the number of parts has binary digits, and what a search in one part costs.
 pub(crate) fn find_in<'a, T: Part, P: Sought<L>, L: Ledger>(
     parts: &'a [T],
     path: &P,
@@ -331,6 +332,26 @@ pub(crate) fn into_with_in<T: Part>(alloc: Global, parts: Vec<T>, item: Item) ->
     Ok(all)
 }
 
+/// Puts an item in place of the one at its path, among parts that nobody shares. It is given back
+/// where there is none, and where memory further in is shared.
+pub(crate) fn replace_in<T: Part>(parts: &mut Vec<T>, item: Item) -> Option<Item>
+    requires { AreItemsInOrder (flat_map T.items parts.old.items) }
+    ensures put { IfNone result (flat_map T.items parts.new.items
+        ≡ put_item (flat_map T.items parts.old.items) item) }
+    ensures count { length (flat_map T.items parts.new.items)
+        ≡ length (flat_map T.items parts.old.items) }
+    ensures kept { IfSome result (λ _. parts.new.items ≡ parts.old.items) }
+    ensures back { IfSome result (λ other. other ≡ item) }
+    ensures few { length parts.new.items ≡ length parts.old.items }
+    ensures each { HaveItems T.items parts.old.items → HaveItems T.items parts.new.items }
+{
+    if parts.is_empty() {
+        return Some(item);
+    }
+    let place = place_of(parts.as_slice(), item.path());
+    parts[place].replace(item)
+}
+
 /// The parts without the item at the path.
 pub(crate) fn without_in<T: Part>(alloc: Global, parts: &[T], path: &[u8]) -> Mem<Vec<T>>
     requires { AreItemsInOrder (flat_map T.items parts.now) }
@@ -351,7 +372,7 @@ pub(crate) fn without_in<T: Part>(alloc: Global, parts: &[T], path: &[u8]) -> Me
 }
 
 /// Appends the items below a text, of parts after it. It stops at the first part that isn't below.
-fn below_after<T: Part>(parts: &[T], prefix: &[u8], into: &mut Vec<Item>) -> Mem<()>
+fn below_after<T: Listed>(parts: &[T], prefix: &[u8], into: &mut Vec<Item>) -> Mem<()>
     requires order { AreItemsInOrder (flat_map T.items parts.now) }
     requires after { AreAfter prefix.now (flat_map T.items parts.now) }
     ensures { OnOk result (into.new.items
@@ -368,7 +389,7 @@ fn below_after<T: Part>(parts: &[T], prefix: &[u8], into: &mut Vec<Item>) -> Mem
 }
 
 /// Appends the items whose paths begin with a text.
-pub(crate) fn below_in<T: Part>(parts: &[T], prefix: &[u8], into: &mut Vec<Item>) -> Mem<()>
+pub(crate) fn below_in<T: Listed>(parts: &[T], prefix: &[u8], into: &mut Vec<Item>) -> Mem<()>
     requires { AreItemsInOrder (flat_map T.items parts.now) }
     ensures { OnOk result (into.new.items
         ≡ into.old.items ++ items_below (flat_map T.items parts.now) prefix.now) }
@@ -382,7 +403,7 @@ pub(crate) fn below_in<T: Part>(parts: &[T], prefix: &[u8], into: &mut Vec<Item>
 }
 
 /// The first item of parts.
-fn first_item_in<T: Part>(parts: &[T]) -> Option<&Item>
+fn first_item_in<T: Listed>(parts: &[T]) -> Option<&Item>
     ensures { option_copied result ≡ first_item (flat_map T.items parts.entry.now) }
 {
     match parts.split_first() {
@@ -392,7 +413,7 @@ fn first_item_in<T: Part>(parts: &[T]) -> Option<&Item>
 }
 
 /// The first item whose path isn't before a text.
-pub(crate) fn first_from_in<'a, T: Part>(parts: &'a [T], text: &[u8]) -> Option<&'a Item>
+pub(crate) fn first_from_in<'a, T: Listed>(parts: &'a [T], text: &[u8]) -> Option<&'a Item>
     requires { AreItemsInOrder (flat_map T.items parts.now) }
     ensures { option_copied result ≡ first_from (flat_map T.items parts.entry.now) text.now }
 {

@@ -1,5 +1,6 @@
 //! [`Rows`]: items in byte order of their paths.
 ghost use Rattle.std.specs.Prelude.{◌≡◌, ◌+◌, ◌<◌, ◌≤◌, ◌^◌, [], ℕ, List, IfOk, length};
+ghost use Rattle.std.specs.Prelude.{IfNone, IfSome, OnErr, OnOk};
 ghost use Rattle.std.specs.Prelude.{option_copied, is_some, if◌then◌else◌};
 ghost use Rattle.row_pages.specs.Items.{AreItemsInOrder, Placed, item_at, put_item, remove_item};
 ghost use Rattle.row_pages.specs.Items.{items_below, first_from};
@@ -9,7 +10,9 @@ use crate::delimited::direct_in;
 use crate::item::Item;
 use crate::node::{Node, push_nodes};
 use crate::part::Part;
-use crate::parts::{below_in, find_in, first_from_in, into_with_in, put_in, share_all, without_in};
+use crate::parts::{
+    below_in, find_in, first_from_in, into_with_in, put_in, replace_in, share_all, without_in,
+};
 use crate::sought::{PathText, Sought};
 use crate::steps::Steps;
 use pod_base::{Mem, NoMemory};
@@ -68,8 +71,8 @@ impl Rows {
         let _books = self.books.as_slice();
     }
 
-    /// The item at a path, of which it knows [`Sought`] alone. `steps` counts the comparisons of the
-    /// path: at most 15 more than the binary digits of the number of items.
+    /// The item at a path, of which it knows [`Sought`] alone. `steps` counts the keys that are read,
+    /// each for one comparison: at most 15 more than the binary digits of the number of items.
     pub fn find_counted<P: Sought<L>, L: Ledger>(
         &self,
         path: &P,
@@ -153,6 +156,32 @@ impl Rows {
         let len = len_put(self.len, replaces)?;
         let books = into_with_in(alloc, self.books, item)?;
         Ok(Rows { books, len })
+    }
+
+    /// Puts an item in place of the one at its path, where nobody shares the pages that have it.
+    /// Else it is given back.
+    fn replaced(&mut self, item: Item) -> Option<Item>
+        ensures put { IfNone result (self.new ≡ put_item self.old item) }
+        ensures kept { IfSome result (λ _. self.new ≡ self.old) }
+        ensures back { IfSome result (λ other. other ≡ item) }
+    {
+        replace_in(&mut self.books, item)
+    }
+
+    /// [`Rows::put`] into these rows: what nobody shares is changed in place where it replaces an
+    /// item.
+    pub fn set(&mut self, alloc: Global, item: Item) -> Mem<()>
+        ensures put { OnOk result (self.new ≡ put_item self.old item) }
+        ensures kept { OnErr result (self.new ≡ self.old) }
+    {
+        match self.replaced(item) {
+            Some(item) => {
+                let rows = self.put(alloc, &item)?;
+                *self = rows;
+                Ok(())
+            }
+            None => Ok(()),
+        }
     }
 
     /// The items without the one at a path.

@@ -1,10 +1,10 @@
-//! [`Steps`]: a count of the comparisons that a search makes.
+//! [`Steps`]: a count of the keys that a search reads, each for one comparison.
 ghost use Rattle.std.specs.Prelude.{◌≡◌, ◌+◌, ◌<◌, ◌^◌};
 
 use std::marker::Model;
 use std::sync::ledger::{Blank, Book, Ledger, Share};
 
-/// How many comparisons of paths were made. Only [`Steps::tick`] changes it.
+/// How many keys were read, each for one comparison. Only [`Steps::tick`] changes it.
 #[derive(Drop)]
 pub struct Steps<L: Ledger> {
     book: Book<L>,
@@ -39,7 +39,7 @@ impl<L: Ledger> Steps<L> {
         }
     }
 
-    /// One more comparison.
+    /// One more key.
     pub fn tick(&mut self)
         ensures { self.new ≡ self.old + 1 }
     {
@@ -47,7 +47,7 @@ impl<L: Ledger> Steps<L> {
         self.count = self.count.saturating_add(1);
     }
 
-    /// How many comparisons were made, where that is under 2^64.
+    /// How many keys were read, where that is under 2^64.
     pub fn count(&self) -> u64
         ensures { self.now < 2 ^ 64 → result ≡ self.now }
     {
