@@ -1,16 +1,12 @@
-//! Entries in either format, and the version after one.
-ghost use Rattle.std.specs.Prelude.{◌≡◌, ◌+◌, None, IfOk, IfSome};
+//! Entries in either format.
+ghost use Rattle.std.specs.Prelude.{◌≡◌, None, IfOk, IfSome};
 ghost use Rattle.pod_command.specs.declared.entry.Entry.{Entry as EntryValue};
 ghost use Rattle.pod_records.specs.Readings.{IsEntryOf, IsEntryRead};
-ghost use Rattle.pod_rows.specs.Apply.{Applies, applied};
 ghost use Rattle.pod_follow.specs.Followed.{IsEntryText, IsTheEntry};
 
-use entry_fits::fits;
 use pod_base::{Mem, NoMemory};
 use pod_command::laws::one_form;
 use pod_command::{Entry, ReadBack, decode_entry, decode_entry_1};
-use pod_pages::Version;
-use pod_rows::PodState;
 use std::alloc::Global;
 
 /// The entry of a text in format 1; none where it is the text of none.
@@ -53,24 +49,5 @@ pub(crate) fn read_entry(alloc: Global, text: &[u8]) -> Mem<Option<Entry>>
             let old = read_old(alloc, text)?;
             Ok(old)
         }
-    }
-}
-
-/// The version after an entry; none where the entry doesn't apply.
-pub(crate) fn version_after(alloc: Global, version: &Version, entry: &Entry) -> Mem<Option<Version>>
-    ensures applies { IfOk result (λ found. IfSome found
-        (λ _. Applies version.now.pod version.now.next entry.now)) }
-    ensures pod { IfOk result (λ found. IfSome found
-        (λ after. after.pod ≡ applied version.now.pod entry.now)) }
-    ensures next { IfOk result (λ found. IfSome found
-        (λ after. after.next ≡ version.now.next + 1)) }
-    ensures none { IfOk result (λ found. found ≡ None
-        → Applies version.now.pod version.now.next entry.now → ⊥) }
-{
-    if fits(alloc, version, entry)? {
-        let after = version.after(alloc, entry)?;
-        Ok(Some(after))
-    } else {
-        Ok(None)
     }
 }

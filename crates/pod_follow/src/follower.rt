@@ -11,7 +11,8 @@ ghost use Rattle.reply_laws.specs.Granted.{is_change};
 ghost use Rattle.reply_laws.specs.Sent.{IsSent};
 ghost use Rattle.token_table.specs.Credentials.{asked_view};
 
-use crate::decoding::{read_entry, version_after};
+use crate::decoding::read_entry;
+use entry_fits::fits;
 use pod_base::{Bytes, Mem, Moment, NoMemory, Request, Response, Stamp};
 use pod_command::{Entry, ReadBack, Snapshot, decode_snapshot, encode_snapshot};
 use pod_core::{Replied, answer};
@@ -140,13 +141,11 @@ impl Follower {
         ensures took { IfOk result (TakesEntry self.old entry.now self.new) }
         ensures kept { OnErr result (self.new ≡ self.old) }
     {
-        let after = version_after(alloc, &self.version, entry)?;
-        match after {
-            Some(version) => {
-                self.version = version;
-                Ok(Took::Applied)
-            }
-            None => Ok(Took::Unfit { seq: entry.seq }),
+        if fits(alloc, &self.version, entry)? {
+            self.version.advance(alloc, entry)?;
+            Ok(Took::Applied)
+        } else {
+            Ok(Took::Unfit { seq: entry.seq })
         }
     }
 

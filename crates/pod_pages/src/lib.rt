@@ -11,10 +11,11 @@
 //! keeps; they say nothing of pages. Proved: `of` refuses exactly the snapshots that aren't
 //! well-formed (`refused`, `well_formed`); a version has all that a [`pod_rows::PodState`] has;
 //! `after` is the version after an entry (`Version::after_entry`), and so is [`Replay::after`],
-//! which changes in place what nobody looks at; `find_counted` finds the row and the access list
-//! that governs it, and compares the path at most 16 times more than the number of rows has binary
-//! digits (`cost`); a copy is equal (`Version::share`). [`laws`] says what a version is after a history.
-//! No clause says which memory is shared.
+//! which changes in place what nobody looks at; [`Version::advance`] makes a version the next one,
+//! without effects, and leaves it as it was where it fails (`version`, `kept`); `find_counted`
+//! finds the row and the access list that governs it, and compares the path at most 16 times more
+//! than the number of rows has binary digits (`cost`); a copy is equal (`Version::share`). [`laws`]
+//! says what a version is after a history. No clause says which memory is shared.
 //!
 //! The crate stands on `row_pages`, `access_index`, `pod_rows`, `slug_naming`, `acl_rules`,
 //! `pod_command`, `rdf_graph`, `pod_path`, `iri_ref` and `pod_base`.
@@ -38,5 +39,5 @@ mod version;
 pub use effects::{Effect, EffectKind};
 pub use limits::EFFECTS_ENTRIES_LIMIT;
 pub use replay::Replay;
-pub use row_pages::{Sought, Steps};
+pub use row_pages::{Keyed, Sought, Steps};
 pub use version::Version;

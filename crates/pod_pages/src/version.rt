@@ -1,6 +1,6 @@
 //! [`Version`]: a state of a pod in pages that versions share.
 ghost use Rattle.std.specs.Prelude.{◌≡◌, ◌+◌, ◌<◌, ◌≤◌, ◌^◌, ◌++◌, ℕ, [], IfOk, IfNone, IfSome};
-ghost use Rattle.std.specs.Prelude.{IsErrOf, OnOk};
+ghost use Rattle.std.specs.Prelude.{IsErrOf, OnErr, OnOk};
 ghost use Rattle.std.specs.Prelude.{List as ListOf, None, Some, filter, is_some, length, map, refl};
 ghost use Rattle.std.specs.Prelude.{true};
 ghost use Rattle.pod_command.specs.Encodable.{AreInOrder};
@@ -41,8 +41,8 @@ use std::alloc::Global;
 use std::marker::Model;
 use std::sync::ledger::Ledger;
 
-/// A state of a pod. It isn't changed: [`PodState::after`] makes a new one, which shares with it
-/// all pages, rows and access lists that stay.
+/// A state of a pod. [`PodState::after`] makes a new one, which shares with it all pages, rows and
+/// access lists that stay; [`Version::advance`] changes this one, and in place what nobody shares.
 #[derive(Drop)]
 pub struct Version {
     next: u64,
@@ -373,9 +373,36 @@ impl Version {
         self.after_with(alloc, entry, oldest, kept)
     }
 
+    /// The version becomes the one after an entry that applies to it, without effects. An entry that
+    /// puts one row alone, and no access list, changes in place what no other version shares. Out of
+    /// memory, the version stays as it was.
+    pub fn advance(&mut self, alloc: Global, entry: &Entry) -> Mem<()>
+        requires { Applies self.old.pod self.old.next entry.now }
+        ensures version { OnOk result (self.new
+            ≡ with_effects [] (state_after self.old entry.now)) }
+        ensures kept { OnErr result (self.new ≡ self.old) }
+    {
+        match placing_of(alloc, &self.rows, entry)? {
+            Some(placing) => {
+                let oldest = self.next_oldest();
+                self.rows.set(alloc, placing.item)?;
+                self.next += 1;
+                self.effects.clear();
+                self.oldest = oldest;
+                Ok(())
+            }
+            None => {
+                let (next, _effects) = self.bare_after(alloc, entry)?;
+                *self = next;
+                Ok(())
+            }
+        }
+    }
+
     /// The number of the oldest entry whose effects are kept after the next one.
     fn next_oldest(&self) -> u64
-        ensures { result ≡ oldest_after self.now.oldest (self.now.next + 1) }
+        ensures oldest { result ≡ oldest_after self.now.oldest (self.now.next + 1) }
+        ensures most { self.now.oldest ≤ self.now.next }
     {
         oldest_after(self.oldest, self.next + 1)
     }
@@ -423,11 +450,23 @@ impl Version {
         ensures effects { OnOk result (effects.new.items
             ≡ effects.old.items ++ entry_effects self.pod entry.now) }
     {
-        let oldest = self.next_oldest();
-        let next = self.after_with(alloc, entry, oldest, Vec::new(alloc))?;
-        let (bare, mut new) = next.into_bare(alloc);
+        let (bare, mut new) = self.bare_after(alloc, entry)?;
         effects.append(&mut new)?;
         Ok(bare)
+    }
+
+    /// The version after an entry that applies, without effects, and the effects of the entry.
+    fn bare_after(&self, alloc: Global, entry: &Entry) -> Mem<(Version, Vec<Effect>)>
+        requires { Applies self.now.pod self.now.next entry.now }
+        ensures version { IfOk result (λ after. after.0
+            ≡ with_effects [] (state_after self.now entry.now)) }
+        ensures effects { IfOk result (λ after. after.1.items
+            ≡ entry_effects self.now.pod entry.now) }
+    {
+        let oldest = self.next_oldest();
+        let next = self.after_with(alloc, entry, oldest, Vec::new(alloc))?;
+        let (bare, new) = next.into_bare(alloc);
+        Ok((bare, new))
     }
 
     /// The version with these effects in place of its own.

@@ -24,7 +24,7 @@ invariant_of-result c =
     c.self.invariant
     (subst (λ (s : VersionState). Applies s.pod s.next c.args.entry.now) (sym c.self.view_is) c.requires)
     p c.in_ok-rows-in-Some.ensures.rows c.new.ensures.items
-    (c.next_oldest-oldest.ensures ∙ ap (λ (s : VersionState). oldest_after s.oldest (s.next + 1)) (sym c.self.view_is)) in
+    (c.next_oldest-oldest.ensures.oldest ∙ ap (λ (s : VersionState). oldest_after s.oldest (s.next + 1)) (sym c.self.view_is)) in
     all.kept
 
 pub returns-in_ok-rows-in-Some-clause-version : goal.returns-in_ok-rows-in-Some-clause-version
@@ -36,7 +36,7 @@ returns-in_ok-rows-in-Some-clause-version c =
     c.self.invariant
     (subst (λ (s : VersionState). Applies s.pod s.next c.args.entry.now) (sym c.self.view_is) c.requires)
     p c.in_ok-rows-in-Some.ensures.rows c.new.ensures.items
-    (c.next_oldest-oldest.ensures ∙ ap (λ (s : VersionState). oldest_after s.oldest (s.next + 1)) (sym c.self.view_is)) in
+    (c.next_oldest-oldest.ensures.oldest ∙ ap (λ (s : VersionState). oldest_after s.oldest (s.next + 1)) (sym c.self.view_is)) in
     all.is ∙ ap (λ (s : VersionState). with_effects [] (state_after s c.args.entry.now)) c.self.view_is
 
 pub returns-in_ok-rows-in-Some-clause-effects : goal.returns-in_ok-rows-in-Some-clause-effects
