@@ -3,7 +3,7 @@ use Rattle.std.proofs.Common.{◌≡◌, ◌⊎◌, inl, inr, ℕ, List, Option,
 use Rattle.std.specs.Prelude.{IsErr}
 use Rattle.journal_log.specs.declared.fault.OpenFault.{OpenFault}
 use Rattle.journal_log.specs.declared.fault.OpenFault.TheVariants as opening
-use Rattle.line_sink.specs.Writing.{Writes}
+use Rattle.line_sink.specs.Writing.{ExtendsBy, ExtendsByPart, Writes}
 use Rattle.pod_base.specs.Counts.{CountIncreased}
 use Rattle.pod_command.specs.declared.entry.Entry.{Entry}
 use Rattle.pod_command.specs.declared.snapshot.Snapshot.{Snapshot}
@@ -16,7 +16,7 @@ use Rattle.store_lines.specs.Refusals.{TellsRefusal}
 use Rattle.store_commands.specs.Prints.{IsStoreOf, Prints, Tells}
 use Rattle.store_commands.specs.declared.ends.StoreEnd.{StoreEnd}
 use Rattle.store_commands.specs.declared.ends.StoreEnd.TheVariants as ends
-use Rattle.follow_commands.specs.Endings.{IsReportedSo, refused_end, written_end}
+use Rattle.follow_commands.specs.Endings.{AreStored, IsReportedSo, refused_end, written_end}
 use Rattle.follow_commands.specs.Ships.{Ships}
 
 -- ---- a store that wasn't opened
@@ -64,14 +64,28 @@ store_of image first second bodies keeper h = record {
   stands = h.stands;
 }
 
-module _ {D : Type 0} (image : D → List ℕ → Type 0) (first second : Option (List ℕ)) (bodies : List (List ℕ)) (keeper : KeeperState D) (h : IsOpened image first second bodies keeper) (old new : Option (List ℕ)) where
-  -- its frames were written
-  pub ships : (written : Result (Unit {0}) Failed) → Writes written (frames_of bodies) old new → Ships first second old new (written_end written)
-  unfolding store_of
-  ships (Ok done) w = record { snapshot = h.snapshot; entries = h.entries; opened = store_of image first second bodies keeper h; shipped = w.whole }
-  ships (Err failed) w = record { snapshot = h.snapshot; entries = h.entries; opened = store_of image first second bodies keeper h; shipped = w.part }
+pub are_stored : {D : Type 0} (image : D → List ℕ → Type 0) (first second : Option (List ℕ)) (bodies : List (List ℕ)) (keeper : KeeperState D) → IsOpened image first second bodies keeper → AreStored first second bodies
+unfolding store_of
+are_stored image first second bodies keeper h = record { snapshot = h.snapshot; entries = h.entries; opened = store_of image first second bodies keeper h; taken = refl }
 
-  -- a text of it was
+-- the frames of its records were written
+pub ships : (first second : Option (List ℕ)) (bodies : List (List ℕ)) → AreStored first second bodies → (old new : Option (List ℕ)) (written : Result (Unit {0}) Failed) → Writes written (frames_of bodies) old new
+    → Ships first second old new (written_end written)
+ships first second bodies s old new (Ok done) w = record {
+  snapshot = s.snapshot;
+  entries = s.entries;
+  opened = s.opened;
+  shipped = subst (λ (bs : List (List ℕ)). ExtendsBy (frames_of bs) old new) (sym s.taken) w.whole;
+}
+ships first second bodies s old new (Err failed) w = record {
+  snapshot = s.snapshot;
+  entries = s.entries;
+  opened = s.opened;
+  shipped = subst (λ (bs : List (List ℕ)). ExtendsByPart (frames_of bs) old new) (sym s.taken) w.part;
+}
+
+module _ {D : Type 0} (image : D → List ℕ → Type 0) (first second : Option (List ℕ)) (bodies : List (List ℕ)) (keeper : KeeperState D) (h : IsOpened image first second bodies keeper) (old new : Option (List ℕ)) where
+  -- a text of it was written
   pub prints : (text : Snapshot → List Entry → List ℕ) (end : StoreEnd) → IsReportedSo (text h.snapshot h.entries) old new end → Prints text first second old new end
   prints text ends.Done w = record { snapshot = h.snapshot; entries = h.entries; opened = store_of image first second bodies keeper h; printed = w }
   prints text ends.WriteFault w = record { snapshot = h.snapshot; entries = h.entries; opened = store_of image first second bodies keeper h; count = w.0; printed = w.2 }

@@ -1,9 +1,13 @@
--- How a command ends whose store wasn't opened, or whose output was written.
+-- How a command ends whose store wasn't opened, or whose output was written, and what was read of
+-- one that was opened.
 use Rattle.std.specs.Prelude.{◌≡◌, ℕ, List, Option, Result, Ok, Err}
 use Rattle.journal_log.specs.declared.fault.OpenFault.{OpenFault}
 use Rattle.journal_log.specs.declared.fault.OpenFault.TheVariants as opening
 use Rattle.line_sink.specs.Writing.{ExtendsBy, ExtendsByPart}
+use Rattle.pod_command.specs.declared.entry.Entry.{Entry}
+use Rattle.pod_command.specs.declared.snapshot.Snapshot.{Snapshot}
 use Rattle.pod_io.specs.declared.source.Failed.{Failed}
+use Rattle.store_commands.specs.Prints.{IsStoreOf}
 use Rattle.store_commands.specs.declared.ends.StoreEnd.{StoreEnd}
 use Rattle.store_commands.specs.declared.ends.StoreEnd.TheVariants as ends
 
@@ -24,3 +28,10 @@ IsReportedSo text old new ends.Done = ExtendsBy text old new
 IsReportedSo text old new ends.WriteFault = ExtendsByPart text old new
 IsReportedSo text old new ends.NoMemory = new ≡ old
 IsReportedSo text old new _ = ⊥
+
+-- These are the records of the journal that is taken, and hold a snapshot and entries.
+pub record AreStored (first second : Option (List ℕ)) (bodies : List (List ℕ)) : Type 0 where
+  pub snapshot : Snapshot
+  pub entries : List Entry
+  pub opened : IsStoreOf first second snapshot entries
+  pub taken : opened.bodies ≡ bodies

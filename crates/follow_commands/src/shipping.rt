@@ -1,20 +1,22 @@
 //! Shipping the records of a store.
-ghost use Rattle.std.specs.Prelude.{◌≡◌, ◌⊎◌, ◌≤◌};
+ghost use Rattle.std.specs.Prelude.{◌≡◌, ◌⊎◌, ◌≤◌, IfErr, IfOk};
 ghost use Rattle.line_sink.specs.Writing.{Writes};
 ghost use Rattle.pod_base.specs.Counts.{CountIncreased};
 ghost use Rattle.pod_follow.specs.Frames.{frame_of, frames_of};
 ghost use Rattle.pod_io.specs.Counts.{CountsFaults};
 ghost use Rattle.pod_keeper.specs.OpenedPods.{OpensDisks};
+ghost use Rattle.pod_records.specs.OpenedStores.{HasPodCause};
+ghost use Rattle.follow_commands.specs.Endings.{AreStored};
 ghost use Rattle.follow_commands.specs.Ships.{Ships};
 ghost use Rattle.store_commands.specs.Prints.{Tells};
 
 use crate::ends::{refuse, written_end};
 use line_sink::write_all;
-use pod_base::Bytes;
+use pod_base::{Bytes, List};
 use pod_disk::{Disk, Disks};
 use pod_follow::frame_head;
 use pod_io::{Failed, Sink};
-use pod_keeper::Keeper;
+use pod_keeper::{Keeper, NotOpened};
 use std::alloc::Global;
 use store_commands::{Ended, StoreEnd};
 
@@ -37,6 +39,31 @@ fn write_frames<K: Sink>(output: &mut K, records: &[Bytes]) -> Result<(), Failed
         write_frame(output, record.as_slice())?;
     }
     Ok(())
+}
+
+/// The records of a store's active journal, and the disks as an opening leaves them.
+fn stored_records<D: Disk>(
+    alloc: Global,
+    disks: Disks<D>,
+) -> Result<(List<Bytes>, Disks<D>), NotOpened<D>>
+    ensures records { IfOk result (λ read. AreStored (D.content disks.first)
+        (D.content disks.second) read.0.items) }
+    ensures cause { IfErr result (λ refused.
+        HasPodCause (D.content disks.first) (D.content disks.second)
+        (D.faults disks.first) (D.faults refused.disks.first)
+        (D.faults disks.second) (D.faults refused.disks.second) refused.fault) }
+    ensures disks { IfOk result (λ read. OpensDisks D.image D.moment D.left_since D.faults
+        disks.first disks.second read.1.first read.1.second) }
+    ensures refused { IfErr result (λ refused. OpensDisks D.image D.moment D.left_since D.faults
+        disks.first disks.second refused.disks.first refused.disks.second) }
+{
+    match Keeper::open_records(alloc, disks) {
+        Ok((keeper, records)) => {
+            let disks = keeper.close();
+            Ok((records, disks))
+        }
+        Err(refused) => Err(refused),
+    }
 }
 
 /// Opens a store and writes the frame of each record of its active journal: first the snapshot with
@@ -70,12 +97,12 @@ pub fn ship<D: Disk, K: Sink, E: Sink>(
     ensures writes { K.faults output.old ≤ K.faults output.new }
     ensures tells { E.faults errors.old ≤ E.faults errors.new }
 {
-    match Keeper::open_records(alloc, disks) {
-        Ok((keeper, records)) => {
+    match stored_records(alloc, disks) {
+        Ok((records, disks)) => {
             let written = write_frames(output, records.as_slice());
             Ended {
                 end: written_end(written),
-                disks: keeper.close(),
+                disks,
             }
         }
         Err(refused) => refuse(refused, errors),

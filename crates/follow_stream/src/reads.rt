@@ -4,7 +4,10 @@ ghost use Rattle.pod_base.specs.declared.agent.Agent.{Agent as AgentValue};
 ghost use Rattle.pod_base.specs.declared.moment.Moment.{Moment as MomentValue};
 ghost use Rattle.pod_base.specs.declared.request.Request.{Request as RequestValue};
 ghost use Rattle.pod_command.specs.declared.read_back.ReadBack.TheVariants.{NotCanonical};
+ghost use Rattle.http_out.specs.Text as sent;
+ghost use Rattle.moment_date.specs.Dates.{date_text};
 ghost use Rattle.reply_laws.specs.Granted as granted;
+ghost use Rattle.reply_laws.specs.Sent.{IsSent};
 ghost use Rattle.request_fields.specs.Upgrades as upgrades;
 ghost use Rattle.token_table.specs.Credentials.{asked_view};
 ghost use Rattle.follow_stream.specs.Reads.{IsRead, IsReadRequest, IsReadText, IsResponseText};
@@ -14,7 +17,7 @@ use crate::parts::read_head;
 use http_conn::laws::one_parse;
 use http_conn::one_request;
 use http_out::bytes_of;
-use pod_base::{Agent, Bytes, Mem, Moment, NoMemory, Request};
+use pod_base::{Agent, Bytes, Mem, Moment, NoMemory, Request, Response};
 use pod_command::ReadBack;
 use pod_core::is_change;
 use pod_follow::Follower;
@@ -91,7 +94,16 @@ fn asked_of(agent: &Agent) -> Asked<'_>
     }
 }
 
-/// The bytes of the response to a read, on a connection that stays open.
+/// The bytes of a response, on a connection that stays open.
+fn sent_text(alloc: Global, response: &Response, moment: Moment) -> Mem<Bytes>
+    requires { IsSent response.now }
+    ensures { IfOk result (λ text. text
+        ≡ sent.response_text response.now (date_text moment.0) false) }
+{
+    bytes_of(alloc, response, moment, false)
+}
+
+/// The bytes of the response to a read.
 fn response_text(alloc: Global, follower: &Follower, read: &Read) -> Mem<Bytes>
     requires { granted.is_change read.now.request.method ≡ false }
     ensures { IfOk result (λ text. IsResponseText follower.now read.now.agent read.now.moment
@@ -99,7 +111,7 @@ fn response_text(alloc: Global, follower: &Follower, read: &Read) -> Mem<Bytes>
 {
     let asked = asked_of(&read.agent);
     let response = follower.read(alloc, &read.request, &asked, read.moment)?;
-    bytes_of(alloc, &response, read.moment, false)
+    sent_text(alloc, &response, read.moment)
 }
 
 /// The bytes of the response to the read that the body of a frame is; none where it is no read.

@@ -8,13 +8,12 @@ use Rattle.follow_commands.proofs.shipping.ship.Goals as goal
 
 pub returns-in-Ok-clause-ships : goal.returns-in-Ok-clause-ships
 returns-in-Ok-clause-ships g c =
-    let h = c.in-Ok.ensures.opened in
     let first = g.D.Disk.content c.args.disks.first in
     let second = g.D.Disk.content c.args.disks.second in
     let old = g.K.Sink.taken c.args.output.now in
     let new = g.K.Sink.taken c.write_frames-written.new.output in
     subst (λ end. Ships first second old new end) (sym c.written_end.ensures)
-    (ships g.D.Disk.image first second c.in-Ok.records.items c.in-Ok.keeper h old new c.write_frames-written.result
+    (ships first second c.in-Ok.records.items c.in-Ok.ensures.records old new c.write_frames-written.result
     (subst (λ records. Writes c.write_frames-written.result (frames_of records) old new) c.as_slice.ensures c.write_frames-written.ensures.writes))
 
 pub returns-in-Err-clause-ships : goal.returns-in-Err-clause-ships

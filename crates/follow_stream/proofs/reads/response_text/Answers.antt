@@ -1,7 +1,5 @@
-use Rattle.std.proofs.Common.{false, ap, subst, ◌∙◌}
+use Rattle.std.proofs.Common.{subst}
 use Rattle.std.proofs.lemmas.Result.{IfOk-weaker}
-use Rattle.conn_talk.proofs.TurnLemmas.{dated}
-use Rattle.http_out.specs.Text.{response_text}
 use Rattle.pod_follow.specs.Followed.{read_stamp}
 use Rattle.pod_reply.specs.Reply.{IsReply}
 use Rattle.pod_reply.specs.Replies.{unchanged}
@@ -13,10 +11,10 @@ returns c =
     let response = c.in_ok-response.response in
     let follower = c.args.follower.now in
     let read = c.args.read.now in
-    IfOk-weaker c.bytes_of.result _ _
+    IfOk-weaker c.sent_text.result _ _
     (λ text is. record {
       response = response;
       reply = subst (λ (asked : AskedAgent). IsReply follower.pod read.request asked follower.next (read_stamp read.moment) (unchanged response)) c.asked_of-asked.ensures c.in_ok-response.ensures.reply;
-      text_is = is.2 ∙ ap (λ date. response_text response date false) (dated read.moment.0 is.0 is.1);
+      text_is = is;
     })
-    c.bytes_of.ensures
+    c.sent_text.ensures
