@@ -41,12 +41,14 @@ module _ (connections : List Connection) (conn : ℕ) (from new : Connection) (i
           is_there = ap (numbered (set connections conn new)) same ∙ get_set connections conn new (slice_get_within connections conn from is);
           next = keeps holder.item.request h.changes (subst (λ (c : Connection). IsNextEvent c (heard.Request holder.item.request)) that h.next);
           changes = h.changes;
+          storable = h.storable;
         }
     | false ↦ λ e. record {
       connection = h.connection;
       is_there = numbered_other connections conn holder.conn new (λ same. grind (arith, nat_tests)) ∙ h.is_there;
       next = h.next;
       changes = h.changes;
+      storable = h.storable;
     }
   ] refl
 

@@ -4,8 +4,10 @@ use Rattle.std.specs.Option.{option_map_or}
 use Rattle.std.proofs.lemmas.Bool.Decides.{nat_tests}
 use Rattle.std.proofs.lemmas.List.{append-nil, map_push}
 use Rattle.std.proofs.lemmas.Option.{slice_get_within}
+use Rattle.journal_log.specs.CleanJournal.{IsShort}
 use Rattle.journal_log.specs.Frames.{opened, sized}
 use Rattle.journal_log.specs.Heads.{encoded_head}
+use Rattle.pod_command.specs.Storable.{IsStorableSnapshot}
 use Rattle.pod_command.specs.StoredForms.{entry_bytes, snapshot_bytes}
 use Rattle.pod_command.specs.declared.entry.Entry.{Entry}
 use Rattle.pod_command.specs.declared.snapshot.Snapshot.{Snapshot}
@@ -17,8 +19,10 @@ use Rattle.pod_core.specs.WorldImages.{journal_of, journal_records, start_snapsh
 use Rattle.pod_pages.specs.State.{VersionState, first_state, state_after}
 use Rattle.pod_rows.specs.Apply.{applied, replayed}
 use Rattle.pod_rows.specs.Pod.{Pod}
+use Rattle.pod_rows.specs.WellFormed.{IsWellFormedSnapshot}
 use Rattle.request_history.proofs.Numbered.{is_within}
 use Rattle.request_history.specs.Keepers.{AppliesAtEnd, AreLater, IsKeeper, IsPending, IsVersionAt, first_history, first_view, history_of}
+use Rattle.world_laws.specs.CrashedWorlds.{IsRecordableHistory}
 
 -- ---- the journal
 
@@ -37,6 +41,16 @@ journal_longer history entry journal e =
 journal_first : (first : Snapshot) → journal_of (first_history first) ≡ encoded_head 2 1 ++ (1 ∷ sized (snapshot_bytes first))
 unfolding snapshot_bytes
 journal_first first = ap (λ t. encoded_head 2 1 ++ t) (append-nil (1 ∷ sized (snapshot_bytes first)))
+
+-- a journal can hold the first pod
+pub first_recordable : (first : Snapshot) → IsWellFormedSnapshot first → IsStorableSnapshot first → IsShort (snapshot_bytes first) → IsRecordableHistory (first_history first)
+unfolding snapshot_bytes
+first_recordable first fine stored short = record {
+  number = fine.number;
+  storable = record { seq = stored.seq; base = stored.base; owner = stored.owner; rows = stored.rows; order = stored.order };
+  short = short;
+  entries = tt;
+}
 
 -- ---- the first keeper
 

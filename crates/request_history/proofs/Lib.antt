@@ -18,3 +18,4 @@ mod Keepers
 mod KeeperMoves
 mod FirstWorlds
 mod Outcomes
+mod Storing

@@ -4,6 +4,7 @@ use Rattle.std.specs.Option.{option_map}
 use Rattle.pod_base.specs.declared.moment.Stamp.{Stamp}
 use Rattle.pod_base.specs.declared.request.Request.{Request}
 use Rattle.pod_command.specs.Bare.{bare_entry}
+use Rattle.pod_command.specs.Storable.{IsStorable}
 use Rattle.pod_command.specs.StoredForms.{entry_bytes, origin_bytes, request_bytes}
 use Rattle.pod_command.specs.declared.entry.Entry.{Entry}
 use Rattle.pod_core.specs.History.{History, end_of, pod_at}
@@ -50,10 +51,13 @@ pub bare_bytes : (entry : Entry) → entry_bytes (bare_entry entry) ≡ entry_by
 unfolding entry_bytes origin_bytes request_bytes
 bare_bytes entry = refl
 
+pub bare_storable : (entry : Entry) → IsStorable entry → IsStorable (bare_entry entry)
+bare_storable entry s = record { seq = s.seq; conn = s.conn; number = s.number; agent = s.agent; moment = s.moment; method = s.method; path = s.path; edits = s.edits; bases = s.bases }
+
 -- ---- what becomes of a change
 
 -- with an entry
-module _ (conn number moment place : ℕ) (request kept_request : Request) (asked : AskedAgent) (replied : Replied) (entry kept : Entry) (same : kept_request ≡ request) (is : replied.entry ≡ Some entry) (k : kept ≡ bare_entry entry) where
+module _ (conn number moment place : ℕ) (request kept_request : Request) (asked : AskedAgent) (replied : Replied) (entry kept : Entry) (same : kept_request ≡ request) (is : replied.entry ≡ Some entry) (k : kept ≡ bare_entry entry) (storable : IsStorable kept) where
   has : (reply_of replied).entry ≡ Some kept
   has = ap (option_map bare_entry) is ∙ ap Some (sym k)
 
@@ -72,6 +76,7 @@ module _ (conn number moment place : ℕ) (request kept_request : Request) (aske
       item = item_of (same i) number asked moment place (record { response = replied.response; entry = sym has i });
       entry = kept;
     },
+    storable,
   )
 
 -- without one

@@ -79,7 +79,7 @@ module _ (parts : Parts) (fine : IsWorld parts) (runs : parts.stopped ≡ false)
           published = fine.published;
           seen = fine.seen;
           rests = fine.rests;
-          holds = subst (HoldsNext parts.connections.items) (sym c.1) (record { connection = t.from; is_there = t.is_there; next = k.next; changes = k.changes });
+          holds = subst (HoldsNext parts.connections.items) (sym c.1) (record { connection = t.from; is_there = t.is_there; next = k.next; changes = k.changes; storable = c.2 });
         };
         tokens = refl;
         steps = subst (λ (h : Holder). world.WorldStep any_second (asking_of parts.tokens) (world_of parts) (world.take (suc conn) moment) (world_at (record parts.keeper { phase = keeper.taken h }) parts.published parts.connections.items parts.stopped)) (sym c.1) step;

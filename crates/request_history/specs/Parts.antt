@@ -4,6 +4,7 @@ use Rattle.std.specs.Prelude.{Some, None, IfSome, slice_get, slice_set}
 use Rattle.std.specs.List.{AllByRecursion}
 use Rattle.pod_base.specs.declared.heard.Heard.{Heard}
 use Rattle.pod_base.specs.declared.heard.Heard.TheVariants as heard
+use Rattle.pod_command.specs.Storable.{IsStorable}
 use Rattle.pod_core.specs.History.{end_of}
 use Rattle.pod_core.specs.KeeperSteps as keeper
 use Rattle.pod_core.specs.KeeperSteps.{Holder}
@@ -24,12 +25,13 @@ use Rattle.request_history.specs.declared.parts.Replaced.{Replaced}
 
 -- ---- what holds of them
 
--- The change of the holder of the lock is next on its connection.
+-- The change of the holder of the lock is next on its connection, and its entry has a stored form.
 pub record HoldsNext (connections : List world.Connection) (holder : Holder) : Type 0 where
   pub connection : world.Connection
   pub is_there : numbered connections holder.conn ≡ Some connection
   pub next : world.IsNextEvent connection (heard.Request holder.item.request)
   pub changes : is_change holder.item.request.method ≡ true
+  pub storable : IsStorable holder.entry
 
 -- The connection has seen no place before this one.
 abbrev pub HasSeen : ℕ → world.Connection → Type 0

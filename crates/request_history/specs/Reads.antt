@@ -6,6 +6,7 @@ use Rattle.pod_base.specs.declared.moment.Stamp.{Stamp}
 use Rattle.pod_base.specs.declared.heard.Heard.{Heard}
 use Rattle.pod_base.specs.declared.heard.Heard.TheVariants as heard
 use Rattle.pod_base.specs.declared.request.Request.{Request}
+use Rattle.pod_command.specs.Storable.{IsStorable}
 use Rattle.pod_core.specs.History.{History, end_of, pod_at}
 use Rattle.pod_core.specs.KeeperSteps.{IsReplyAtEnd, item_at_end}
 use Rattle.pod_core.specs.Output.{closes_after, item_text}
@@ -69,10 +70,11 @@ LooksAs asking history conn place moment from (Some answer) =
 
 -- ---- changes
 
--- With an entry it holds the lock. Without one it is answered.
+-- With an entry it holds the lock, and that entry has a stored form. Without one it is answered.
 abbrev pub Becomes : ℕ → Item → Reply → Change → Type 0
 Becomes conn item reply (outcomes.Held holder) = (reply.entry ≡ Some holder.entry)
     × (holder ≡ record { conn = conn; item = item; entry = holder.entry })
+    × IsStorable holder.entry
 Becomes conn item reply (outcomes.Answered answer) = (reply.entry ≡ None)
     × (answer.text ≡ item_text item) × (answer.switched ≡ upgrades item.outcome)
 Becomes conn item reply outcomes.Stays = ⊥

@@ -10,6 +10,7 @@ use Rattle.request_history.specs.declared.event.Event.TheVariants as events
 use Rattle.request_history.specs.declared.phase.Step.{Step}
 use Rattle.request_history.specs.declared.phase.Step.TheVariants as steps
 use Rattle.request_history.specs.declared.parts.Parts.{Parts}
+use Rattle.world_laws.specs.CrashedWorlds.{WritesStorable}
 
 -- The clock may give any moment.
 abbrev pub any_second : ℕ → Type 0
@@ -58,6 +59,11 @@ world_of parts = record {
 abbrev pub Steps : Parts → world.Event → Parts → Type 0
 Steps old event new =
     world.WorldStep any_second (asking_of old.tokens) (world_of old) event (world_of new)
+
+-- Where the step writes the record of an entry, the entry has a stored form.
+abbrev pub StepsStorable : Parts → world.Event → Parts → Type 0
+StepsStorable old event new = (step : Steps old event new)
+    → WritesStorable any_second (asking_of old.tokens) (world_of old) event step.done step.does
 
 -- By the event it becomes no world.
 abbrev pub HasNoStep : Parts → world.Event → Type 0

@@ -1,9 +1,11 @@
 //! The bytes of a journal, and the images that a crash may leave of it.
 ghost use Rattle.std.specs.Prelude.{◌≡◌, ◌++◌, ◌∷◌, ℕ, List as Items, false, IsTrue, IfOk};
 ghost use Rattle.std.specs.Prelude.{IfNone, IfSome};
+ghost use Rattle.journal_log.specs.CleanJournal.{IsShort};
 ghost use Rattle.journal_log.specs.Frames.{BeginsWithClosedGate, framed_of, sized};
 ghost use Rattle.journal_log.specs.Gates.{IsClosed, IsOpening};
 ghost use Rattle.journal_log.specs.Heads.{encoded_head};
+ghost use Rattle.pod_command.specs.Storable.{IsStorableSnapshot};
 ghost use Rattle.pod_command.specs.StoredForms.{snapshot_bytes};
 ghost use Rattle.pod_rows.specs.WellFormed.{IsWellFormedSnapshot};
 ghost use Rattle.request_history.specs.Images.{IsGatedRecord, IsRecord};
@@ -35,10 +37,15 @@ pub(crate) fn with_record(alloc: Global, journal: &[u8], body: &[u8]) -> Mem<Byt
 /// The journal of a pod without entries.
 pub(crate) fn first_journal(alloc: Global, first: &Snapshot) -> Mem<Bytes>
     requires { IsWellFormedSnapshot first.now }
-    ensures { IfOk result (λ journal. journal
+    ensures is { IfOk result (λ journal. journal
         ≡ encoded_head 2 1 ++ (1 ∷ sized (snapshot_bytes first.now))) }
+
+    // So a journal can hold the pod.
+    ensures storable { IfOk result (λ _. IsStorableSnapshot first.now) }
+    ensures short { IfOk result (λ _. IsShort (snapshot_bytes first.now)) }
 {
     let body = encode_snapshot(alloc, first)?;
+    let _len = body.as_slice().len();
     let journal = with_record(alloc, head(), body.as_slice())?;
     Ok(journal)
 }

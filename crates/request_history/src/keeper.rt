@@ -11,8 +11,9 @@ ghost use Rattle.pod_core.specs.KeeperSteps as keeper;
 ghost use Rattle.pod_core.specs.World.{holder_in};
 ghost use Rattle.pod_core.specs.WorldImages.{IsAllowedImage, journal_of};
 ghost use Rattle.pod_rows.specs.WellFormed.{IsWellFormedSnapshot};
-ghost use Rattle.request_history.specs.Keepers.{AppliesAtEnd, Opens, first_view};
+ghost use Rattle.request_history.specs.Keepers.{AppliesAtEnd, Opens, first_history, first_view};
 ghost use Rattle.request_history.specs.Phases.{IsOpened, MayStep, phase_of, step_event};
+ghost use Rattle.world_laws.specs.CrashedWorlds.{IsRecordableHistory};
 
 use crate::holder::Holder;
 use crate::journal::{first_journal, is_closed, is_opening, with_record};
@@ -160,7 +161,8 @@ impl Keeper {
     /// The keeper of a well-formed pod. Nobody holds the lock.
     pub(crate) fn of(alloc: Global, first: Snapshot) -> Mem<Keeper>
         requires { IsWellFormedSnapshot first }
-        ensures { IfOk result (λ keeper. keeper ≡ first_view first) }
+        ensures is { IfOk result (λ keeper. keeper ≡ first_view first) }
+        ensures recordable { IfOk result (λ _. IsRecordableHistory (first_history first)) }
     {
         let journal = first_journal(alloc, &first)?;
         match Version::of(alloc, first) {

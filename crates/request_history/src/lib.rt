@@ -11,8 +11,10 @@
 //! function. Proved: after Ok the world is one to which that relation leads by the event (`steps`);
 //! [`StepFault::NotNow`] comes only where the relation leads to no world (`not_now`); after both
 //! refusals the world is as before (`unchanged`). A new world is the first one of its history
-//! (`World::new`, `first`). [`laws`] says that so all that `world_laws` says of events holds of the
-//! events that a world took.
+//! (`World::new`, `first`), and a journal can hold its pod (`recordable`); each entry whose record a
+//! step writes has a stored form (`storable`). [`laws`] says that so all that `world_laws` says of
+//! events holds of the events that a world took, and that each image with which it may stop stands
+//! for its history, or for that with one entry more, whatever the entries are.
 //!
 //! The crate reads no clock, no wire and no disk. It depends on `http_conn` for the events of the
 //! input, on `pod_core` for replies and definitions, on `http_out` for bytes, on `pod_pages` for the

@@ -2,6 +2,7 @@
 ghost use Rattle.std.specs.Prelude.{◌≡◌, IfOk};
 ghost use Rattle.pod_command.specs.Bare.{bare_entry};
 ghost use Rattle.pod_command.specs.Encodable.{IsEncodable};
+ghost use Rattle.pod_command.specs.Storable.{IsStorable};
 ghost use Rattle.pod_command.specs.StoredForms.{entry_bytes};
 
 use pod_base::{Bytes, Mem};
@@ -33,7 +34,8 @@ impl Recorded {
     /// An entry with its record.
     pub(crate) fn of(alloc: Global, entry: &Entry) -> Mem<Recorded>
         requires { IsEncodable entry.now }
-        ensures { IfOk result (λ recorded. recorded ≡ bare_entry entry.now) }
+        ensures is { IfOk result (λ recorded. recorded ≡ bare_entry entry.now) }
+        ensures storable { IfOk result IsStorable }
     {
         let body = encode_entry(alloc, entry)?;
         let entry = entry.copy(alloc)?;

@@ -7,7 +7,9 @@ ghost use Rattle.pod_core.specs.WorldImages.{journal_of};
 ghost use Rattle.pod_rows.specs.WellFormed.{IsWellFormedSnapshot};
 ghost use Rattle.request_history.specs.Connections.{Rests, fresh};
 ghost use Rattle.request_history.specs.Keepers.{first_history};
-ghost use Rattle.request_history.specs.Worlds.{HasNoStep, Steps, event_of, numbers_to, world_of};
+ghost use Rattle.request_history.specs.Worlds.{HasNoStep, Steps, StepsStorable, event_of};
+ghost use Rattle.request_history.specs.Worlds.{numbers_to, world_of};
+ghost use Rattle.world_laws.specs.CrashedWorlds.{IsRecordableHistory};
 
 use crate::connection::Connection;
 use crate::event::{Event, StepFault};
@@ -59,6 +61,9 @@ impl World {
         ensures first { IfOk result (λ w. world_of w
             ≡ world.first_world (first_history first) (numbers_to conns)) }
         ensures tokens { IfOk result (λ w. w.tokens ≡ []) }
+
+        // A journal can hold the pod.
+        ensures recordable { IfOk result (λ _. IsRecordableHistory (first_history first)) }
     {
         match Tokens::read(alloc, b"") {
             Ok(tokens) => World::with_tokens(alloc, first, tokens, conns),
@@ -72,6 +77,9 @@ impl World {
         ensures first { IfOk result (λ w. world_of w
             ≡ world.first_world (first_history first) (numbers_to conns)) }
         ensures tokens { IfOk result (λ w. w.tokens ≡ tokens) }
+
+        // A journal can hold the pod.
+        ensures recordable { IfOk result (λ _. IsRecordableHistory (first_history first)) }
     {
         let published = first.seq;
         let keeper = Keeper::of(alloc, first)?;
@@ -96,6 +104,9 @@ impl World {
         // The world has become one to which the definition leads.
         ensures steps { OnOk result (Steps self.old (event_of event.now) self.new) }
         ensures tokens { self.new.tokens ≡ self.old.tokens }
+
+        // Where the step writes the record of an entry, the entry has a stored form.
+        ensures storable { StepsStorable self.old (event_of event.now) self.new }
 
         // It leads to none.
         ensures not_now { IsErrOf result StepFault.NotNow → HasNoStep self.old (event_of event.now) }

@@ -20,7 +20,7 @@ invariant_of-result c =
 pub returns-in_ok-entry-in-Some : goal.returns-in_ok-entry-in-Some
 returns-in_ok-entry-in-Some c =
     becomes_held c.args.conn c.args.stamp.number c.args.stamp.moment.0 c.args.place c.args.request.now c.in_ok-request-in-Some.request (asked_by c.args.requester) c.args.replied c.in-Some.entry c.in_ok-entry-in-Some.entry
-    c.in_ok-request-in-Some.ensures c.in-Some.is c.in_ok-entry-in-Some.ensures
+    c.in_ok-request-in-Some.ensures c.in-Some.is c.in_ok-entry-in-Some.ensures.is c.in_ok-entry-in-Some.ensures.storable
 
 pub returns-in-None : goal.returns-in-None
 returns-in-None c = (no_entry c.args.replied c.in-None.is, c.requires.text, c.switches.ensures)
