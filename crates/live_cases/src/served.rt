@@ -5,11 +5,13 @@ ghost use Rattle.pod_keeper.specs.Kept.{StandsForSome};
 ghost use Rattle.pod_keeper.specs.KeeperState.{KeeperState, version_in};
 ghost use Rattle.pod_live.specs.Stores.{IsSafe, KeptSome};
 
-use crate::links::numbers;
+use crate::feeds;
+use crate::mem_links::numbers;
+use crate::script::request;
 use crate::store::{OWNER, SECONDS, empty_disks, make};
-use case_lines::shown;
+use case_words::shown;
 use conn_talk::Agents;
-use pod_base::{Bytes, Field, Fields, List, Mem, Method, Moment, NoMemory, Request, Stamp, Text};
+use pod_base::{List, Mem, Method, Moment, NoMemory, Stamp, Text};
 use pod_core::is_change;
 use pod_disk::{Disk, Disks};
 use pod_io::{Gate, Link, MemGate, MemLink, SetClock};
@@ -25,28 +27,30 @@ use std::thread::Threads;
 use token_table::Asked;
 
 /// What is done.
-#[derive(Clone, Copy, PartialEq, Eq)]
-pub(crate) enum Kind {
+#[derive(Clone, Copy)]
+pub(crate) enum Kind<'a> {
     /// A change by one session, and a read by another one.
     Visit,
     /// The first connection of the first gate.
     Connection,
     /// The connections of all gates.
     Desks,
+    /// A feed of one session, with these steps of another one.
+    Feed(&'a [&'a str]),
 }
 
 /// What is done with a store, over which gates, and what is told of it.
 #[derive(Drop)]
-pub(crate) struct Work {
-    kind: Kind,
+pub(crate) struct Work<'a> {
+    kind: Kind<'a>,
     gates: List<MemGate<MemLink>>,
     agents: Agents,
     told: String,
 }
 
-impl Work {
+impl<'a> Work<'a> {
     /// Work of that kind, without gates.
-    pub(crate) fn new(alloc: Global, kind: Kind) -> Mem<Work> {
+    pub(crate) fn new(alloc: Global, kind: Kind<'a>) -> Mem<Work<'a>> {
         Ok(Work {
             kind,
             gates: List::new(alloc),
@@ -91,23 +95,6 @@ fn tell(told: &mut String, part: &str) -> Option<()> {
     told.push_str(part).ok()
 }
 
-/// A request of the owner's, with a body of plain bytes.
-fn request(alloc: Global, method: Method, body: &[u8]) -> Mem<Request> {
-    let mut list = List::new(alloc);
-    let name = Text::of(alloc, "content-type")?;
-    let value = Bytes::of(alloc, b"application/octet-stream")?;
-    if list.push(alloc, Field { name, value }).is_err() {
-        return Err(NoMemory);
-    }
-    Ok(Request {
-        method,
-        target: Bytes::of(alloc, b"/note")?,
-        minor: 1,
-        fields: Fields { list },
-        body: Bytes::of(alloc, body)?,
-    })
-}
-
 /// Has a session put a document. Returns the status.
 fn change<N: ViewName<CommittedEntry> + StoreName + KeeperName<D>, D: Disk, R: Wait>(
     rt: &R,
@@ -117,7 +104,8 @@ fn change<N: ViewName<CommittedEntry> + StoreName + KeeperName<D>, D: Disk, R: W
     asked: &Asked<'_>,
     stamp: Stamp,
 ) -> Option<u16> {
-    let put = request(alloc, Method::Put, b"hello").ok()?;
+    let content = "application/octet-stream";
+    let put = request(alloc, Method::Put, "/note", content, "hello").ok()?;
     if !is_change(put.method) {
         return None;
     }
@@ -134,7 +122,7 @@ fn read<N: ViewName<CommittedEntry> + StoreName>(
     asked: &Asked<'_>,
     stamp: Stamp,
 ) -> Option<u16> {
-    let get = request(alloc, Method::Get, b"").ok()?;
+    let get = request(alloc, Method::Get, "/note", "text/plain", "").ok()?;
     if is_change(get.method) {
         return None;
     }
@@ -245,6 +233,28 @@ fn tell_desks<N: ViewName<CommittedEntry> + StoreName>(
     Some(())
 }
 
+/// Serves a feed by the second session, and does its steps by the first.
+fn feed<N: ViewName<CommittedEntry> + StoreName, L: Rounds<N>, R: Wait>(
+    rt: &R,
+    alloc: Global,
+    live: &L,
+    desks: &mut [Desk<MemGate<MemLink>, N>],
+    steps: &[&str],
+    told: &mut String,
+) -> Option<()> {
+    let (first, rest) = desks.split_first_mut()?;
+    let second = rest.first_mut()?;
+    let text = feeds::run(
+        rt,
+        alloc,
+        live,
+        &mut first.session,
+        &mut second.session,
+        steps,
+    );
+    tell(told, text.ok()?.as_str())
+}
+
 /// Does that with the sessions of a store.
 fn do_work<
     N: ViewName<CommittedEntry> + StoreName + KeeperName<D> + Send + Sync,
@@ -255,7 +265,7 @@ fn do_work<
     alloc: Global,
     live: &Live<N, D>,
     desks: &mut [Desk<MemGate<MemLink>, N>],
-    kind: Kind,
+    kind: Kind<'_>,
     agents: &Agents,
     told: &mut String,
 ) -> Option<()>
@@ -269,6 +279,7 @@ fn do_work<
             serve_desks(rt, alloc, live, agents, desks);
             tell_desks(alloc, desks, told)
         }
+        Kind::Feed(steps) => feed(rt, alloc, live, desks, steps, told),
     }
 }
 
@@ -305,7 +316,7 @@ fn serve_once<
     keeper: Keeper<D>,
     names: Names,
     readers: usize,
-    work: &mut Work,
+    work: &mut Work<'_>,
     places: &mut Places,
 ) -> Option<u64>
     requires names { (names.list ≡ N.book) × (names.changes.name ≡ N.changes)
@@ -352,7 +363,7 @@ fn serve_named<D: Disk + Send, R: Threads + Wait + Sync>(
     alloc: Global,
     keeper: Keeper<D>,
     readers: usize,
-    work: &mut Work,
+    work: &mut Work<'_>,
 ) -> Option<u64>
     requires stands { StandsForSome D.image keeper }
     requires few { (0 < readers) × (readers < 65) }
@@ -367,10 +378,10 @@ fn serve_disks_of<D: Disk + Send, R: Threads + Wait + Sync>(
     rt: &R,
     alloc: Global,
     disks: Disks<D>,
-    work: &mut Work,
+    work: &mut Work<'_>,
 ) -> Option<u64> {
     let mut disks = disks;
-    make(alloc, &mut disks).ok()?;
+    let _status = make(alloc, &mut disks).ok()?;
     let readers = work.sessions();
     match Keeper::open(alloc, disks) {
         Ok(keeper) => serve_named(rt, alloc, keeper, readers, work),
@@ -379,7 +390,7 @@ fn serve_disks_of<D: Disk + Send, R: Threads + Wait + Sync>(
 }
 
 /// Does that with a new store, and tells what it came to, and the number of the store's next entry.
-pub(crate) fn run<R: Threads + Wait + Sync>(rt: &R, alloc: Global, work: Work) -> Mem<String> {
+pub(crate) fn run<R: Threads + Wait + Sync>(rt: &R, alloc: Global, work: Work<'_>) -> Mem<String> {
     let mut work = work;
     work.gates.as_mut_slice().reverse();
     let disks = empty_disks(alloc)?;

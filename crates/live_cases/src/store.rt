@@ -7,7 +7,7 @@ use iri_ref::Iri;
 use pod_base::{Mem, Moment, NoMemory, Text};
 use pod_disk::{Disk, Disks, MemDisk};
 use std::alloc::Global;
-use store_commands::{StoreEnd, init};
+use store_commands::init;
 
 /// The owner of the pod.
 pub(crate) const OWNER: &str = "https://alice.example/#me";
@@ -42,12 +42,9 @@ fn owner(alloc: Global) -> Mem<Text>
     }
 }
 
-/// Makes a store on these disks.
-pub(crate) fn make<D: Disk>(alloc: Global, disks: &mut Disks<D>) -> Mem<()> {
+/// Makes a store on these disks, and returns the status.
+pub(crate) fn make<D: Disk>(alloc: Global, disks: &mut Disks<D>) -> Mem<u8> {
     let base = base(alloc)?;
     let owner = owner(alloc)?;
-    match init(alloc, disks, base, owner, Moment(SECONDS)) {
-        StoreEnd::Done => Ok(()),
-        _ => Err(NoMemory),
-    }
+    Ok(init(alloc, disks, base, owner, Moment(SECONDS)).status())
 }

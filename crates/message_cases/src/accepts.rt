@@ -1,6 +1,6 @@
 //! The choice between Turtle and JSON-LD.
 
-use case_lines::bytes;
+use case_words::bytes;
 use content_nego::choose;
 use std::alloc::{AllocError, Global};
 

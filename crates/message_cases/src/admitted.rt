@@ -2,8 +2,7 @@
 //! for a token that isn't accepted, and else the agent's IRI.
 
 use crate::print::{BASE, shown};
-use case_lines::bytes;
-use case_values::{iri_of, method_of};
+use case_words::{bytes, iri_of, method_of};
 use pod_base::{Bytes, Fields, Mem, NoMemory, Request, Response, Text};
 use request_target::{Target, admit};
 use std::alloc::{AllocError, Global};

@@ -10,8 +10,7 @@
 
 use crate::preconditions::fields_of;
 use crate::responses;
-use case_lines::{bytes, shown};
-use case_values::{known, method_of};
+use case_words::{bytes, known, method_of, shown};
 use pod_base::{Bytes, Fields, Mem, Request};
 use request_fields::{
     allows_ranges, body_type, content_type, links_to_container, range, slug, upgrade_key,

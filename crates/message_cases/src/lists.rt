@@ -1,6 +1,6 @@
 //! The elements of lists.
 
-use case_lines::{bytes, shown};
+use case_words::{bytes, shown};
 use field_list::{Elements, Quoting};
 use std::alloc::{AllocError, Global};
 

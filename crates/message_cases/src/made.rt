@@ -1,7 +1,7 @@
 //! Cases of changes and of OPTIONS.
 
 use crate::print::{place, shown};
-use case_values::method_of;
+use case_words::method_of;
 use pod_base::{Mem, Response};
 use pod_path::Path;
 use pod_responses::{changed, created, is_allowed, options, options_of_server};

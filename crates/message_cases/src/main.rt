@@ -1,42 +1,43 @@
-//! Cases of the messages of HTTP: what a request's fields say, and the responses of a pod. It reads
-//! one case from each line of standard input, and prints the line with what the libraries answer as
-//! one more field. `stdin` has the cases, and `stdout` what is expected of them, worked out by hand
-//! from RFC 9110, RFC 8288, RFC 6455 and the table of response fields.
+//! Cases of the messages of HTTP and of what they say: heads, bodies, connections and the bytes of
+//! responses; what a request's fields say, and the responses of a pod; the words of `podctl`, and
+//! the load generator. It reads one case from each line of standard input, and prints the line with
+//! what the libraries answer as one more field. `stdin` has the cases, and `stdout` what is expected
+//! of them, worked out by hand from RFC 9110, RFC 9112, RFC 8288, RFC 6455 and the table of response
+//! fields.
 //!
-//! The first field names the kind of the case. A FIELD is a name, `: ` and a value.
+//! The first field names the kind of the case. [`parsed`] has those of a message's bytes, [`said`]
+//! those of a request's fields, [`forms`] those of a request's form, and [`responses`] those of
+//! responses. The others are:
 //!
 //! | Fields | Answer |
 //! |---|---|
-//! | `strings` or `tags`, VALUE | the elements of a list, with quotes of strings or of tags |
-//! | `accept` VALUE, or nothing | the choice between Turtle and JSON-LD |
-//! | `tag` TYPE BODY MARK | the tag of a representation |
-//! | `judge` METHOD SECOND MARKS FIELD.. | the verdict on preconditions |
-//! | `needs-read` FIELD.. | whether the preconditions need a reader |
-//! | `ranges` VALUE SIZE | the parts of a body |
-//! | `multipart` TYPE BODY VALUE | the boundary and the text of a response with several parts |
-//! | `stem` SLUG, or nothing | the stem of a slug, or without one |
-//! | `name` CONTAINER SLUG KIND ROW.. | the path of a new member; `folder` is the KIND of containers |
-//! | `unnamed` CONTAINER KIND ROW.. | that without a slug |
-//! | `tokens` TABLE | whether a text is a token table |
-//! | `agent` TABLE FIELD.. | who makes a request |
-//! | `accept-key` KEY | the key that accepts an upgrade |
-//!
-//! The resource of `judge` was changed at SECOND and has tags with these MARKS. There is none where
-//! SECOND is `none`. [`forms`] has the cases of a request's form, [`responses`] those of responses.
+//! | `words` WORD.. | the command that the words ask for, or `none` |
+//! | `stream` N | the bytes of N requests |
+//! | `line` N IN WRITTEN ROWS | the line of a run |
+//! | `owner` | the owner of the pod of a run |
 #![tactic(auto)]
 
 mod accepts;
 mod admitted;
+mod bodies;
+mod commands;
+mod connections;
 mod forms;
+mod head_ends;
+mod heads;
 mod lists;
+mod loads;
 mod made;
 mod names;
+mod parsed;
 mod preconditions;
 mod print;
 mod ranges;
 mod read;
 mod refused;
+mod response_bytes;
 mod responses;
+mod said;
 mod tokens;
 mod upgrades;
 
@@ -46,32 +47,16 @@ use std::io;
 /// What the libraries answer to the fields of a case.
 fn answer(alloc: Global, fields: &[&str]) -> Result<String, AllocError> {
     match fields {
-        ["strings", value] => lists::strings(alloc, value),
-        ["tags", value] => lists::tags(alloc, value),
-        ["accept"] => String::from_str(alloc, accepts::chosen(None)),
-        ["accept", value] => accepts::answer(alloc, value),
-        ["tag", ctype, body, mark] => preconditions::tag(alloc, ctype, body, mark),
-        ["judge", method, second, marks, lines @ ..] => {
-            preconditions::judged(alloc, method, second, marks, lines)
+        ["words", words @ ..] => commands::answer(alloc, words),
+        ["stream", requests] => loads::stream_text(alloc, requests),
+        ["line", requests, bytes_in, written, rows] => {
+            loads::line(alloc, requests, bytes_in, written, rows)
         }
-        ["needs-read", lines @ ..] => preconditions::needs_read(alloc, lines),
-        ["ranges", value, size] => ranges::answer(alloc, value, size),
-        ["multipart", ctype, body, value] => ranges::text(alloc, ctype, body, value),
-        ["stem"] => names::item(alloc),
-        ["stem", slug] => names::stem_answer(alloc, slug),
-        ["name", container, slug, kind, rows @ ..] => {
-            names::for_slug(alloc, container, slug, kind, rows)
-        }
-        ["unnamed", container, kind, rows @ ..] => {
-            names::answer(alloc, container, None, kind, rows)
-        }
-        ["tokens", table] => tokens::table(alloc, table),
-        ["agent", table, lines @ ..] => tokens::agent(alloc, table, lines),
-        ["accept-key", key] => upgrades::answer(alloc, key),
-        _ => forms::answer(alloc, fields),
+        ["owner"] => loads::owner_text(alloc),
+        _ => parsed::answer(alloc, fields),
     }
 }
 
 fn main(rt: HostRuntime) -> io::Result<()> {
-    case_lines::run(&rt, answer)
+    case_words::run(&rt, answer)
 }

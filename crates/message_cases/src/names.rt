@@ -5,7 +5,7 @@ ghost use Rattle.pod_path.specs.Hierarchy.{is_container};
 ghost use Rattle.message_cases.specs.Rows.{is_row_of};
 ghost use Rattle.slug_naming.specs.declared.names.TheConstants.{ROW_LIMIT};
 
-use case_lines::bytes;
+use case_words::bytes;
 use pod_base::{List, Mem, NoMemory};
 use pod_path::{Path, PathFault, Taken};
 use slug_naming::{ROW_LIMIT, TakenNames, choose, stem};

@@ -1,8 +1,7 @@
 //! Tags, and verdicts on preconditions. In the values of fields `$t` and `$j` are the tags of 32
 //! zeros, a dash and that mark.
 
-use case_lines::{bytes, shown};
-use case_values::{known, method_of, number_of};
+use case_words::{bytes, known, method_of, number_of, shown};
 use conditional_req::{Conditions, Current, Tag, judge, read_conditions, tag_of};
 use pod_base::{Bytes, Field, Fields, Mem, Method, Moment, Text};
 use std::alloc::{AllocError, Global};

@@ -1,6 +1,6 @@
 //! What a response prints, and what a case names.
 
-use case_values::iri_of;
+use case_words::iri_of;
 use iri_ref::Iri;
 use pod_base::{Body, Mem, NoMemory, Response};
 use pod_path::Path;
@@ -22,7 +22,7 @@ pub(crate) fn place(alloc: Global, path: &str) -> Mem<Option<(Iri, Path)>> {
 /// Appends the fields of a response.
 fn push_fields(alloc: Global, text: &mut String, response: &Response) -> Result<(), AllocError> {
     for field in response.fields.list.as_slice() {
-        let value = case_lines::shown_whole(alloc, field.value.as_slice())?;
+        let value = case_words::shown_whole(alloc, field.value.as_slice())?;
         write!(text, "|{}: {value}", field.name.as_str())?;
     }
     Ok(())
@@ -33,7 +33,7 @@ fn push_body(alloc: Global, text: &mut String, body: &Body) -> Result<(), AllocE
     match body {
         Body::Absent => Ok(()),
         Body::Whole(bytes) => {
-            let bytes = case_lines::shown(alloc, bytes.as_slice())?;
+            let bytes = case_words::shown(alloc, bytes.as_slice())?;
             write!(text, "||{bytes}")
         }
         Body::LengthOnly(length) => write!(text, "||{length} bytes"),

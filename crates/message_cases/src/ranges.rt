@@ -4,7 +4,7 @@ ghost use Rattle.std.specs.Prelude.{◌≡◌, true, length};
 ghost use Rattle.std.specs.List.{list_all};
 ghost use Rattle.range_req.specs.RangeSets.{is_within};
 
-use case_lines::{bytes, shown_whole};
+use case_words::{bytes, shown_whole};
 use pod_base::{List, NoMemory};
 use range_req::{Part, RangeSet, multipart, ranges};
 use std::alloc::{AllocError, Global};

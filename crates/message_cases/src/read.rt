@@ -95,5 +95,5 @@ pub(crate) fn opened(alloc: Global, accept: &str) -> Result<String, AllocError> 
 
 pub(crate) fn date(alloc: Global, second: &str) -> Result<String, AllocError> {
     let date = date_of(Moment(second.parse::<u64>().unwrap_or(0)));
-    case_lines::shown(alloc, &date)
+    case_words::shown(alloc, &date)
 }

@@ -1,7 +1,7 @@
 //! Cases of refusals.
 
 use crate::print::shown;
-use case_values::method_of;
+use case_words::method_of;
 use pod_base::{Mem, Response};
 use pod_path::Path;
 use pod_responses::{not_allowed, refusal, unauthorized, unsatisfiable, unsupported};

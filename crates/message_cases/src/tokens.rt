@@ -1,7 +1,7 @@
 //! Token tables, and who makes a request.
 
 use crate::preconditions::fields_of;
-use case_lines::bytes;
+use case_words::bytes;
 use pod_base::{Fields, NoMemory};
 use std::alloc::{AllocError, Global};
 use token_table::{Asked, TokenFault, Tokens};

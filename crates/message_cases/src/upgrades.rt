@@ -1,6 +1,6 @@
 //! The key that accepts an upgrade.
 
-use case_lines::{bytes, shown};
+use case_words::{bytes, shown};
 use notify_ws::accept_of;
 use pod_base::NoMemory;
 use std::alloc::{AllocError, Global};

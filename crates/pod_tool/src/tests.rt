@@ -1,5 +1,5 @@
 //! Runs in which a call of the outside fails, and the order of reads and writes. All other runs are
-//! cases of `http_cases` and `tool_cases`.
+//! cases of `pod_cases`.
 ghost use Rattle.std.specs.Prelude.{IfOk, IsSome};
 
 use super::*;

@@ -1,12 +1,10 @@
 //! Calls of a disk in memory, and what a crash leaves of it. A call is a field: `len`, `read AT
 //! COUNT`, `write AT BYTES`, `cut LEN` or `sync`.
 
-use crate::images::first_word;
-use crate::number;
 use crate::tears::tears;
-use case_lines::{bytes, shown};
+use case_words::{bytes, first_word, number_of, shown};
 use pod_base::Mem;
-use pod_disk::{Call, Disk, MemDisk};
+use pod_disk::{Call, Disk, MemDisk, NotedCall};
 use pod_io::Failed;
 use std::alloc::Global;
 
@@ -60,14 +58,14 @@ fn outcome(alloc: Global, disk: &mut MemDisk, field: &str) -> Mem<String> {
     let (first, second) = first_word(rest);
     match word {
         "len" => measured(alloc, disk),
-        "read" => bytes_read(alloc, disk, number(first), number(second)),
+        "read" => bytes_read(alloc, disk, number_of(first), number_of(second)),
         "write" => {
             let bytes = bytes(alloc, second)?;
-            let written = write(disk, number(first), &bytes);
+            let written = write(disk, number_of(first), &bytes);
             done(alloc, written)
         }
         "cut" => {
-            let cut = cut(disk, number(first));
+            let cut = cut(disk, number_of(first));
             done(alloc, cut)
         }
         "sync" => {
@@ -78,42 +76,80 @@ fn outcome(alloc: Global, disk: &mut MemDisk, field: &str) -> Mem<String> {
     }
 }
 
-/// A disk of these bytes whose call of this number fails, after these calls.
-pub(crate) fn after(alloc: Global, image: Vec<u8>, failing: u64, calls: &[&str]) -> Mem<MemDisk> {
-    let mut disk = MemDisk::new(alloc, image, vec![in alloc; failing]?)?;
+/// A disk of these bytes whose call of this number fails.
+fn failing_at(alloc: Global, image: Vec<u8>, failing: u64) -> Mem<MemDisk> {
+    MemDisk::new(alloc, image, vec![in alloc; failing]?)
+}
+
+/// Makes these calls, and gives their outcomes.
+fn make(alloc: Global, disk: &mut MemDisk, calls: &[&str]) -> Mem<String> {
+    let mut text = String::new(alloc);
     for field in calls {
-        let _outcome = outcome(alloc, &mut disk, field)?;
+        let one = outcome(alloc, disk, field)?;
+        text.push_str(one.as_str())?;
+        text.push(' ')?;
     }
-    Ok(disk)
+    Ok(text)
+}
+
+/// Makes these calls, and gives their outcomes, then how many calls the disk has noted, and what it
+/// holds.
+fn made(alloc: Global, disk: &mut MemDisk, calls: &[&str]) -> Mem<String> {
+    let text = make(alloc, disk, calls)?;
+    let held = shown(alloc, disk.bytes())?;
+    Ok(format!(in alloc; "{text}{} {held}", disk.noted().len())?)
 }
 
 /// The outcomes of these calls on a disk of these bytes whose call of this number fails, then how
 /// many calls it has noted, and what it holds.
 pub(crate) fn outcomes(alloc: Global, image: Vec<u8>, failing: u64, calls: &[&str]) -> Mem<String> {
-    let mut disk = MemDisk::new(alloc, image, vec![in alloc; failing]?)?;
-    let mut text = String::new(alloc);
-    for field in calls {
-        let one = outcome(alloc, &mut disk, field)?;
-        text.push_str(one.as_str())?;
-        text.push(' ')?;
-    }
-    let held = shown(alloc, disk.bytes())?;
-    Ok(format!(in alloc; "{text}{} {held}", disk.noted().len())?)
+    let mut disk = failing_at(alloc, image, failing)?;
+    made(alloc, &mut disk, calls)
+}
+
+/// What is said of a crash after calls that weren't made.
+pub(crate) fn no_such_call(alloc: Global) -> Mem<String> {
+    Ok(String::from_str(alloc, "no such call")?)
 }
 
 /// What a crash after so many calls leaves of a disk, with these tears.
 pub(crate) fn crash(alloc: Global, disk: &MemDisk, count: u64, field: &str) -> Mem<String> {
     if count > disk.noted().len() as u64 {
-        return Ok(String::from_str(alloc, "no such call")?);
+        return no_such_call(alloc);
     }
     let left = disk.crash(alloc, count as usize, &tears(alloc, field)?)?;
     Ok(shown(alloc, left.as_slice())?)
 }
 
+/// Makes these calls, and gives what a crash after so many of them leaves.
+fn crashed(
+    alloc: Global,
+    disk: &mut MemDisk,
+    count: u64,
+    field: &str,
+    calls: &[&str],
+) -> Mem<String> {
+    let _outcomes = make(alloc, disk, calls)?;
+    crash(alloc, disk, count, field)
+}
+
+/// What a crash after so many calls leaves of a disk of these bytes whose call of this number fails.
+pub(crate) fn crashes(
+    alloc: Global,
+    image: Vec<u8>,
+    failing: u64,
+    count: u64,
+    field: &str,
+    calls: &[&str],
+) -> Mem<String> {
+    let mut disk = failing_at(alloc, image, failing)?;
+    crashed(alloc, &mut disk, count, field, calls)
+}
+
 /// Whether a disk has noted as many calls as a crash is after: `COUNT`, or `COUNT TEARS`.
 pub(crate) fn is_noted(disk: &MemDisk, field: &str) -> bool {
     let (count, _tears) = first_word(field);
-    number(count) <= disk.noted().len() as u64
+    number_of(count) <= disk.noted().len() as u64
 }
 
 /// What a crash leaves of a disk after so many calls, with these tears, or for `-` what it holds.
@@ -138,10 +174,10 @@ fn letter(call: &Call) -> char {
     }
 }
 
-/// The calls that a disk has noted, a letter each.
-pub(crate) fn letters(alloc: Global, disk: &MemDisk) -> Mem<String> {
+/// Calls that a disk has noted, a letter each.
+pub(crate) fn letters(alloc: Global, calls: &[NotedCall]) -> Mem<String> {
     let mut letters = String::new(alloc);
-    for noted in disk.noted() {
+    for noted in calls {
         letters.push(letter(&noted.call))?;
     }
     Ok(letters)

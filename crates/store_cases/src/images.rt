@@ -2,19 +2,14 @@
 //! each `BODY GATE` after it a record and the gate that follows it. `cut LEN` before it cuts it to
 //! that length. Any other field is the bytes as they are.
 
-use crate::number;
-use case_lines::bytes;
+use case_words::{bytes, first_word, number_of};
 use pod_base::Mem;
 use std::alloc::Global;
 
-/// The first word of a field, and what follows it.
-pub(crate) fn first_word(field: &str) -> (&str, &str) {
-    field.split_once(' ').unwrap_or((field, ""))
-}
-
-fn push_record(image: &mut Vec<u8>, body: &str) -> Mem<()> {
+/// Appends a record: the length of its body, and the body.
+pub(crate) fn push_record(image: &mut Vec<u8>, body: &[u8]) -> Mem<()> {
     image.extend_from_slice(&(body.len() as u64).to_be_bytes())?;
-    image.extend_from_slice(body.as_bytes())?;
+    image.extend_from_slice(body)?;
     Ok(())
 }
 
@@ -25,7 +20,7 @@ fn push_records(image: &mut Vec<u8>, words: &str) -> Mem<()> {
         if is_gate {
             image.push(word.parse::<u8>().unwrap_or(0))?;
         } else {
-            push_record(image, word)?;
+            push_record(image, word.as_bytes())?;
         }
         is_gate = !is_gate;
     }
@@ -37,7 +32,7 @@ fn journal(alloc: Global, words: &str) -> Mem<Vec<u8>> {
     let (epoch, rest) = first_word(rest);
     let mut image = Vec::from_slice(alloc, b"PODJRNL")?;
     image.extend_from_slice(format.as_bytes())?;
-    image.extend_from_slice(&number(epoch).to_be_bytes())?;
+    image.extend_from_slice(&number_of(epoch).to_be_bytes())?;
     push_records(&mut image, rest)?;
     Ok(image)
 }
@@ -55,7 +50,7 @@ pub(crate) fn image(alloc: Global, field: &str) -> Mem<Vec<u8>> {
         Some(rest) => {
             let (len, rest) = first_word(rest);
             let mut image = whole(alloc, rest)?;
-            image.truncate(number(len) as usize);
+            image.truncate(number_of(len) as usize);
             Ok(image)
         }
         None => whole(alloc, field),

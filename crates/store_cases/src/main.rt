@@ -1,48 +1,38 @@
-//! Runs cases of disks, journals and stores in memory: reads one from each line of standard input,
-//! and prints it with its outcome as one more field.
+//! Runs cases of disks, journals, stores and keepers in memory: reads one from each line of standard
+//! input, and prints it with its outcome as one more field.
 #![tactic(auto)]
 
 mod append;
+mod begun;
 mod classes;
+mod commits;
+mod crashes;
 mod disks;
+mod generated;
+mod held;
 mod images;
 mod opened;
 mod pairs;
 mod renewal;
+mod requests;
 mod steps;
 mod store;
 mod tears;
 
-use case_lines::bytes;
-use pod_base::{Mem, NoMemory};
+use case_words::{bytes, known, number_of};
+use pod_base::Mem;
 use std::alloc::{AllocError, Global};
 use std::io;
-
-/// The number of a field: 0 where it has none.
-fn number(field: &str) -> u64 {
-    field.parse::<u64>().unwrap_or(0)
-}
-
-/// The numbers of a field, separated by commas. Other pieces are passed over.
-fn numbers(alloc: Global, field: &str) -> Mem<Vec<u64>> {
-    let mut numbers = Vec::new(alloc);
-    for piece in field.split(',') {
-        if let Ok(number) = piece.parse::<u64>() {
-            numbers.push(number)?;
-        }
-    }
-    Ok(numbers)
-}
 
 /// The cases of a disk alone.
 fn of_disk(alloc: Global, fields: &[&str]) -> Mem<String> {
     match fields {
         ["calls", image, failing, calls @ ..] => {
-            disks::outcomes(alloc, bytes(alloc, image)?, number(failing), calls)
+            disks::outcomes(alloc, bytes(alloc, image)?, number_of(failing), calls)
         }
         ["crash", image, failing, count, tears, calls @ ..] => {
-            let disk = disks::after(alloc, bytes(alloc, image)?, number(failing), calls)?;
-            disks::crash(alloc, &disk, number(count), tears)
+            let (failing, count) = (number_of(failing), number_of(count));
+            disks::crashes(alloc, bytes(alloc, image)?, failing, count, tears, calls)
         }
         _ => Ok(String::from_str(alloc, "no case")?),
     }
@@ -54,11 +44,15 @@ fn of_journal(alloc: Global, fields: &[&str]) -> Mem<String> {
         ["open", image] => opened::opened(alloc, bytes(alloc, image)?),
         ["class", image] => classes::class(alloc, bytes(alloc, image)?),
         ["init_calls"] => append::init_calls(alloc),
-        ["append", failing] => append::fails(alloc, number(failing)),
-        ["append_crash", count, tears] => append::crashes(alloc, number(count), tears),
-        ["renew", image, failing] => renewal::fails(alloc, bytes(alloc, image)?, number(failing)),
+        ["append", failing] => append::fails(alloc, number_of(failing)),
+        ["append_crash", count, tears] => append::crashes(alloc, number_of(count), tears),
+        ["renew", image, failing] => renewal::fails(
+            alloc,
+            bytes(alloc, image)?,
+            number_of(failing),
+        ),
         ["renew_crash", image, count, tears] => {
-            renewal::crashes(alloc, bytes(alloc, image)?, number(count), tears)
+            renewal::crashes(alloc, bytes(alloc, image)?, number_of(count), tears)
         }
         ["renew_calls", image] => renewal::calls(alloc, bytes(alloc, image)?),
         _ => of_disk(alloc, fields),
@@ -105,13 +99,23 @@ fn of_store(alloc: Global, fields: &[&str]) -> Mem<String> {
     }
 }
 
-fn answer(alloc: Global, fields: &[&str]) -> Result<String, AllocError> {
-    match of_store(alloc, fields) {
-        Ok(text) => Ok(text),
-        Err(NoMemory) => Err(AllocError),
+/// The cases of keepers.
+fn of_keeper(alloc: Global, fields: &[&str]) -> Mem<String> {
+    match fields {
+        ["keeper", failing, failing_2, start, steps @ ..] => {
+            commits::outcomes(alloc, (failing, failing_2), start, steps)
+        }
+        ["crashes", tear, start, steps @ ..] => crashes::crashes(alloc, tear, start, steps),
+        ["cuts", start, steps @ ..] => crashes::cuts(alloc, start, steps),
+        ["run", changes, every] => generated::run(alloc, number_of(changes), number_of(every)),
+        _ => of_store(alloc, fields),
     }
 }
 
+fn answer(alloc: Global, fields: &[&str]) -> Result<String, AllocError> {
+    known(of_keeper(alloc, fields))
+}
+
 fn main(rt: HostRuntime) -> io::Result<()> {
-    case_lines::run(&rt, answer)
+    case_words::run(&rt, answer)
 }

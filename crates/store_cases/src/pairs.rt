@@ -1,9 +1,8 @@
 //! What two disks are opened as.
 
-use crate::disks::{crash_image, is_noted};
+use crate::disks::{crash_image, is_noted, no_such_call};
 use crate::images::image;
-use crate::numbers;
-use case_lines::shown;
+use case_words::{numbers_of, shown};
 use journal_log::OpenFault;
 use journal_pair::Pair;
 use pod_base::{Bytes, List, Mem, NoMemory};
@@ -12,7 +11,11 @@ use std::alloc::Global;
 
 /// A disk of a field, on which the calls of these numbers fail.
 pub(crate) fn disk(alloc: Global, field: &str, failing: &str) -> Mem<MemDisk> {
-    MemDisk::new(alloc, image(alloc, field)?, numbers(alloc, failing)?)
+    MemDisk::new(
+        alloc,
+        image(alloc, field)?,
+        numbers_of(alloc, failing, ',')?,
+    )
 }
 
 /// The side, format and epoch of a pair, and its records.
@@ -47,14 +50,19 @@ pub(crate) fn opens_once(alloc: Global, fields: (&str, &str)) -> Mem<String> {
     opened(alloc, image(alloc, fields.0)?, image(alloc, fields.1)?)
 }
 
+/// What two disks are opened as three times, one after the other.
+fn open_thrice(alloc: Global, first: &mut MemDisk, second: &mut MemDisk) -> Mem<String> {
+    let one = open(alloc, first, second)?;
+    let two = open(alloc, first, second)?;
+    let three = open(alloc, first, second)?;
+    Ok(format!(in alloc; "{one}, {two}, {three}")?)
+}
+
 /// What disks of these fields are opened as three times, one after the other.
 pub(crate) fn opens(alloc: Global, fields: (&str, &str), failing: (&str, &str)) -> Mem<String> {
     let mut first = disk(alloc, fields.0, failing.0)?;
     let mut second = disk(alloc, fields.1, failing.1)?;
-    let one = open(alloc, &mut first, &mut second)?;
-    let two = open(alloc, &mut first, &mut second)?;
-    let three = open(alloc, &mut first, &mut second)?;
-    Ok(format!(in alloc; "{one}, {two}, {three}")?)
+    open_thrice(alloc, &mut first, &mut second)
 }
 
 /// What a crash leaves of two disks, opened.
@@ -65,10 +73,21 @@ pub(crate) fn after_crash(
     crash: (&str, &str),
 ) -> Mem<String> {
     if !is_noted(first, crash.0) || !is_noted(second, crash.1) {
-        return Ok(String::from_str(alloc, "no such call")?);
+        return no_such_call(alloc);
     }
     let left = crash_image(alloc, first, crash.0)?;
     opened(alloc, left, crash_image(alloc, second, crash.1)?)
+}
+
+/// Opens two disks, and gives what a crash leaves of them, opened.
+fn open_crashed(
+    alloc: Global,
+    first: &mut MemDisk,
+    second: &mut MemDisk,
+    crash: (&str, &str),
+) -> Mem<String> {
+    let _outcome = open(alloc, first, second)?;
+    after_crash(alloc, first, second, crash)
 }
 
 /// What a crash while disks of these fields are opened leaves of them, opened.
@@ -80,6 +99,5 @@ pub(crate) fn open_crashes(
 ) -> Mem<String> {
     let mut first = disk(alloc, fields.0, failing.0)?;
     let mut second = disk(alloc, fields.1, failing.1)?;
-    let _outcome = open(alloc, &mut first, &mut second)?;
-    after_crash(alloc, &first, &second, crash)
+    open_crashed(alloc, &mut first, &mut second, crash)
 }

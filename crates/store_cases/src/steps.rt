@@ -2,11 +2,10 @@
 //! and `checkpoint BODY`.
 
 use crate::disks::letters;
-use crate::images::first_word;
 use crate::pairs::{after_crash, disk};
 use crate::store::Store;
-use case_lines::{bytes, shown};
-use journal_log::{Framed, frame};
+use case_words::{bytes, first_word, shown};
+use journal_log::{DiskFault, Framed, OpenFault, frame};
 use pod_base::Mem;
 use pod_disk::MemDisk;
 use std::alloc::Global;
@@ -48,58 +47,77 @@ fn outcomes(alloc: Global, store: &mut Store, fields: &[&str]) -> Mem<String> {
     Ok(text)
 }
 
-/// The store that is begun on two disks, or why it is not.
-fn initialized(
+/// Why a store is not begun.
+#[derive(Clone, Copy)]
+enum Refusal {
+    /// One of its disks holds something.
+    NotEmpty,
+    /// A disk failed.
+    Disk(DiskFault),
+    /// It was not opened.
+    Open(OpenFault),
+}
+
+fn refusal_text(alloc: Global, refusal: Refusal) -> Mem<String> {
+    match refusal {
+        Refusal::NotEmpty => Ok(String::from_str(alloc, "not empty")?),
+        Refusal::Disk(fault) => Ok(format!(in alloc; "{fault}")?),
+        Refusal::Open(fault) => Ok(format!(in alloc; "{fault}")?),
+    }
+}
+
+/// The store after the first step on two disks.
+fn started(
     alloc: Global,
     first: MemDisk,
     second: MemDisk,
-    body: &str,
-) -> Mem<Result<Store, String>> {
+    word: &str,
+    snapshot: &Framed,
+) -> Result<Store, Refusal> {
+    if word != "init" {
+        return match Store::open(alloc, first, second) {
+            Ok(store) => Ok(store),
+            Err(fault) => Err(Refusal::Open(fault)),
+        };
+    }
     if !first.bytes().is_empty() || !second.bytes().is_empty() {
-        return Ok(Err(String::from_str(alloc, "not empty")?));
+        return Err(Refusal::NotEmpty);
     }
-    let snapshot = frame(alloc, &bytes(alloc, body)?)?;
-    match Store::init(first, second, &snapshot) {
-        Ok(store) => Ok(Ok(store)),
-        Err(fault) => Ok(Err(format!(in alloc; "{fault}")?)),
-    }
-}
-
-/// The store that is opened on two disks, or why it is not.
-fn reopened(alloc: Global, first: MemDisk, second: MemDisk) -> Mem<Result<Store, String>> {
-    match Store::open(alloc, first, second) {
-        Ok(store) => Ok(Ok(store)),
-        Err(fault) => Ok(Err(format!(in alloc; "{fault}")?)),
+    match Store::init(first, second, snapshot) {
+        Ok(store) => Ok(store),
+        Err(fault) => Err(Refusal::Disk(fault)),
     }
 }
 
-/// The store after the first step.
+/// The store after the first step on disks of these fields.
 fn begun(
     alloc: Global,
-    first: MemDisk,
-    second: MemDisk,
-    field: &str,
-) -> Mem<Result<Store, String>> {
-    match first_word(field) {
-        ("init", body) => initialized(alloc, first, second, body),
-        _ => reopened(alloc, first, second),
-    }
+    disks: (&str, &str),
+    failing: (&str, &str),
+    start: &str,
+) -> Mem<Result<Store, Refusal>> {
+    let (word, body) = first_word(start);
+    let snapshot = frame(alloc, &bytes(alloc, body)?)?;
+    let first = disk(alloc, disks.0, failing.0)?;
+    let second = disk(alloc, disks.1, failing.1)?;
+    Ok(started(alloc, first, second, word, &snapshot))
 }
 
 /// The outcomes of steps of a store, and what a crash leaves of its disks, opened.
-fn crashed(alloc: Global, store: Store, crash: (&str, &str), fields: &[&str]) -> Mem<String> {
-    let mut store = store;
-    let outcomes = outcomes(alloc, &mut store, fields)?;
+fn crashed(alloc: Global, store: &mut Store, crash: (&str, &str), fields: &[&str]) -> Mem<String> {
+    let outcomes = outcomes(alloc, store, fields)?;
     let then = after_crash(alloc, store.first(), store.second(), crash)?;
     Ok(format!(in alloc; "{outcomes}{then}")?)
 }
 
 /// The calls of the disks of a store, a letter each, and what they hold.
-fn called(alloc: Global, store: Store, fields: &[&str]) -> Mem<String> {
-    let mut store = store;
-    let _outcomes = outcomes(alloc, &mut store, fields)?;
+fn called(alloc: Global, store: &mut Store, fields: &[&str]) -> Mem<String> {
+    let _outcomes = outcomes(alloc, store, fields)?;
     let (first, second) = (store.first(), store.second());
-    let calls = (letters(alloc, first)?, letters(alloc, second)?);
+    let calls = (
+        letters(alloc, first.noted())?,
+        letters(alloc, second.noted())?,
+    );
     let held = (shown(alloc, first.bytes())?, shown(alloc, second.bytes())?);
     Ok(format!(in alloc; "{} {} {} {}", calls.0, calls.1, held.0, held.1)?)
 }
@@ -112,12 +130,10 @@ pub(crate) fn crashes(
     crash: (&str, &str),
     fields: &[&str],
 ) -> Mem<String> {
-    let first = disk(alloc, disks.0, failing.0)?;
-    let second = disk(alloc, disks.1, failing.1)?;
     match fields {
-        [start, steps @ ..] => match begun(alloc, first, second, start)? {
-            Ok(store) => crashed(alloc, store, crash, steps),
-            Err(text) => Ok(text),
+        [start, steps @ ..] => match begun(alloc, disks, failing, start)? {
+            Ok(mut store) => crashed(alloc, &mut store, crash, steps),
+            Err(refusal) => refusal_text(alloc, refusal),
         },
         [] => Ok(String::from_str(alloc, "no step")?),
     }
@@ -125,12 +141,10 @@ pub(crate) fn crashes(
 
 /// The calls of disks of these fields, and what they hold after these steps.
 pub(crate) fn calls(alloc: Global, disks: (&str, &str), fields: &[&str]) -> Mem<String> {
-    let first = disk(alloc, disks.0, "")?;
-    let second = disk(alloc, disks.1, "")?;
     match fields {
-        [start, steps @ ..] => match begun(alloc, first, second, start)? {
-            Ok(store) => called(alloc, store, steps),
-            Err(text) => Ok(text),
+        [start, steps @ ..] => match begun(alloc, disks, ("", ""), start)? {
+            Ok(mut store) => called(alloc, &mut store, steps),
+            Err(refusal) => refusal_text(alloc, refusal),
         },
         [] => Ok(String::from_str(alloc, "no step")?),
     }

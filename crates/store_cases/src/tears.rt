@@ -5,7 +5,8 @@ use pod_base::Mem;
 use pod_disk::Tear;
 use std::alloc::Global;
 
-fn tear(piece: &str) -> Tear {
+/// The tear of a piece.
+pub(crate) fn tear(piece: &str) -> Tear {
     let (kind, number) = piece.split_once(' ').unwrap_or((piece, ""));
     match kind {
         "filled" => Tear::Filled(number.parse::<u8>().unwrap_or(0)),

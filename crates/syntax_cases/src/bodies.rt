@@ -3,8 +3,7 @@
 //! deletion and `+ ` before each insertion, and an update has the last two.
 
 use crate::{print, requests};
-use case_lines::shown;
-use case_values::{iri_of, triples_text};
+use case_words::{iri_of, shown, triples_text};
 use iri_ref::Iri;
 use pod_base::{Bytes, Mem, Request, Text};
 use pod_command::Content;

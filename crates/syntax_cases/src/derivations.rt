@@ -5,7 +5,7 @@
 //! where it stands in one.
 
 use crate::letters::{start, symbols};
-use case_lines::bytes;
+use case_words::bytes;
 use std::alloc::{AllocError, Global};
 use turtle_grammar::{
     GrammarFault, Machine, Node, Production, Refusal, Start, Symbol, SymbolicTriple, Within,

@@ -4,7 +4,7 @@
 use crate::references::iri;
 use crate::written::graph_text;
 use crate::{json_ld, patches};
-use case_lines::bytes;
+use case_words::bytes;
 use iri_ref::Iri;
 use pod_base::{Mem, NoMemory};
 use rdf_graph::Graph;

@@ -3,8 +3,7 @@
 ghost use Rattle.rdf_graph.specs.Patch.{BindsPatterns, IsBound};
 
 use crate::graphs::{graph, patterns};
-use case_lines::text;
-use case_values::triples_text;
+use case_words::{text, triples_text};
 use pod_base::{Mem, NoMemory};
 use rdf_graph::{Change, Graph, Mapping, Patch, PatchFault, changed, instantiate, the_mapping};
 use std::alloc::Global;

@@ -3,8 +3,7 @@
 //! where `"` begins an integer, or begins with `?` for a variable.
 
 use crate::{graph_patches, print};
-use case_lines::{shown_whole, text};
-use case_values::{marked_graph, marked_term, triples_text};
+use case_words::{marked_graph, marked_term, shown_whole, text, triples_text};
 use pod_base::{List, Mem, NoMemory, Text};
 use rdf_graph::vocabulary::XSD_INTEGER;
 use rdf_graph::{Found, Graph, Mapping, Pattern, Slot, Term, solutions};

@@ -2,8 +2,7 @@
 //! the fault. `write` shows the text that this graph is written as, after it was read as the same
 //! graph.
 
-use case_lines::shown_whole;
-use case_values::triples_text;
+use case_words::{shown_whole, triples_text};
 use iri_ref::Iri;
 use jsonld_expanded::{JsonLdFault, read};
 use jsonld_write::write;

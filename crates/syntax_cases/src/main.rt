@@ -90,5 +90,5 @@ fn answer_kind(alloc: Global, kind: &str, case: &[&str]) -> Result<String, Alloc
 }
 
 fn main(rt: HostRuntime) -> io::Result<()> {
-    case_lines::run(&rt, answer)
+    case_words::run(&rt, answer)
 }

@@ -5,8 +5,7 @@ ghost use Rattle.turtle_lex.specs.Tokens.{IsTokenOf};
 
 use crate::documents::fault_text;
 use crate::print;
-use case_lines::{bytes, shown};
-use case_values::iri_of;
+use case_words::{bytes, iri_of, shown};
 use iri_ref::Iri;
 use pod_base::Mem;
 use std::alloc::Global;

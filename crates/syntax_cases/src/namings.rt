@@ -3,7 +3,7 @@
 
 use crate::nodes::{term, words_of};
 use crate::print;
-use case_values::add_triple;
+use case_words::add_triple;
 use pod_base::{List, Mem, NoMemory};
 use rdf_graph::{Graph, Triple};
 use sparql_patch::Named;

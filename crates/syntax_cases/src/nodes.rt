@@ -2,7 +2,7 @@
 //! `http://e.example/a`, `<:` one of Solid's terms, `<ldp:` one of LDP's, and `<=` is `rdf:type`),
 //! `_` for a label, `'` for a plain string, `?` for a variable and `{` for a formula with its number.
 
-use case_values::iri_or_bad;
+use case_words::iri_or_bad;
 use iri_ref::Iri;
 use n3_patch::PatchNode;
 use pod_base::{Mem, Text};

@@ -7,7 +7,7 @@ ghost use Rattle.rdf_graph.specs.Patch.{IsBound};
 
 use crate::namings::{graph, namings};
 use crate::print;
-use case_values::iri_or_bad;
+use case_words::iri_or_bad;
 use n3_patch::{N3Fault, read};
 use patch_outcome::{PatchRefusal, outcome, update_outcome};
 use pod_base::{Mem, NoMemory};

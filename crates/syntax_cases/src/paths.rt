@@ -1,8 +1,7 @@
 //! Cases of `pod_path`: paths of resources.
 
 use crate::references::iri;
-use case_lines::{bytes, shown, text};
-use case_values::known;
+use case_words::{bytes, known, shown, text};
 use pod_base::{Mem, NoMemory};
 use pod_path::{Path, PathFault};
 use std::alloc::{AllocError, Global};

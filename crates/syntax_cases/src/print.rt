@@ -1,6 +1,6 @@
 //! Terms, patches, changes and updates as cases show them.
 
-use case_lines::shown_whole;
+use case_words::shown_whole;
 use pod_base::{List, Mem};
 use rdf_graph::{Change, Patch, Pattern, Slot, Term, Triple};
 use sparql_patch::Named;

@@ -1,7 +1,6 @@
 //! Cases of `iri_ref`: absolute IRIs, and references resolved against them.
 
-use case_lines::{shown, text};
-use case_values::{iri_of, known};
+use case_words::{iri_of, known, shown, text};
 use iri_ref::{Iri, IriFault};
 use pod_base::Mem;
 use std::alloc::{AllocError, Global};

@@ -2,8 +2,7 @@
 //! after `||`.
 
 use crate::requests;
-use case_lines::shown;
-use case_values::iri_or_bad;
+use case_words::{iri_or_bad, shown};
 use pod_base::{Body, Field, Mem, Request, Response};
 use pod_path::Path;
 use request_body::{BodyFault, read_body, refused};

@@ -1,7 +1,6 @@
 //! Requests as the words of a case write them. A FIELD is a name, `: ` and a value.
 
-use case_lines::bytes;
-use case_values::method_of;
+use case_words::{bytes, method_of};
 use pod_base::{Bytes, Field, Fields, Mem, Request, Text};
 use std::alloc::Global;
 

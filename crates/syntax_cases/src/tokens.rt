@@ -1,6 +1,6 @@
 //! Cases of `turtle_lex`: whether a text is one token, and the tokens or the fault of a text.
 
-use case_lines::bytes;
+use case_words::bytes;
 use std::alloc::{AllocError, Global};
 use turtle_lex::{LexFault, Lexer, Token, next_token, tokens};
 

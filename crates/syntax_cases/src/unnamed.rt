@@ -1,6 +1,6 @@
 //! Cases of `turtle_labels`: the labels of the unnamed nodes with these numbers in a document.
 
-use case_lines::bytes;
+use case_words::bytes;
 use pod_base::Mem;
 use std::alloc::Global;
 use turtle_labels::Labels;

@@ -2,8 +2,7 @@
 //! for each triple, with `;` between triples. A word is one of `marked_term`, where `"` begins a
 //! literal of the datatype `http://d.example/t`.
 
-use case_lines::shown_whole;
-use case_values::marked_graph;
+use case_words::{marked_graph, shown_whole};
 use pod_base::Mem;
 use rdf_graph::Graph;
 use std::alloc::Global;

@@ -1,5 +1,0 @@
-use Rattle.std.proofs.Common.{ℕ, length}
-use Rattle.tool_cases.proofs.disks.push_piece.Given as goal
-
-abbrev pub decreases-loop-rest : goal.decreases-loop-rest
-decreases-loop-rest l = length l.rest
