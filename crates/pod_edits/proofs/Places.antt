@@ -1,9 +1,8 @@
 -- The place of a new path, and twins in its way.
-use Rattle.std.proofs.Common.{◌≡◌, ◌<◌, ◌≤◌, ◌+◌, ◌-◌, ◌==◌, ℕ, zero, suc, Bool, true, false, not, cond, ◌||◌, List, [], ◌∷◌, ◌++◌, length, take, drop, get_or, filter, reverse, map, Option, Some, None, refl, sym, ap, ◌∙◌, arith, append_assoc}
+use Rattle.std.proofs.Common.{◌≡◌, ◌<◌, ◌≤◌, ◌+◌, ◌-◌, ℕ, zero, suc, Bool, true, false, not, cond, ◌||◌, List, [], ◌∷◌, ◌++◌, length, take, drop, get_or, filter, reverse, map, Option, Some, None, refl, sym, ap, ◌∙◌, arith, append_assoc}
 use Rattle.std.specs.Prelude.{nat_lt}
 use Rattle.std.specs.List.{find, list_any, list_all}
 use Rattle.std.proofs.lemmas.Bool.{and_parts, false≢true, true≢false, false_from_ne_true, or_left, or_right, lt-ltb, ltb-true}
-use Rattle.std.proofs.Math.Dec.{eqb-suc-zero}
 use Rattle.std.proofs.lemmas.List.{append-nil, reverse-append, take_more, take-append-drop, take_all}
 use Rattle.std.proofs.lemmas.List.Folds.{list_any-append}
 use Rattle.std.proofs.lemmas.Slice.Eq.{bytes_eq-Decides}
@@ -15,7 +14,7 @@ use Rattle.pod_path.proofs.Ancestors.{parent_some}
 use Rattle.pod_path.proofs.Twins.{closed_twin}
 use Rattle.pod_command.specs.declared.row.Row.{Row}
 use Rattle.pod_rows.specs.Pod.{Pod, is_row, is_row_of}
-use Rattle.pod_rows.specs.Tree.{ancestors, is_child_of, is_the_path}
+use Rattle.pod_rows.specs.Tree.{ancestors, has_child, is_child_of, is_the_path}
 use Rattle.pod_rows.specs.WellFormed.{WellFormed, has_normal_path}
 use Rattle.pod_rows.proofs.Tests.{parse_is, same_test}
 use Rattle.pod_command.specs.declared.edit.Edit.TheVariants as edits
@@ -255,10 +254,16 @@ room_test limit count added h =
     (λ t. (let l = ltb-true (limit - count) added t in lt-ltb limit (count + added) (omega (arith, h, l))))
     (λ t. (let l = ltb-true limit (count + added) t in lt-ltb (limit - count) added (omega (arith, h, l))))
 
--- is there a path, by how many there are
-pub some_test : (paths : List (List ℕ)) → not (length paths == 0) ≡ has_some paths
-some_test [] = refl
-some_test (path ∷ more) = ap not (eqb-suc-zero (length more))
+-- is there a child, by a test of each row
+pub some_child : (rows : List Row) (path : List ℕ) → has_child rows path ≡ has_children rows path
+unfolding has_children
+some_child [] path = refl
+some_child (r ∷ rows) path = by_test (is_child_of path r) (some_child rows path)
+  where
+    by_test : (b : Bool) → has_child rows path ≡ has_some (map (λ (row : Row). row.path) (filter (is_child_of path) rows))
+        → (b || has_child rows path) ≡ has_some (map (λ (row : Row). row.path) (cond b (r ∷ filter (is_child_of path) rows) (filter (is_child_of path) rows)))
+    by_test true e = refl
+    by_test false e = e
 
 pub member_twin : (p : Pod) (path above : List ℕ) → WellFormed p → IsPath path → parent_of path ≡ Some above → is_row p.rows above ≡ true → meets_twin p.rows path ≡ has_twin_row p.rows path
 unfolding meets_twin

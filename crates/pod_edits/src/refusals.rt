@@ -92,8 +92,8 @@ pub fn has_children<S: PodState>(alloc: Global, state: &S, path: &Path) -> Mem<b
     if !path.is_container() {
         return Ok(false);
     }
-    let children = state.children(alloc, path)?;
-    Ok(!children.is_empty())
+    let found = state.has_children(alloc, path)?;
+    Ok(found)
 }
 
 /// Whether rows of the kind hold bytes.

@@ -10,6 +10,7 @@ pub mod Assembled
 pub mod Readiness
 pub mod EditSteps
 pub mod Children
+pub mod FirstChild
 pub mod VersionLaws
 pub mod Placed
 pub mod History

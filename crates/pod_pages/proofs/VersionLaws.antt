@@ -1,5 +1,5 @@
 -- What versions have, from what they keep.
-use Rattle.std.proofs.Common.{◌≡◌, ◌+◌, ◌-◌, ◌≤◌, ℕ, Bool, true, false, not, cond, ◌&&◌, List, [], ◌∷◌, ◌++◌, length, take, drop, filter, map, Option, Some, None, refl, sym, ap, ◌∙◌, subst, arith}
+use Rattle.std.proofs.Common.{◌≡◌, ◌+◌, ◌-◌, ◌≤◌, ℕ, Bool, true, false, not, cond, ◌&&◌, ◌||◌, List, [], ◌∷◌, ◌++◌, length, take, drop, filter, map, Option, Some, None, refl, sym, ap, ◌∙◌, subst, arith}
 use Rattle.std.specs.Prelude.{is_some, nat_le, nat_eq}
 use Rattle.std.specs.List.{list_all, starts_with}
 use Rattle.std.proofs.lemmas.Bool.{true≢false, false≢true, and_parts}
@@ -17,13 +17,14 @@ use Rattle.pod_command.specs.declared.snapshot.Snapshot.{Snapshot}
 use Rattle.pod_rows.specs.Access.{effective_of, governed}
 use Rattle.pod_rows.specs.Apply.{Applies, applied, after_edits, with_rows, with_rows_if}
 use Rattle.pod_rows.specs.Pod.{Pod}
-use Rattle.pod_rows.specs.Tree.{children_of, is_child_of, is_the_path}
+use Rattle.pod_rows.specs.Tree.{children_of, has_child, is_child_of, is_the_path}
 use Rattle.pod_rows.specs.WellFormed.{WellFormed, IsWellFormedSnapshot, pod_of, has_normal_path}
 use Rattle.pod_rows.proofs.Tests.{parse_is}
 use Rattle.row_pages.specs.Delimited.{is_direct, is_one_part, items_direct}
 use Rattle.row_pages.specs.Items.{Placed, begins_with, item_at, items_below, rows_of}
 use Rattle.pod_pages.specs.Edited.{AreMarkedBy}
 use Rattle.pod_pages.specs.Effects.{effects_of, entry_effects, kept_effects, oldest_after}
+use Rattle.pod_pages.specs.FirstChild.{has_direct_child}
 use Rattle.pod_pages.specs.Lists.{list_at}
 use Rattle.pod_pages.specs.Marks.{how_of, mark, path_mark}
 use Rattle.pod_pages.specs.Numbering.{AreReady, AreResolved, IsTree, Places, list_rules}
@@ -178,6 +179,24 @@ children_direct pod items container w same =
     paths_of : (xs : List Placed) → map (λ (i : Placed). i.row.path) xs ≡ map (λ (r : Row). r.path) (rows_of xs)
     paths_of [] = refl
     paths_of (x ∷ xs) = ap (λ (ps : List (List ℕ)). x.row.path ∷ ps) (paths_of xs)
+
+pub direct_child : (pod : Pod) (items : List Placed) (container : List ℕ) → WellFormed pod → pod.rows ≡ rows_of items → has_direct_child items container ≡ has_child pod.rows container
+direct_child pod items container w same =
+    in_items items (subst (λ rs. list_all has_normal_path rs ≡ true) same w.paths) ∙ ap (λ rs. has_child rs container) (sym same)
+  where
+    and_false : (b : Bool) → (b && false) ≡ false
+    and_false true = refl
+    and_false false = refl
+
+    in_items : (items : List Placed) → list_all has_normal_path (rows_of items) ≡ true → has_direct_child items container ≡ has_child (rows_of items) container
+    in_items [] n = refl
+    in_items (i ∷ items) n =
+        let parts = and_parts (has_normal_path i.row) (list_all has_normal_path (rows_of items)) n in
+        by_test (is_child_of container i.row) (child_direct container i.row parts.0) ∙ ap (λ b. is_child_of container i.row || b) (in_items items parts.1)
+      where
+        by_test : (b : Bool) → (b ≡ true → is_direct container i.row.path ≡ true) → ((is_direct container i.row.path && b) || has_direct_child items container) ≡ (b || has_direct_child items container)
+        by_test true f = ap (λ t. (t && true) || has_direct_child items container) (f refl)
+        by_test false f = ap (λ t. t || has_direct_child items container) (and_false (is_direct container i.row.path))
 
 -- ---- rows without marks
 

@@ -4,6 +4,7 @@ pub mod State
 pub mod Marks
 pub mod Lists
 pub mod Edited
+pub mod FirstChild
 pub mod Numbering
 pub mod Placings
 pub mod Versions

@@ -23,6 +23,7 @@
 
 mod edits;
 mod effects;
+mod first_child;
 mod item_paths;
 pub mod laws;
 mod limits;

@@ -21,6 +21,7 @@ ghost use Rattle.pod_pages.specs.declared.effects.Effect.{Effect as EffectValue}
 
 use crate::edits::{after_edits, row_at};
 use crate::effects::{Effect, is_row, kept_effects, oldest_after};
+use crate::first_child::has_child;
 use crate::item_paths::item_paths;
 use crate::lists::ListTable;
 use crate::numbers::path_mark;
@@ -330,6 +331,11 @@ impl PodState for Version {
         let below = self.rows.direct_below(alloc, path.as_str().as_bytes())?;
         let paths = children_among(alloc, below.as_slice(), path)?;
         Ok(List::from_vec(paths))
+    }
+
+    fn has_children(&self, alloc: Global, path: &Path) -> Mem<bool> {
+        let found = has_child(alloc, &self.rows, path)?;
+        Ok(found)
     }
 
     fn effective(&self, path: &Path) -> Effective<'_> {

@@ -2,6 +2,7 @@
 use Rattle.std.specs.Prelude.{ℕ, zero, suc, Bool, false, not, ◌&&◌, List, [], ◌∷◌, Option, Some}
 use Rattle.std.specs.Prelude.{None}
 use Rattle.std.specs.Prelude.{bytes_eq, map, filter, length, take}
+use Rattle.std.specs.List.{list_any}
 use Rattle.pod_path.specs.Hierarchy.{is_auxiliary, is_container, parent_of}
 use Rattle.pod_command.specs.declared.row.Row.{Row}
 
@@ -18,6 +19,10 @@ is_child_of container row =
 -- The paths of a container's children, in byte order.
 abbrev pub children_of : List Row → List ℕ → List (List ℕ)
 children_of rows container = map (λ row. row.path) (filter (is_child_of container) rows)
+
+-- Is a row a child of the container?
+abbrev pub has_child : List Row → List ℕ → Bool
+has_child rows container = list_any (is_child_of container) rows
 
 -- The beginnings of a text that are shorter than n bytes, the longest first.
 abbrev pub beginnings : List ℕ → ℕ → List (List ℕ)

@@ -5,7 +5,7 @@ ghost use Rattle.pod_rows.specs.Members.{is_member_at, states_member};
 ghost use Rattle.pod_rows.specs.declared.plain.StateFault.TheVariants.{NoMemory as OutOfMemory};
 ghost use Rattle.pod_rows.specs.Pod.{is_row};
 ghost use Rattle.pod_rows.specs.RowLists.{paths_below};
-ghost use Rattle.pod_rows.specs.Tree.{children_of, is_child_of};
+ghost use Rattle.pod_rows.specs.Tree.{children_of, has_child, is_child_of};
 ghost use Rattle.pod_rows.specs.WellFormed.{WellFormed, IsWellFormedSnapshot, pod_of};
 
 use crate::acl_list::{AclList, about, inherited, list_at, lists_of};
@@ -155,6 +155,13 @@ fn children_of(alloc: Global, rows: &[Row], container: &Path) -> Mem<Vec<Path>>
     Ok(paths)
 }
 
+/// Whether one of the rows is a child of the container.
+fn has_child(rows: &[Row], container: &Path) -> bool
+    ensures { result ≡ has_child rows.now container.now }
+{
+    rows.iter().any(|row| is_child_of(container, row))
+}
+
 /// Whether the row's path begins with a text.
 fn begins_with(row: &Row, text: &str) -> bool
     ensures { result ≡ starts_with nat_eq row.now.path text.now }
@@ -247,6 +254,10 @@ impl PodState for PlainRows {
     fn children(&self, alloc: Global, path: &Path) -> Mem<List<Path>> {
         let paths = children_of(alloc, self.rows.as_slice(), path)?;
         Ok(List::from_vec(paths))
+    }
+
+    fn has_children(&self, _alloc: Global, path: &Path) -> Mem<bool> {
+        Ok(has_child(self.rows.as_slice(), path))
     }
 
     fn effective(&self, path: &Path) -> Effective<'_> {

@@ -5,7 +5,7 @@ ghost use Rattle.pod_rows.specs.Access.{effective_of, governed, rules_at};
 ghost use Rattle.pod_rows.specs.Apply.{Applies, applied};
 ghost use Rattle.pod_rows.specs.Members.{is_member_at};
 ghost use Rattle.pod_rows.specs.Pod.{Pod, row_at, is_row};
-ghost use Rattle.pod_rows.specs.Tree.{children_of};
+ghost use Rattle.pod_rows.specs.Tree.{children_of, has_child};
 ghost use Rattle.pod_rows.specs.WellFormed.{WellFormed};
 
 use acl_rules::{Groups, How, Rules};
@@ -55,6 +55,10 @@ pub trait PodState: Taken + TakenNames + Groups {
     /// The paths of a container's children, in byte order.
     fn children(&self, alloc: Global, path: &Path) -> Mem<pod_base::List<Path>>
         ensures { IfOk result (λ paths. paths.items ≡ children_of (pod self.now).rows path.now) };
+
+    /// Whether a container has children.
+    fn has_children(&self, alloc: Global, path: &Path) -> Mem<bool>
+        ensures { IfOk result (λ r. r ≡ has_child (pod self.now).rows path.now) };
 
     /// The access list that governs a path, whether or not there is a row at the path.
     fn effective(&self, path: &Path) -> Effective<'_>

@@ -1,7 +1,7 @@
--- The items directly below a text, from one item to the next.
-use Rattle.std.proofs.Common.{◌≡◌, ◌<◌, ◌≤◌, ℕ, Bool, true, false, not, cond, ◌&&◌, List, [], ◌∷◌, ◌++◌, length, drop, Some, None, refl, sym, ap, subst, ◌∙◌, arith, append_assoc}
+-- The items directly below a text, from one part to the next.
+use Rattle.std.proofs.Common.{◌≡◌, ℕ, Bool, true, false, not, cond, ◌&&◌, inl, inr, List, [], ◌∷◌, ◌++◌, length, drop, Some, refl, sym, ap, subst, ◌∙◌, append_assoc}
 use Rattle.std.specs.Prelude.{nat_eq}
-use Rattle.std.specs.List.{starts_with}
+use Rattle.std.specs.List.{flat_map, starts_with}
 use Rattle.std.specs.Ordering.{is_lt, ordering_reverse}
 use Rattle.std.specs.declared.cmp.Ordering.{Ordering}
 use Rattle.std.specs.declared.cmp.Ordering.TheVariants.{Less, Equal, Greater}
@@ -9,36 +9,15 @@ use Rattle.std.proofs.lemmas.Bool.{false_from_ne_true}
 use Rattle.std.proofs.lemmas.Cmp.{nat_list_cmp_total}
 use Rattle.std.proofs.lemmas.List.{append-nil}
 use Rattle.rdf_graph.specs.Triple.{bytes_cmp}
-use Rattle.row_pages.specs.Borders.{AreAfter}
+use Rattle.row_pages.specs.Borders.{AreAfter, AreBefore}
 use Rattle.row_pages.specs.Delimited.{is_direct, is_one_part, items_direct}
-use Rattle.row_pages.specs.Items.{Placed, AreItemsInOrder, begins_with, first_from, is_before}
-use Rattle.row_pages.specs.Seeks.{IsNextText, items_from}
-use Rattle.row_pages.proofs.Below.{begun, begins_from, not_less, past}
-use Rattle.row_pages.proofs.Ordered.{less_by, less_of, order_first, order_rest, same_path}
+use Rattle.row_pages.specs.Items.{Placed, AreItemsInOrder, begins_with, first_item, is_before}
+use Rattle.row_pages.specs.Seeks.{IsListed, IsNextText, IsRaised, items_from, starts_below}
+use Rattle.row_pages.proofs.Around.{items_around}
+use Rattle.row_pages.proofs.Below.{begun, begins_from, less_begins, not_less, past}
+use Rattle.row_pages.proofs.Ordered.{after_right, less_back, less_by, less_of, order_first, order_right, same_path}
 
-same_item : (x i : Placed) → Some x ≡ Some i → x ≡ i
-same_item x i e = cc
-
-none_some : (i : Placed) → None ≡ Some i → ⊥
-none_some i e = absurd cc
-
--- ---- the end of a listing
-
-pub none_from : (rows : List Placed) (text : List ℕ) → first_from rows text ≡ None → items_from rows text ≡ []
-none_from [] text h = refl
-none_from (x ∷ xs) text h = by_test (is_before x.row.path text) (none_from xs text) h
-  where
-    by_test : (b : Bool) → (first_from xs text ≡ None → items_from xs text ≡ []) → cond (not b) (Some x) (first_from xs text) ≡ None → cond (not b) (x ∷ items_from xs text) (items_from xs text) ≡ []
-    by_test true next e = next e
-    by_test false next e = absurd cc
-
-found_from : (rows : List Placed) (text : List ℕ) (i : Placed) → first_from rows text ≡ Some i → is_before i.row.path text ≡ false
-found_from [] text i h = absurd (none_some i h)
-found_from (x ∷ xs) text i h = by_test (is_before x.row.path text) refl (found_from xs text i) h
-  where
-    by_test : (b : Bool) → is_before x.row.path text ≡ b → (first_from xs text ≡ Some i → is_before i.row.path text ≡ false) → cond (not b) (Some x) (first_from xs text) ≡ Some i → is_before i.row.path text ≡ false
-    by_test true t next e = next e
-    by_test false t next e = ap (λ (p : Placed). is_before p.row.path text) (sym (same_item x i e)) ∙ t
+-- ---- items that are passed
 
 -- a path from a text on that doesn't begin with what the text begins with is after it
 past_prefix : (prefix text path : List ℕ) → starts_with nat_eq text prefix ≡ true → is_before path text ≡ false → starts_with nat_eq path prefix ≡ false → bytes_cmp prefix path ≡ Less
@@ -60,124 +39,146 @@ past_prefix prefix text path b h n = by_order (bytes_cmp prefix path) refl
 not_direct : (prefix path : List ℕ) → starts_with nat_eq path prefix ≡ false → is_direct prefix path ≡ false
 not_direct prefix path n = ap (λ b. b && is_one_part (drop (length prefix) path)) n
 
+-- of an item that isn't directly below, nothing is listed
+none_of : (prefix text : List ℕ) (i : Placed) (js : List Placed) → is_direct prefix i.row.path ≡ false → items_direct (items_from (i ∷ js) text) prefix ≡ items_direct (items_from js text) prefix
+none_of prefix text i js n = by_test (is_before i.row.path text)
+  where
+    by_test : (b : Bool) → items_direct (cond (not b) (i ∷ items_from js text) (items_from js text)) prefix ≡ items_direct (items_from js text) prefix
+    by_test true = refl
+    by_test false = ap (λ b. cond b (i ∷ items_direct (items_from js text) prefix) (items_direct (items_from js text) prefix)) n
+
 none_past : (prefix text : List ℕ) (i : Placed) (js : List Placed) → AreAfter i.row.path js → bytes_cmp prefix i.row.path ≡ Less → begins_with prefix i ≡ false → items_direct (items_from js text) prefix ≡ []
 none_past prefix text i [] a l n = refl
-none_past prefix text i (j ∷ js) a l n = by_test (is_before j.row.path text) (none_past prefix text i js a.1 l n)
-  where
-    by_test : (b : Bool) → items_direct (items_from js text) prefix ≡ [] → items_direct (cond (not b) (j ∷ items_from js text) (items_from js text)) prefix ≡ []
-    by_test true e = e
-    by_test false e = ap (λ b. cond b (j ∷ items_direct (items_from js text) prefix) (items_direct (items_from js text) prefix)) (not_direct prefix j.row.path (past prefix i.row.path j.row.path l n a.0)) ∙ e
+none_past prefix text i (j ∷ js) a l n = none_of prefix text j js (not_direct prefix j.row.path (past prefix i.row.path j.row.path l n a.0)) ∙ none_past prefix text i js a.1 l n
 
-pub none_further : (rows : List Placed) (text prefix : List ℕ) (i : Placed) → AreItemsInOrder rows → first_from rows text ≡ Some i → starts_with nat_eq text prefix ≡ true → begins_with prefix i ≡ false
-    → items_direct (items_from rows text) prefix ≡ []
-none_further rows text prefix i o h b n = further rows o h
-  where
-    less : bytes_cmp prefix i.row.path ≡ Less
-    less = past_prefix prefix text i.row.path b (found_from rows text i h) n
+passed_before : (text : List ℕ) (xs zs : List Placed) → AreBefore text xs → items_from (xs ++ zs) text ≡ items_from zs text
+passed_before text [] zs h = refl
+passed_before text (x ∷ xs) zs h = ap (λ b. cond (not b) (x ∷ items_from (xs ++ zs) text) (items_from (xs ++ zs) text)) (ap is_lt h.0) ∙ passed_before text xs zs h.1
 
-    further : (rows : List Placed) → AreItemsInOrder rows → first_from rows text ≡ Some i → items_direct (items_from rows text) prefix ≡ []
-    further [] o h = refl
-    further (x ∷ xs) o h = by_test (is_before x.row.path text) (further xs (order_rest x xs o)) h
-      where
-        by_test : (b : Bool) → (first_from xs text ≡ Some i → items_direct (items_from xs text) prefix ≡ []) → cond (not b) (Some x) (first_from xs text) ≡ Some i
-            → items_direct (cond (not b) (x ∷ items_from xs text) (items_from xs text)) prefix ≡ []
-        by_test true next e = next e
-        by_test false next e =
-            let same : i ≡ x = sym (same_item x i e) in
-            ap (λ b. cond b (x ∷ items_direct (items_from xs text) prefix) (items_direct (items_from xs text) prefix)) (not_direct prefix x.row.path (ap (λ (p : Placed). begins_with prefix p) (sym same) ∙ n))
-            ∙ none_past prefix text i xs (subst (λ (p : Placed). AreAfter p.row.path xs) (sym same) (order_first x xs o)) less n
+kept_first : (text : List ℕ) (i : Placed) (js : List Placed) → is_before i.row.path text ≡ false → items_from (i ∷ js) text ≡ i ∷ items_from js text
+kept_first text i js f = ap (λ b. cond (not b) (i ∷ items_from js text) (items_from js text)) f
 
--- ---- one item further
+-- ---- one item
 
-record Further (rows : List Placed) (text new prefix : List ℕ) (i : Placed) : Type 0 where
-  whole : items_direct (items_from rows text) prefix ≡ items_direct (i ∷ []) prefix ++ items_direct (items_from rows new) prefix
-  fewer : length (items_from rows new) < length (items_from rows text)
-
-record Same (js : List Placed) (text new prefix : List ℕ) : Type 0 where
-  whole : items_direct (items_from js text) prefix ≡ items_direct (items_from js new) prefix
-  fewer : length (items_from js new) ≤ length (items_from js text)
-
-same_after : (text new prefix : List ℕ) (i : Placed) (js : List Placed) → IsNextText prefix i.row.path new → is_before i.row.path text ≡ false → AreAfter i.row.path js → Same js text new prefix
-same_after text new prefix i [] n h a = record { whole = refl; fewer = omega arith }
-same_after text new prefix i (j ∷ js) n h a = by_test (is_before j.row.path new) refl (same_after text new prefix i js n h a.1)
+raised_same : (prefix old new : List ℕ) (i : Placed) (js : List Placed) → IsNextText prefix i.row.path new → is_before i.row.path old ≡ false → AreAfter i.row.path js → items_direct (items_from js new) prefix ≡ items_direct (items_from js old) prefix
+raised_same prefix old new i [] n f a = refl
+raised_same prefix old new i (j ∷ js) n f a = by_test (is_before j.row.path new) refl (raised_same prefix old new i js n f a.1) ∙ ap (λ (is : List Placed). items_direct is prefix) (sym (kept_first old j js from))
   where
     never : true ≡ false → ⊥
     never e = absurd cc
 
-    from : is_before j.row.path text ≡ false
-    from = false_from_ne_true (is_before j.row.path text) (λ t. never (sym t ∙ (let back : bytes_cmp i.row.path text ≡ Less = nat_list_cmp_total.trans i.row.path j.row.path text a.0 (less_of (bytes_cmp j.row.path text) t) in absurd (never (sym (ap is_lt back) ∙ h)))))
+    from : is_before j.row.path old ≡ false
+    from = false_from_ne_true (is_before j.row.path old) (λ t. never (sym (ap is_lt (nat_list_cmp_total.trans i.row.path j.row.path old a.0 (less_of (bytes_cmp j.row.path old) t))) ∙ f))
 
-    all : items_from (j ∷ js) text ≡ j ∷ items_from js text
-    all = ap (λ b. cond (not b) (j ∷ items_from js text) (items_from js text)) from
+    by_test : (b : Bool) → is_before j.row.path new ≡ b → items_direct (items_from js new) prefix ≡ items_direct (items_from js old) prefix
+        → items_direct (cond (not b) (j ∷ items_from js new) (items_from js new)) prefix ≡ items_direct (j ∷ items_from js old) prefix
+    by_test true t e = e ∙ sym (ap (λ b. cond b (j ∷ items_direct (items_from js old) prefix) (items_direct (items_from js old) prefix)) (n.none j.row.path a.0 (less_of (bytes_cmp j.row.path new) t)))
+    by_test false t e = ap (λ (is : List Placed). cond (is_direct prefix j.row.path) (j ∷ is) is) e
 
-    by_test : (b : Bool) → is_before j.row.path new ≡ b → Same js text new prefix → Same (j ∷ js) text new prefix
-    by_test true t s =
-        let passed : items_from (j ∷ js) new ≡ items_from js new = ap (λ b. cond (not b) (j ∷ items_from js new) (items_from js new)) t in
-        let no : is_direct prefix j.row.path ≡ false = n.none j.row.path a.0 (less_of (bytes_cmp j.row.path new) t) in
-        let longer = ap length all in
-        let kept = ap length passed in
-        let few = s.fewer in
-        record {
-          whole = ap (λ is. items_direct is prefix) all ∙ ap (λ b. cond b (j ∷ items_direct (items_from js text) prefix) (items_direct (items_from js text) prefix)) no ∙ s.whole ∙ ap (λ is. items_direct is prefix) (sym passed);
-          fewer = omega (arith, longer, kept, few);
-        }
-    by_test false t s =
-        let kept : items_from (j ∷ js) new ≡ j ∷ items_from js new = ap (λ b. cond (not b) (j ∷ items_from js new) (items_from js new)) t in
-        let longer = ap length all in
-        let long = ap length kept in
-        let few = s.fewer in
-        record {
-          whole = ap (λ is. items_direct is prefix) all ∙ ap (λ (is : List Placed). cond (is_direct prefix j.row.path) (j ∷ is) is) s.whole ∙ ap (λ is. items_direct is prefix) (sym kept);
-          fewer = omega (arith, longer, long, few);
-        }
+pub listed_before : (prefix old : List ℕ) (had : List Placed) (i : Placed) → starts_with nat_eq old prefix ≡ true → is_before i.row.path old ≡ true → IsListed prefix (i ∷ []) old had old had
+listed_before prefix old had i b t = record {
+  begins = b;
+  whole = λ more o. ap (λ c. had ++ items_direct (cond (not c) (i ∷ items_from more old) (items_from more old)) prefix) (sym t);
+}
+
+pub listed_other : (prefix old : List ℕ) (had : List Placed) (i : Placed) → starts_with nat_eq old prefix ≡ true → begins_with prefix i ≡ false → IsListed prefix (i ∷ []) old had old had
+listed_other prefix old had i b n = record {
+  begins = b;
+  whole = λ more o. ap (λ (is : List Placed). had ++ is) (sym (none_of prefix old i more (not_direct prefix i.row.path n)));
+}
 
 cond_both : (b : Bool) (x : Placed) (xs : List Placed) → cond b (x ∷ xs) xs ≡ cond b (x ∷ []) [] ++ xs
 cond_both true x xs = refl
 cond_both false x xs = refl
 
-further_from : (rows : List Placed) (text new prefix : List ℕ) (i : Placed) → AreItemsInOrder rows → first_from rows text ≡ Some i → is_before i.row.path text ≡ false → IsNextText prefix i.row.path new
-    → Further rows text new prefix i
-further_from [] text new prefix i o h f n = absurd (none_some i h)
-further_from (x ∷ xs) text new prefix i o h f n = by_test (is_before x.row.path text) refl (λ e. further_from xs text new prefix i (order_rest x xs o) e f n) h
+pub listed_one : (prefix old new : List ℕ) (had has : List Placed) (i : Placed) → starts_with nat_eq old prefix ≡ true → is_before i.row.path old ≡ false → has ≡ had ++ items_direct (i ∷ []) prefix
+    → IsRaised prefix i.row.path old new → IsListed prefix (i ∷ []) old had new has
+listed_one prefix old new had has i b f e r = record {
+  begins = begins r;
+  whole = λ more o.
+      ap (λ (is : List Placed). is ++ items_direct (items_from more new) prefix) e
+      ∙ append_assoc had (items_direct (i ∷ []) prefix) (items_direct (items_from more new) prefix)
+      ∙ ap (λ (is : List Placed). had ++ (items_direct (i ∷ []) prefix ++ is)) (rest more (order_first i more o) r)
+      ∙ ap (λ (is : List Placed). had ++ is) (sym (ap (λ (is : List Placed). items_direct is prefix) (kept_first old i more f) ∙ cond_both (is_direct prefix i.row.path) i (items_direct (items_from more old) prefix)));
+}
   where
-    by_test : (b : Bool) → is_before x.row.path text ≡ b → (first_from xs text ≡ Some i → Further xs text new prefix i) → cond (not b) (Some x) (first_from xs text) ≡ Some i → Further (x ∷ xs) text new prefix i
-    by_test true t next e =
-        let less : bytes_cmp x.row.path i.row.path ≡ Less = less_by x.row.path text i.row.path (less_of (bytes_cmp x.row.path text) t) f in
-        let further : bytes_cmp x.row.path new ≡ Less = nat_list_cmp_total.trans x.row.path i.row.path new less n.after in
-        let first : items_from (x ∷ xs) text ≡ items_from xs text = ap (λ b. cond (not b) (x ∷ items_from xs text) (items_from xs text)) t in
-        let second : items_from (x ∷ xs) new ≡ items_from xs new = ap (λ b. cond (not b) (x ∷ items_from xs new) (items_from xs new)) (ap is_lt further) in
-        let more = next e in
-        let short = ap length second in
-        let long = ap length first in
-        let few = more.fewer in
-        record {
-          whole = ap (λ is. items_direct is prefix) first ∙ more.whole ∙ ap (λ is. items_direct (i ∷ []) prefix ++ items_direct is prefix) (sym second);
-          fewer = omega (arith, short, long, few);
-        }
-    by_test false t next e =
-        let same : i ≡ x = sym (same_item x i e) in
-        let after : AreAfter i.row.path xs = subst (λ (p : Placed). AreAfter p.row.path xs) (sym same) (order_first x xs o) in
-        let less : bytes_cmp x.row.path new ≡ Less = ap (λ (p : Placed). bytes_cmp p.row.path new) (sym same) ∙ n.after in
-        let first : items_from (x ∷ xs) text ≡ x ∷ items_from xs text = ap (λ b. cond (not b) (x ∷ items_from xs text) (items_from xs text)) t in
-        let second : items_from (x ∷ xs) new ≡ items_from xs new = ap (λ b. cond (not b) (x ∷ items_from xs new) (items_from xs new)) (ap is_lt less) in
-        let more = same_after text new prefix i xs n f after in
-        let short = ap length second in
-        let long = ap length first in
-        let few = more.fewer in
-        record {
-          whole = ap (λ is. items_direct is prefix) first
-              ∙ cond_both (is_direct prefix x.row.path) x (items_direct (items_from xs text) prefix)
-              ∙ ap (λ (p : Placed). items_direct (p ∷ []) prefix ++ items_direct (items_from xs text) prefix) (sym same)
-              ∙ ap (λ is. items_direct (i ∷ []) prefix ++ is) (more.whole ∙ ap (λ is. items_direct is prefix) (sym second));
-          fewer = omega (arith, short, long, few);
-        }
+    begins : IsRaised prefix i.row.path old new → starts_with nat_eq new prefix ≡ true
+    begins (inl same) = ap (λ (t : List ℕ). starts_with nat_eq t prefix) same ∙ b
+    begins (inr next) = next.begins
 
--- ---- the loop
+    rest : (more : List Placed) → AreAfter i.row.path more → IsRaised prefix i.row.path old new → items_direct (items_from more new) prefix ≡ items_direct (items_from more old) prefix
+    rest more a (inl same) = ap (λ (t : List ℕ). items_direct (items_from more t) prefix) same
+    rest more a (inr next) = raised_same prefix old new i more next f a
 
--- what a listing has, and what it has still to list
-pub record IsListedTo (rows : List Placed) (prefix : List ℕ) (items : List Placed) (text : List ℕ) : Type 0 where
-  pub whole : items ++ items_direct (items_from rows text) prefix ≡ items_direct rows prefix
-  pub begins : starts_with nat_eq text prefix ≡ true
+-- ---- parts
+
+pub below_first : {X : Type 0} (items : X → List Placed) (parts rest : List X) (part : X) (prefix : List ℕ) (i : Placed) → parts ≡ part ∷ rest → first_item (items part) ≡ Some i
+    → begins_with prefix i ≡ starts_below prefix (flat_map items parts)
+below_first items parts rest part prefix i e h = by_items (items part) h ∙ ap (λ ps. starts_below prefix (flat_map items ps)) (sym e)
+  where
+    by_items : (is : List Placed) → first_item is ≡ Some i → begins_with prefix i ≡ starts_below prefix (is ++ flat_map items rest)
+    by_items [] h = absurd cc
+    by_items (x ∷ xs) h = let same : i ≡ x = cc in ap (begins_with prefix) same
+
+-- where the first part isn't before a text, those after it are after the text
+pub after_first_from : {X : Type 0} (items : X → List Placed) (parts rest : List X) (part : X) (text : List ℕ) (i : Placed) → parts ≡ part ∷ rest → AreItemsInOrder (flat_map items parts) → first_item (items part) ≡ Some i
+    → is_before i.row.path text ≡ false → AreAfter text (flat_map items rest)
+after_first_from items parts rest part text i e o h f = by_items (items part) (subst AreItemsInOrder (ap (flat_map items) e) o) h
+  where
+    from : (p q : List ℕ) → is_before p text ≡ false → bytes_cmp p q ≡ Less → bytes_cmp text q ≡ Less
+    from p q f l = by_order (bytes_cmp p text) refl
+      where
+        never : true ≡ false → ⊥
+        never e = absurd cc
+
+        by_order : (o : Ordering) → bytes_cmp p text ≡ o → bytes_cmp text q ≡ Less
+        by_order Less e = absurd (never (sym (ap is_lt e) ∙ f))
+        by_order Equal e = ap (λ (x : List ℕ). bytes_cmp x q) (sym (same_path p text e)) ∙ l
+        by_order Greater e = nat_list_cmp_total.trans text p q (nat_list_cmp_total.antisymm text p ∙ ap ordering_reverse e) l
+
+    all_from : (p : List ℕ) (js : List Placed) → is_before p text ≡ false → AreAfter p js → AreAfter text js
+    all_from p [] f a = tt
+    all_from p (j ∷ js) f a = (from p j.row.path f a.0, all_from p js f a.1)
+
+    by_items : (is : List Placed) → AreItemsInOrder (is ++ flat_map items rest) → first_item is ≡ Some i → AreAfter text (flat_map items rest)
+    by_items [] o h = absurd cc
+    by_items (x ∷ xs) o h =
+        let same : x ≡ i = cc in
+        all_from x.row.path (flat_map items rest) (ap (λ (p : Placed). is_before p.row.path text) same ∙ f) (after_right x.row.path xs (flat_map items rest) (order_first x (xs ++ flat_map items rest) o))
+
+pub listed_none : (prefix old : List ℕ) (had : List Placed) → starts_with nat_eq old prefix ≡ true → IsListed prefix [] old had old had
+listed_none prefix old had b = record { begins = b; whole = λ more o. refl }
+
+-- nothing is listed of items that don't start below the prefix
+pub listed_past : (prefix old new : List ℕ) (is has : List Placed) → starts_with nat_eq old prefix ≡ true → starts_with nat_eq new prefix ≡ true → AreAfter old is → starts_below prefix is ≡ false → IsListed prefix is new has new has
+listed_past prefix old new [] has b c a n = listed_none prefix new has c
+listed_past prefix old new (i ∷ is) has b c a n = record {
+  begins = c;
+  whole = λ more o.
+      let after : AreAfter i.row.path (is ++ more) = order_first i (is ++ more) o in
+      let less : bytes_cmp prefix i.row.path ≡ Less = past_prefix prefix old i.row.path b (less_back old i.row.path a.0) n in
+      ap (λ (js : List Placed). has ++ js) (
+      none_past prefix new i more (after_right i.row.path is more after) less n
+      ∙ sym (none_of prefix new i (is ++ more) (not_direct prefix i.row.path n) ∙ none_past prefix new i (is ++ more) after less n)
+      );
+}
+
+pub listed_parts : {X : Type 0} (items : X → List Placed) (parts before after : List X) (part : X) (prefix old mid new : List ℕ) (had has all : List Placed) → parts ≡ before ++ part ∷ after → AreBefore old (flat_map items before)
+    → IsListed prefix (items part) old had mid has → IsListed prefix (flat_map items after) mid has new all → IsListed prefix (flat_map items parts) old had new all
+listed_parts items parts before after part prefix old mid new had has all e a first second = record {
+  begins = second.begins;
+  whole = λ more o.
+      let split : flat_map items parts ++ more ≡ flat_map items before ++ (items part ++ (flat_map items after ++ more)) =
+      ap (λ (is : List Placed). is ++ more) (ap (flat_map items) e ∙ items_around items before after part)
+      ∙ append_assoc (flat_map items before) (items part ++ flat_map items after) more
+      ∙ ap (λ (is : List Placed). flat_map items before ++ is) (append_assoc (items part) (flat_map items after) more) in
+      let here : AreItemsInOrder (items part ++ (flat_map items after ++ more)) = order_right (flat_map items before) (items part ++ (flat_map items after ++ more)) (subst AreItemsInOrder split o) in
+      second.whole more (order_right (items part) (flat_map items after ++ more) here)
+      ∙ first.whole (flat_map items after ++ more) here
+      ∙ ap (λ (is : List Placed). had ++ items_direct is prefix) (sym (ap (λ (is : List Placed). items_from is old) split ∙ passed_before old (flat_map items before) (items part ++ (flat_map items after ++ more)) a));
+}
+
+-- ---- the whole
 
 -- no item that begins with a text is before it
 all_from : (rows : List Placed) (prefix : List ℕ) → items_direct (items_from rows prefix) prefix ≡ items_direct rows prefix
@@ -186,29 +187,15 @@ all_from (x ∷ xs) prefix = by_test (is_before x.row.path prefix) refl (all_fro
   where
     by_test : (b : Bool) → is_before x.row.path prefix ≡ b → items_direct (items_from xs prefix) prefix ≡ items_direct xs prefix
         → items_direct (cond (not b) (x ∷ items_from xs prefix) (items_from xs prefix)) prefix ≡ cond (is_direct prefix x.row.path) (x ∷ items_direct xs prefix) (items_direct xs prefix)
-    by_test true t e = e ∙ sym (ap (λ b. cond b (x ∷ items_direct xs prefix) (items_direct xs prefix)) (not_direct prefix x.row.path (Rattle.row_pages.proofs.Below.less_begins x.row.path prefix (less_of (bytes_cmp x.row.path prefix) t))))
+    by_test true t e = e ∙ sym (ap (λ b. cond b (x ∷ items_direct xs prefix) (items_direct xs prefix)) (not_direct prefix x.row.path (less_begins x.row.path prefix (less_of (bytes_cmp x.row.path prefix) t))))
     by_test false t e = ap (λ (is : List Placed). cond (is_direct prefix x.row.path) (x ∷ is) is) e
 
-pub listed_first : (rows : List Placed) (prefix : List ℕ) (items : List Placed) (text : List ℕ) → items ≡ [] → text ≡ [] ++ prefix → IsListedTo rows prefix items text
-listed_first rows prefix items text none is = record {
-  whole = ap (λ (xs : List Placed). xs ++ items_direct (items_from rows text) prefix) none ∙ ap (λ (t : List ℕ). items_direct (items_from rows t) prefix) is ∙ all_from rows prefix;
-  begins = ap (λ (t : List ℕ). starts_with nat_eq t prefix) (is ∙ sym (append-nil prefix)) ∙ begins_from prefix [];
-}
+pub begins_itself : (prefix text : List ℕ) → text ≡ [] ++ prefix → starts_with nat_eq text prefix ≡ true
+begins_itself prefix text e = ap (λ (t : List ℕ). starts_with nat_eq t prefix) (e ∙ sym (append-nil prefix)) ∙ begins_from prefix []
 
-pub listed_next : (rows : List Placed) (prefix : List ℕ) (items next : List Placed) (text new : List ℕ) (i : Placed) → AreItemsInOrder rows → first_from rows text ≡ Some i → next ≡ items ++ items_direct (i ∷ []) prefix
-    → IsNextText prefix i.row.path new → IsListedTo rows prefix items text → IsListedTo rows prefix next new
-listed_next rows prefix items next text new i o h e n l =
-    let more = further_from rows text new prefix i o h (found_from rows text i h) n in
-    record {
-      whole = ap (λ (is : List Placed). is ++ items_direct (items_from rows new) prefix) e
-          ∙ append_assoc items (items_direct (i ∷ []) prefix) (items_direct (items_from rows new) prefix)
-          ∙ ap (λ (is : List Placed). items ++ is) (sym more.whole) ∙ l.whole;
-      begins = n.begins;
-    }
-
-pub fewer_next : (rows : List Placed) (prefix : List ℕ) (text new : List ℕ) (i : Placed) → AreItemsInOrder rows → first_from rows text ≡ Some i → IsNextText prefix i.row.path new
-    → length (items_from rows new) < length (items_from rows text)
-fewer_next rows prefix text new i o h n = (further_from rows text new prefix i o h (found_from rows text i h) n).fewer
-
-pub listed_all : (rows : List Placed) (prefix : List ℕ) (items : List Placed) (text : List ℕ) → items_direct (items_from rows text) prefix ≡ [] → IsListedTo rows prefix items text → items ≡ items_direct rows prefix
-listed_all rows prefix items text none l = sym (append-nil items) ∙ ap (λ (is : List Placed). items ++ is) (sym none) ∙ l.whole
+pub listed_all : (rows : List Placed) (prefix old new : List ℕ) (had has : List Placed) → AreItemsInOrder rows → had ≡ [] → old ≡ [] ++ prefix → IsListed prefix rows old had new has → has ≡ items_direct rows prefix
+listed_all rows prefix old new had has o none is l =
+    sym (append-nil has) ∙ l.whole [] (subst AreItemsInOrder (sym (append-nil rows)) o)
+    ∙ ap (λ (xs : List Placed). xs ++ items_direct (items_from (rows ++ []) old) prefix) none
+    ∙ ap (λ (xs : List Placed). items_direct (items_from xs old) prefix) (append-nil rows)
+    ∙ ap (λ (t : List ℕ). items_direct (items_from rows t) prefix) is ∙ all_from rows prefix

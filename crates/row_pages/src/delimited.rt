@@ -1,18 +1,18 @@
-//! A listing by a prefix and a delimiter: the items directly below a text. It seeks past what is
-//! below each of them.
-ghost use Rattle.std.specs.Prelude.{◌≡◌, ◌++◌, ◌∷◌, [], true, nat_eq, IfOk, IfNone, IfSome, OnOk};
-ghost use Rattle.std.specs.Prelude.{◌≤◌, Some, drop, length};
-ghost use Rattle.std.specs.List.{position, starts_with};
+//! A listing by a prefix and a delimiter: the items directly below a text. It goes from one to the
+//! next, and seeks past what is below a container.
+ghost use Rattle.std.specs.Prelude.{◌≡◌, ◌++◌, ◌∷◌, [], true, nat_eq, IfSome, OnOk};
+ghost use Rattle.std.specs.Prelude.{◌≤◌, drop, length};
+ghost use Rattle.std.specs.List.{flat_map, position, starts_with};
 ghost use Rattle.iri_ref.specs.Characters.{is_slash, slash};
 ghost use Rattle.row_pages.specs.Delimited.{first_part, items_direct};
-ghost use Rattle.row_pages.specs.Items.{AreItemsInOrder, begins_with, first_from};
-ghost use Rattle.row_pages.specs.Seeks.{IsNextText, items_from};
+ghost use Rattle.row_pages.specs.Items.{AreItemsInOrder, begins_with};
+ghost use Rattle.row_pages.specs.Seeks.{IsListed, IsRaised, starts_below};
 
 use crate::item::Item;
-use crate::part::begins_with;
-use crate::rows::Rows;
+use crate::part::{Listed, begins_with};
+use crate::parts::part_from;
+use crate::sought::text_is_before;
 use pod_base::Mem;
-use std::alloc::Global;
 
 /// Where the first slash of a text is.
 fn find_slash(text: &[u8]) -> Option<usize>
@@ -74,58 +74,76 @@ fn put_pieces(first: &[u8], second: &[u8], last: u8, text: &mut Vec<u8>) -> Mem<
     Ok(())
 }
 
-/// Puts the text from which a listing goes on after a path. After one with a slash this is the path
-/// up to its first slash, which is raised by one, so that all that is below it is passed; after
-/// another one it is the next text in byte order.
-fn put_next(path: &[u8], prefix: &[u8], text: &mut Vec<u8>) -> Mem<()>
+/// Raises the text from which a listing goes on, where a path has a slash below the prefix: to the
+/// path up to its first slash, which is raised by one, so that all that is below it is passed.
+fn raise(path: &[u8], prefix: &[u8], from: &mut Vec<u8>) -> Mem<()>
     requires { starts_with nat_eq path.now prefix.now ≡ true }
-    ensures { OnOk result (IsNextText prefix.now path.now text.new.items) }
+    ensures { OnOk result (IsRaised prefix.now path.now from.old.items from.new.items) }
 {
-    let part = first_part(suffix(path, prefix.len()));
-    match before_slash(part) {
+    match before_slash(first_part(suffix(path, prefix.len()))) {
         Some(name) => {
-            put_pieces(prefix, name, b'/' + 1, text)?;
+            put_pieces(prefix, name, b'/' + 1, from)?;
             Ok(())
         }
-        None => {
-            put_pieces(path, b"", 0, text)?;
-            Ok(())
-        }
+        None => Ok(()),
     }
 }
 
-/// The first item from a text on, if it is below the prefix, with which the text begins.
-fn next_below<'a>(rows: &'a Rows, text: &[u8], prefix: &[u8]) -> Option<&'a Item>
-    requires order { AreItemsInOrder rows.now }
-    requires begins { starts_with nat_eq text.now prefix.now ≡ true }
-    ensures first { IfSome result (λ item. first_from rows.entry.now text.now ≡ Some item.now) }
-    ensures below { IfSome result (λ item. begins_with prefix.now item.now ≡ true) }
-    ensures none { IfNone result (items_direct (items_from rows.entry.now text.now) prefix.now
-        ≡ []) }
+/// Appends an item, if it is directly below the prefix and not before the text from which a listing
+/// goes on, which is raised past what is below the item.
+pub(crate) fn list_item(
+    item: &Item,
+    prefix: &[u8],
+    from: &mut Vec<u8>,
+    into: &mut Vec<Item>,
+) -> Mem<()>
+    requires { starts_with nat_eq from.old.items prefix.now ≡ true }
+    ensures { OnOk result (IsListed prefix.now (item.now ∷ []) from.old.items into.old.items
+        from.new.items into.new.items) }
 {
-    match rows.first_from(text) {
-        Some(item) => {
-            if begins_with(item, prefix) {
-                Some(item)
-            } else {
-                None
-            }
-        }
-        None => None,
+    let path = item.path();
+    if text_is_before(path, from.as_slice()) {
+        return Ok(());
+    }
+    if !begins_with(item, prefix) {
+        return Ok(());
+    }
+    push_direct(item, prefix, into)?;
+    raise(path, prefix, from)?;
+    Ok(())
+}
+
+/// Whether the first item of parts is below the prefix.
+fn starts_below<T: Listed>(parts: &[T], prefix: &[u8]) -> bool
+    ensures { result ≡ starts_below prefix.now (flat_map T.items parts.now) }
+{
+    match parts.split_first() {
+        Some((part, _)) => begins_with(part.first_item(), prefix),
+        None => false,
     }
 }
 
-/// The items directly below a text, in order.
-pub(crate) fn direct_in(alloc: Global, rows: &Rows, prefix: &[u8]) -> Mem<Vec<Item>>
-    requires { AreItemsInOrder rows.now }
-    ensures { IfOk result (λ items. items.items ≡ items_direct rows.now prefix.now) }
+/// Appends the items directly below the prefix, of those that aren't before the text from which a
+/// listing goes on, which is raised.
+pub(crate) fn list_parts<T: Listed>(
+    parts: &[T],
+    prefix: &[u8],
+    from: &mut Vec<u8>,
+    into: &mut Vec<Item>,
+) -> Mem<()>
+    requires order { AreItemsInOrder (flat_map T.items parts.now) }
+    requires begins { starts_with nat_eq from.old.items prefix.now ≡ true }
+    ensures { OnOk result (IsListed prefix.now (flat_map T.items parts.now) from.old.items
+        into.old.items from.new.items into.new.items) }
 {
-    let mut items = Vec::new(alloc);
-    let mut text = Vec::new(alloc);
-    text.extend_from_slice(prefix)?;
-    while let Some(item) = next_below(rows, text.as_slice(), prefix) {
-        push_direct(item, prefix, &mut items)?;
-        put_next(item.path(), prefix, &mut text)?;
+    let Some(around) = part_from(parts, from.as_slice()) else {
+        return Ok(());
+    };
+    let more = starts_below(around.after, prefix);
+    around.part.list(prefix, from, into)?;
+    if !more {
+        return Ok(());
     }
-    Ok(items)
+    list_parts(around.after, prefix, from, into)?;
+    Ok(())
 }

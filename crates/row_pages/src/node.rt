@@ -7,6 +7,7 @@ ghost use Rattle.row_pages.specs.Items.{AreItemsInOrder, put_item};
 ghost use Rattle.row_pages.specs.Nodes.{IsNode, HaveItems};
 ghost use Rattle.row_pages.specs.Parts.{items_of_both};
 
+use crate::delimited::list_parts;
 use crate::item::Item;
 use crate::keyed::Keyed;
 use crate::limits::PAGE_LIMIT;
@@ -280,5 +281,9 @@ impl<T: Listed> Listed for Node<T> {
 
     fn below(&self, prefix: &[u8], into: &mut Vec<Item>) -> Mem<()> {
         below_in(self.parts(), prefix, into)
+    }
+
+    fn list(&self, prefix: &[u8], from: &mut Vec<u8>, into: &mut Vec<Item>) -> Mem<()> {
+        list_parts(self.parts(), prefix, from, into)
     }
 }

@@ -1,11 +1,14 @@
 //! [`Part`]: an item, a page of items, or a book of pages.
 ghost use Rattle.std.specs.Prelude.{◌≡◌, ◌+◌, ◌<◌, ◌≤◌, ◌++◌, ◌∷◌, [], ℕ, List, Some, IfOk, IfSome};
-ghost use Rattle.std.specs.Prelude.{IfNone, OnOk, length, option_copied, refl};
+ghost use Rattle.std.specs.Prelude.{IfNone, OnOk, length, nat_eq, option_copied, refl, true};
+ghost use Rattle.std.specs.List.{starts_with};
 ghost use Rattle.row_pages.specs.Borders.{first_begins, first_path};
 ghost use Rattle.row_pages.specs.Items.{Placed, AreItemsInOrder, item_at, put_item};
 ghost use Rattle.row_pages.specs.Items.{remove_item, items_below, begins_with, first_from, first_item};
 ghost use Rattle.row_pages.specs.Parts.{items_if, items_of_both};
+ghost use Rattle.row_pages.specs.Seeks.{IsListed};
 
+use crate::delimited::list_item;
 use crate::item::Item;
 use crate::keyed::Keyed;
 use crate::sought::{Sought, text_is_before};
@@ -108,6 +111,14 @@ pub(crate) trait Listed: Part {
         requires { AreItemsInOrder (Self.items self.now) }
         ensures { OnOk result (into.new.items
             ≡ into.old.items ++ items_below (Self.items self.now) prefix.now) };
+
+    /// Appends the items directly below the prefix, of those that aren't before the text from which
+    /// a listing goes on, which is raised.
+    fn list(&self, prefix: &[u8], from: &mut Vec<u8>, into: &mut Vec<Item>) -> Mem<()>
+        requires order { AreItemsInOrder (Self.items self.now) }
+        requires begins { starts_with nat_eq from.old.items prefix.now ≡ true }
+        ensures { OnOk result (IsListed prefix.now (Self.items self.now) from.old.items
+            into.old.items from.new.items into.new.items) };
 }
 
 impl Part for Item {
@@ -215,5 +226,9 @@ impl Listed for Item {
             into.push(item)?;
         }
         Ok(())
+    }
+
+    fn list(&self, prefix: &[u8], from: &mut Vec<u8>, into: &mut Vec<Item>) -> Mem<()> {
+        list_item(self, prefix, from, into)
     }
 }

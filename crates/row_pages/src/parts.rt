@@ -13,7 +13,7 @@ ghost use Rattle.row_pages.specs.Nodes.{HaveItems};
 
 use crate::item::Item;
 use crate::part::{Listed, Part};
-use crate::sought::{PathText, Sought};
+use crate::sought::{PathText, Sought, text_is_before};
 use crate::steps::Steps;
 use pod_base::Mem;
 use std::alloc::Global;
@@ -424,4 +424,29 @@ pub(crate) fn first_from_in<'a, T: Listed>(parts: &'a [T], text: &[u8]) -> Optio
         },
         None => None,
     }
+}
+
+/// The part in which the items from a text on begin: the first part, where nothing of it is before
+/// the text, and else the one to which the text belongs.
+pub(crate) fn part_from<'a, T: Listed>(parts: &'a [T], text: &[u8]) -> Option<Around<'a, T>>
+    requires { AreItemsInOrder (flat_map T.items parts.now) }
+    ensures whole { IfSome result (λ around. parts.entry.now
+        ≡ around.before.now ++ around.part.now ∷ around.after.now) }
+    ensures before { IfSome result (λ around.
+        AreBefore text.now (flat_map T.items around.before.now)) }
+    ensures after { IfSome result (λ around.
+        AreAfter text.now (flat_map T.items around.after.now)) }
+    ensures none { IfNone result (parts.entry.now ≡ []) }
+{
+    let Some((part, after)) = parts.split_first() else {
+        return None;
+    };
+    if text_is_before(part.first_item().path(), text) {
+        return split_at_path(parts, text);
+    }
+    Some(Around {
+        before: &parts[..0],
+        part,
+        after,
+    })
 }

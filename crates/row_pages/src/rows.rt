@@ -6,7 +6,7 @@ ghost use Rattle.row_pages.specs.Items.{AreItemsInOrder, Placed, item_at, put_it
 ghost use Rattle.row_pages.specs.Items.{items_below, first_from};
 ghost use Rattle.row_pages.specs.Delimited.{items_direct};
 
-use crate::delimited::direct_in;
+use crate::delimited::list_parts;
 use crate::item::Item;
 use crate::node::{Node, push_nodes};
 use crate::part::Part;
@@ -201,12 +201,14 @@ impl Rows {
     }
 
     /// The items directly below a text, in order: their paths begin with it, and have after it a
-    /// slash at most at their end. Each is one search.
+    /// slash at most at their end. What is below a container among them is passed by one search.
     pub fn direct_below(&self, alloc: Global, prefix: &[u8]) -> Mem<Vec<Item>>
         ensures { IfOk result (λ items. items.items ≡ items_direct self.now prefix.now) }
     {
-        self.are_in_order();
-        let items = direct_in(alloc, self, prefix)?;
+        let mut items = Vec::new(alloc);
+        let mut from = Vec::new(alloc);
+        from.extend_from_slice(prefix)?;
+        list_parts(self.books.as_slice(), prefix, &mut from, &mut items)?;
         Ok(items)
     }
 
