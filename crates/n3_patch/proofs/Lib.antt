@@ -1,6 +1,5 @@
 pub mod PatternLemmas
 pub mod RuleLemmas
-pub mod SizeLemmas
 pub mod VariableLemmas
 pub mod Meant
 pub mod OneSpelled

@@ -1,18 +1,20 @@
 -- A text is read in one way.
-use Rattle.std.proofs.Common.{◌≡◌, ◌<◌, ◌⊎◌, ℕ, List, Result, Ok, Err, inl, inr, refl, sym, ap, subst, arith}
+use Rattle.std.proofs.Common.{◌≡◌, ◌<◌, ◌⊎◌, ℕ, List, Result, Ok, Err, IfOk, IfErr, OnOk, inl, inr, refl, sym, ap, subst, arith}
 use Rattle.rdf_graph.specs.declared.patch.Patch.{Patch as RdfPatch}
 use Rattle.rdf_graph.specs.declared.size.TheConstants.{TRIPLES_LIMIT}
 use Rattle.turtle_grammar.specs.declared.symbol.Start.TheVariants.{Patch}
 use Rattle.turtle_terms.specs.declared.fault.TurtleFault.{TurtleFault}
 use Rattle.turtle_reader.specs.FirstFaults.{NeverLarge}
 use Rattle.turtle_reader.proofs.OneFault as first
+use Rattle.turtle_reader.proofs.OneText.{no_fault, nowhere_large}
 use Rattle.n3_patch.specs.declared.fault.N3Fault.{N3Fault}
 use Rattle.n3_patch.specs.declared.fault.N3Fault.TheVariants.{Syntax, Constraint, TooLarge, NoMemory}
 use Rattle.n3_patch.specs.declared.triples.PatchTriple.{PatchTriple}
 use Rattle.n3_patch.specs.Answers.{HasOneAnswer, HasOneFirstFault, IsReadAs, PlacesAscend, SameAnswer}
-use Rattle.n3_patch.specs.Faults.{HasSyntax, IsFirstFault, told_as}
+use Rattle.n3_patch.specs.Faults.{HasNoFault, HasOnlyPatch, HasSyntax, IsFirstFault, IsN3Fault, IsShallow, told_as}
 use Rattle.n3_patch.specs.Rules.{IsFirstBroken, IsJudged, KeepsRules}
 use Rattle.n3_patch.specs.Size.{patch_size}
+use Rattle.n3_patch.specs.Spells.{PatchSpells}
 use Rattle.n3_patch.proofs.OneSpelled.{one_spelled}
 use Rattle.n3_patch.proofs.RuleLemmas.{one_patch, one_rule, patch_breaks_none}
 
@@ -86,3 +88,20 @@ module _ (base bytes : List ℕ) where
 
 pub one_answer : HasOneAnswer
 one_answer base bytes a b h k = same_answer base bytes a b (either base bytes a h) (either base bytes b k)
+
+-- What is returned, where the bytes spell a patch and no bracket is too deep
+
+module _ (base bytes : List ℕ) (patch : RdfPatch) (h : PatchSpells base bytes patch) (shallow : IsShallow base bytes) where
+  read_as : IsReadAs base bytes (Ok patch)
+  read_as = (h, no_fault NeverLarge Patch base bytes h.spells.productions h.spells.meanings h.spells.text shallow (nowhere_large Patch base bytes))
+
+  only_memory : (f : N3Fault) → IsN3Fault base bytes f → f ≡ NoMemory
+  only_memory (Syntax at) is = absurd (one_answer base bytes (Ok patch) (Err (Syntax at)) read_as is)
+  only_memory (Constraint rule) is = absurd (one_answer base bytes (Ok patch) (Err (Constraint rule)) read_as is)
+  only_memory TooLarge is = absurd (one_answer base bytes (Ok patch) (Err TooLarge) read_as is)
+  only_memory NoMemory is = refl
+
+pub only : (base bytes : List ℕ) (r : Answer) → IfOk r (PatchSpells base bytes) → OnOk r (HasNoFault base bytes) → IfErr r (IsN3Fault base bytes)
+    → HasOnlyPatch base bytes r
+only base bytes (Ok found) spells sound fault patch h shallow = one_answer base bytes (Ok found) (Ok patch) (spells, sound) (read_as base bytes patch h shallow)
+only base bytes (Err f) spells sound fault patch h shallow = only_memory base bytes patch h shallow f fault

@@ -1,17 +1,21 @@
 -- Patterns that are put in one after another, each once.
-use Rattle.std.proofs.Common.{◌≡◌, ◌||◌, ℕ, Bool, true, false, not, cond, List, [], ◌∷◌, ◌++◌, Option, Some, None, if◌then◌else◌, refl, sym, ap, ◌∙◌, subst}
+use Rattle.std.proofs.Common.{◌≡◌, ◌||◌, Bool, true, false, not, cond, List, [], ◌∷◌, ◌++◌, Option, Some, None, if◌then◌else◌, refl, sym, ap, ◌∙◌, subst}
 use Rattle.std.specs.BTreeSet.{BTreeSet, contains}
 use Rattle.std.specs.Cmp.{IsEquivalence, eq_by_cmp_equiv}
 use Rattle.std.specs.List.{list_any}
 use Rattle.std.specs.Ordering.{eq_by_cmp}
+use Rattle.std.proofs.Math.Bool.{or_comm, or-false}
+use Rattle.std.proofs.lemmas.Bool.{not-false, not-true}
 use Rattle.std.proofs.lemmas.List.Folds.{list_any-append}
 use Rattle.rdf_graph.specs.TermOrder.{pattern_cmp}
 use Rattle.rdf_graph.specs.TermOrderLaws.{pattern_cmp_total}
 use Rattle.rdf_graph.specs.declared.pattern.Pattern.{Pattern}
+use Rattle.rdf_graph.specs.declared.pattern.Slot.{Slot}
+use Rattle.n3_patch.specs.declared.triples.PatchNode.{PatchNode}
+use Rattle.n3_patch.specs.declared.triples.PatchNode.TheVariants.{Term, Variable, Formula}
 use Rattle.n3_patch.specs.declared.triples.PatchTriple.{PatchTriple}
-use Rattle.n3_patch.specs.Nodes.{is_this_formula, pattern_of}
-use Rattle.n3_patch.specs.Parts.{with_formula, with_pattern}
-use Rattle.n3_patch.specs.Progress.{AddsPattern, HasPatterns, TakesIfInside, TakesPattern}
+use Rattle.n3_patch.specs.Nodes.{pattern_from, pattern_of, slot_of}
+use Rattle.n3_patch.specs.Progress.{AddsPattern, HasPatterns, TakesPattern, pattern_like, slot_like}
 
 abbrev pattern_eq : Pattern → Pattern → Bool
 pattern_eq = eq_by_cmp pattern_cmp
@@ -24,18 +28,7 @@ cond_or true c = refl
 cond_or false c = refl
 
 or_last : (a b : Bool) → (b || a) ≡ (a || (b || false))
-or_last true true = refl
-or_last true false = refl
-or_last false true = refl
-or_last false false = refl
-
-not_true : (b : Bool) → not b ≡ true → b ≡ false
-not_true true e = cc
-not_true false e = refl
-
-not_false : (b : Bool) → not b ≡ false → b ≡ true
-not_false true e = refl
-not_false false e = cc
+or_last a b = or_comm b a ∙ ap (λ c. a || c) (sym (or-false b))
 
 -- equal patterns are in the same lists
 any_alike : (x y : Pattern) (patterns : List Pattern) → pattern_eq x y ≡ true → list_any (pattern_eq x) patterns ≡ list_any (pattern_eq y) patterns
@@ -48,7 +41,7 @@ pub taken_new : (seen after : BTreeSet Pattern) (patterns : List Pattern) (x : P
     → ((y : Pattern) → contains pattern_cmp after y ≡ (pattern_eq y x || contains pattern_cmp seen y))
     → HasPatterns seen patterns → TakesPattern seen patterns (Some x) after (patterns ++ x ∷ [])
 taken_new seen after patterns x fresh is true_is step h =
-    let free : list_any (pattern_eq x) patterns ≡ false = sym (h x) ∙ not_true (contains pattern_cmp seen x) (sym is ∙ true_is) in
+    let free : list_any (pattern_eq x) patterns ≡ false = sym (h x) ∙ not-true (contains pattern_cmp seen x) (sym is ∙ true_is) in
     record {
       patterns_are = sym (ap (λ b. if b then patterns else patterns ++ x ∷ []) free);
       seen_are = λ y. step y ∙ ap (λ b. pattern_eq y x || b) (h y) ∙ or_last (list_any (pattern_eq y) patterns) (pattern_eq y x)
@@ -60,7 +53,7 @@ pub taken_known : (seen after : BTreeSet Pattern) (patterns : List Pattern) (x :
     → ((y : Pattern) → contains pattern_cmp after y ≡ (pattern_eq y x || contains pattern_cmp seen y))
     → HasPatterns seen patterns → TakesPattern seen patterns (Some x) after patterns
 taken_known seen after patterns x fresh is false_is step h =
-    let had : list_any (pattern_eq x) patterns ≡ true = sym (h x) ∙ not_false (contains pattern_cmp seen x) (sym is ∙ false_is) in
+    let had : list_any (pattern_eq x) patterns ≡ true = sym (h x) ∙ not-false (contains pattern_cmp seen x) (sym is ∙ false_is) in
     record {
       patterns_are = sym (ap (λ b. if b then patterns else patterns ++ x ∷ []) had);
       seen_are = λ y. step y ∙ ap (λ b. pattern_eq y x || b) (h y) ∙ same y (pattern_eq y x) refl had;
@@ -69,30 +62,23 @@ taken_known seen after patterns x fresh is false_is step h =
       same y true e had = sym (any_alike y x patterns e ∙ had)
       same y false e had = refl
 
-pub taken_none : (seen : BTreeSet Pattern) (patterns : List Pattern) → HasPatterns seen patterns → TakesPattern seen patterns None seen patterns
-taken_none seen patterns h = record { patterns_are = refl; seen_are = h }
+-- a triple with a pattern is that pattern
+like_slot : (n : PatchNode) (s : Slot) → slot_of n ≡ Some s → slot_like n ≡ s
+like_slot (Term t) s e = cc
+like_slot (Variable name) s e = cc
+like_slot (Formula i) s e = cc
 
-pub inside : (i : ℕ) (t : PatchTriple) (seen after : BTreeSet Pattern) (old new : List Pattern) (b : Bool) → b ≡ is_this_formula i t.formula → b ≡ true
-    → AddsPattern seen old (pattern_of t) after new → HasPatterns seen old → TakesIfInside i t old after new
-inside i t seen after old new b is true_is adds h =
-    let taken = adds h in
-    record {
-      patterns_are = taken.patterns_are ∙ sym (ap (λ c. if c then with_pattern old (pattern_of t) else old) (sym is ∙ true_is));
-      seen_are = taken.seen_are;
-    }
+like_parts : (a b c : Option Slot) (x : Pattern) → pattern_from a b c ≡ Some x → (a ≡ Some x.s) × (b ≡ Some x.p) × (c ≡ Some x.o)
+like_parts (Some s) (Some p) (Some o) x e = (cc, cc, cc)
+like_parts None b c x e = cc
+like_parts (Some s) None c x e = cc
+like_parts (Some s) (Some p) None x e = cc
 
-pub outside : (i : ℕ) (t : PatchTriple) (seen : BTreeSet Pattern) (old : List Pattern) (b : Bool) → b ≡ is_this_formula i t.formula → b ≡ false
-    → HasPatterns seen old → TakesIfInside i t old seen old
-outside i t seen old b is false_is h = record {
-  patterns_are = sym (ap (λ c. if c then with_pattern old (pattern_of t) else old) (sym is ∙ false_is));
-  seen_are = h;
-}
-
--- one triple more of a formula
-pub formula_step : (i : ℕ) (t : PatchTriple) (triples all : List PatchTriple) (seen : BTreeSet Pattern) (old new : List Pattern)
-    → with_formula i (t ∷ triples) old ≡ with_formula i all [] → TakesIfInside i t old seen new
-    → with_formula i triples new ≡ with_formula i all []
-formula_step i t triples all seen old new e taken = ap (with_formula i triples) taken.patterns_are ∙ e
+pub like_pattern : (t : PatchTriple) (x : Pattern) → pattern_of t ≡ Some x → pattern_like t ≡ x
+like_pattern t x e =
+    let (s, p, o) = like_parts (slot_of t.subject) (slot_of t.predicate) (slot_of t.object) x e in
+    let s' = like_slot t.subject x.s s in let p' = like_slot t.predicate x.p p in let o' = like_slot t.object x.o o in
+    cc
 
 -- the two ways of a pattern, which is new or known
 pub added_new : (seen after : BTreeSet Pattern) (old new : List Pattern) (o : Option Pattern) (x : Pattern) (fresh : Bool) → o ≡ Some x

@@ -1,7 +1,7 @@
 -- Which rules are kept, one after another.
-use Rattle.std.proofs.Common.{◌≡◌, ◌<◌, inl, inr, ℕ, zero, suc, Bool, true, false, List, length, Option, Some, None, refl, sym, ap, ◌∙◌, subst, arith}
+use Rattle.std.proofs.Common.{◌≡◌, ◌<◌, inl, inr, ℕ, zero, suc, Bool, true, false, List, length, Option, Some, None, if◌then◌else◌, refl, sym, ap, ◌∙◌, subst, arith}
 use Rattle.std.specs.List.{list_any}
-use Rattle.std.proofs.lemmas.Bool.{cases_lt, cases_order}
+use Rattle.std.proofs.lemmas.Bool.{cases_lt, cases_order, false≢true}
 use Rattle.rdf_graph.specs.Patch.{AllBound, IsBound}
 use Rattle.rdf_graph.specs.Pattern.{IsVariableOf}
 use Rattle.rdf_graph.specs.declared.patch.Patch.{Patch}
@@ -17,7 +17,7 @@ use Rattle.n3_patch.specs.declared.triples.PatchTriple.{PatchTriple}
 use Rattle.n3_patch.specs.Parts.{first_typing, part_patterns, IsPatchOf}
 use Rattle.n3_patch.specs.Rules.{Breaks, BreaksFrom, BreaksOf, IsFaultOf, IsFirstBroken, gives_other, has_blank, is_nested, is_repeated, is_stray, rank, types_other}
 use Rattle.n3_patch.specs.Laws.{HasOnePatch, HasOneRule, PatchBreaksNone}
-use Rattle.n3_patch.specs.Progress.{BreaksLast, IsFaultFrom, IsFirstOf, IsKeptPatch, IsPatch, KeepsBelow, KeepsLast, KeepsTests}
+use Rattle.n3_patch.specs.Progress.{BreaksLast, IsFaultFrom, IsFirstOf, IsKeptPatch, IsPatch, KeepsBelow, KeepsLast, KeepsTests, first_test}
 
 -- the rule of a rank
 abbrev rule_at : ℕ → PatchRule
@@ -33,32 +33,14 @@ rule_at n = rule.TooManyConditions
 
 rule_of_rank : (a : PatchRule) → rule_at (rank a) ≡ a
 rule_of_rank rule.NoPatch = refl
-rule_of_rank rule.ManyPatches = refl
-rule_of_rank rule.Repeated = refl
-rule_of_rank rule.NotFormula = refl
-rule_of_rank rule.Stray = refl
-rule_of_rank rule.Nested = refl
-rule_of_rank rule.BlankNode = refl
-rule_of_rank rule.FreeVariable = refl
-rule_of_rank rule.TooManyConditions = refl
+rule_of_rank _ = refl
 
 same_rank : (a b : PatchRule) → rank a ≡ rank b → a ≡ b
 same_rank a b e = sym (rule_of_rank a) ∙ ap rule_at e ∙ rule_of_rank b
 
 rank_small : (a : PatchRule) → rank a < 9
 rank_small rule.NoPatch = omega arith
-rank_small rule.ManyPatches = omega arith
-rank_small rule.Repeated = omega arith
-rank_small rule.NotFormula = omega arith
-rank_small rule.Stray = omega arith
-rank_small rule.Nested = omega arith
-rank_small rule.BlankNode = omega arith
-rank_small rule.FreeVariable = omega arith
-rank_small rule.TooManyConditions = omega arith
-
-false_is_true : (b : Bool) → b ≡ false → b ≡ true → ⊥
-false_is_true true f t = cc
-false_is_true false f t = cc
+rank_small _ = omega arith
 
 module _ (r : PatchNode) (ts : List PatchTriple) where
   keep_more : (kept : PatchRule) → KeepsBelow r ts (rank kept) → (BreaksOf r ts kept → ⊥) → KeepsBelow r ts (suc (rank kept))
@@ -67,32 +49,30 @@ module _ (r : PatchNode) (ts : List PatchTriple) where
     | inr more ↦ none (subst (BreaksOf r ts) (same_rank other kept (omega arith)) h)
   ]
 
-  pub keep_1 : KeepsBelow r ts 1
-  keep_1 = keep_more rule.NoPatch (λ other less h. absurd (omega (arith, less))) (λ h. h)
+  -- what the first of the rules that are tests says
+  abbrev Judges : Option PatchRule → Type 0
+  Judges (Some broken) = IsFirstOf r ts broken
+  Judges None = KeepsTests r ts
 
-  module _ (one : list_any (types_other r) ts ≡ false) where
-    pub keep_2 : KeepsBelow r ts 2
-    keep_2 = keep_more rule.ManyPatches keep_1 (false_is_true (list_any (types_other r) ts) one)
+  by_test : (test : Bool) (tested : PatchRule) (more : Option PatchRule) → KeepsBelow r ts (rank tested) → (test ≡ true → BreaksOf r ts tested)
+      → (BreaksOf r ts tested → test ≡ true) → (KeepsBelow r ts (suc (rank tested)) → Judges more) → Judges (if test then Some tested else more)
+  by_test true tested more before breaks is next = record { breaks = breaks refl; first = before }
+  by_test false tested more before breaks is next = next (keep_more tested before (λ h. false≢true (is h)))
 
-    module _ (once : is_repeated r ts ≡ false) where
-      pub keep_3 : KeepsBelow r ts 3
-      keep_3 = keep_more rule.Repeated keep_2 (false_is_true (is_repeated r ts) once)
+  judges : Judges (first_test r ts)
+  judges =
+      by_test (list_any (types_other r) ts) rule.ManyPatches _ (keep_more rule.NoPatch (λ other less h. absurd (omega (arith, less))) (λ h. h)) (λ e. e) (λ e. e) (λ k1.
+      by_test (is_repeated r ts) rule.Repeated _ k1 (λ e. e) (λ e. e) (λ k2.
+      by_test (list_any (gives_other r) ts) rule.NotFormula _ k2 (λ e. e) (λ e. e) (λ k3.
+      by_test (list_any (is_stray r) ts) rule.Stray _ k3 (λ e. e) (λ e. e) (λ k4.
+      by_test (list_any is_nested ts) rule.Nested _ k4 (λ e. e) (λ e. e) (λ k5.
+      by_test (list_any has_blank ts) rule.BlankNode None k5 (λ e. e) (λ e. e) (λ k6. k6))))))
 
-      module _ (formulas : list_any (gives_other r) ts ≡ false) where
-        pub keep_4 : KeepsBelow r ts 4
-        keep_4 = keep_more rule.NotFormula keep_3 (false_is_true (list_any (gives_other r) ts) formulas)
+  pub first_broken : (broken : PatchRule) → first_test r ts ≡ Some broken → IsFirstOf r ts broken
+  first_broken broken e = subst Judges e judges
 
-        module _ (parts : list_any (is_stray r) ts ≡ false) where
-          pub keep_5 : KeepsBelow r ts 5
-          keep_5 = keep_more rule.Stray keep_4 (false_is_true (list_any (is_stray r) ts) parts)
-
-          module _ (flat : list_any is_nested ts ≡ false) where
-            pub keep_6 : KeepsBelow r ts 6
-            keep_6 = keep_more rule.Nested keep_5 (false_is_true (list_any is_nested ts) flat)
-
-            module _ (named : list_any has_blank ts ≡ false) where
-              pub keep_7 : KeepsTests r ts
-              keep_7 = keep_more rule.BlankNode keep_6 (false_is_true (list_any has_blank ts) named)
+  pub tests_kept : first_test r ts ≡ None → KeepsTests r ts
+  tests_kept e = subst Judges e judges
 
   module _ (patch : Patch) (is_patch : IsPatchOf r ts patch) where
     -- the patterns of a patch are those of the parts
@@ -121,18 +101,12 @@ module _ (r : PatchNode) (ts : List PatchTriple) where
     )
 
     pub breaks_last : KeepsTests r ts → (broken : PatchRule) → BreaksLast patch broken → IsFirstOf r ts broken
-    breaks_last tests rule.NoPatch h = absurd h
-    breaks_last tests rule.ManyPatches h = absurd h
-    breaks_last tests rule.Repeated h = absurd h
-    breaks_last tests rule.NotFormula h = absurd h
-    breaks_last tests rule.Stray h = absurd h
-    breaks_last tests rule.Nested h = absurd h
-    breaks_last tests rule.BlankNode h = absurd h
     breaks_last tests rule.FreeVariable h = record { breaks = λ both. h (bound_patch both); first = tests }
     breaks_last tests rule.TooManyConditions h = record {
       breaks = subst (λ (ps : List Pattern). CONDITIONS_LIMIT < length ps) is_patch.conditions h.1;
       first = keep_8 tests h.0;
     }
+    breaks_last tests _ h = absurd h
 
 -- from the patch resource to the triples
 module _ (ts : List PatchTriple) (typing : PatchTriple) (found : first_typing ts ≡ Some typing) where

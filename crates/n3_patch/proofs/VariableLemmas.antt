@@ -2,6 +2,7 @@
 use Rattle.std.proofs.Common.{◌≡◌, ◌↔◌, ◌+◌, ◌<◌, ◌≤◌, inl, inr, ℕ, Bool, true, false, cond, List, ◌∷◌, length, drop, get_or, refl, sym, ap, ◌∙◌, subst, add-one}
 use Rattle.std.proofs.Math.ListN.{drop_of_length-le}
 use Rattle.std.proofs.Math.Seq.{drop-cons}
+use Rattle.std.proofs.lemmas.Bool.{false≢true}
 use Rattle.std.specs.Prelude.{◌⊎◌, IsTrue}
 use Rattle.std.specs.BTreeSet.{BTreeSet, contains}
 use Rattle.std.specs.Cmp.Lexicographic.{slice_cmp, bytes_decides, texts_ties}
@@ -19,21 +20,9 @@ equal_name x y e = (bytes_decides x y).0 (texts_ties x y ∙ e)
 name_equal : (x y : List ℕ) → x ≡ y → eq_by_cmp (slice_cmp nat_cmp) x y ≡ true
 name_equal x y e = sym (texts_ties x y) ∙ (bytes_decides x y).1 e
 
-false_is_true : (b : Bool) → b ≡ false → b ≡ true → ⊥
-false_is_true true f t = cc
-false_is_true false f t = cc
-
-inserted : (b had has : Bool) → has ≡ cond b true had → has ≡ true → (had ≡ true) ⊎ (b ≡ true)
-inserted true had has e h = inr refl
-inserted false had has e h = inl (sym e ∙ h)
-
-had_before : (b had has : Bool) → has ≡ cond b true had → had ≡ true → has ≡ true
-had_before true had has e h = e
-had_before false had has e h = e ∙ h
-
-now_has : (b had has : Bool) → has ≡ cond b true had → b ≡ true → has ≡ true
-now_has true had has e h = e
-now_has false had has e h = cc
+either : (b had has : Bool) → has ≡ cond b true had → (has ≡ true) ↔ ((had ≡ true) ⊎ (b ≡ true))
+either true had has e = (λ h. inr refl, λ h. e)
+either false had has e = (λ h. inl (sym e ∙ h), λ h. elim h [ inl before ↦ e ∙ before | inr f ↦ cc ])
 
 pub name_added : (old new : BTreeSet (List ℕ)) (n : List ℕ)
     → ((x : List ℕ) → contains (slice_cmp nat_cmp) new x ≡ cond (eq_by_cmp (slice_cmp nat_cmp) n x) true (contains (slice_cmp nat_cmp) old x))
@@ -41,9 +30,9 @@ pub name_added : (old new : BTreeSet (List ℕ)) (n : List ℕ)
 name_added old new n step x =
     let same = eq_by_cmp (slice_cmp nat_cmp) n x in
     let had = contains (slice_cmp nat_cmp) old x in
-    let has = contains (slice_cmp nat_cmp) new x in (
-      λ h. elim (inserted same had has (step x) h) [ inl before ↦ inl before | inr e ↦ inr (equal_name n x e) ],
-      λ h. elim h [ inl before ↦ had_before same had has (step x) before | inr e ↦ now_has same had has (step x) (name_equal n x e) ],
+    let added = either same had (contains (slice_cmp nat_cmp) new x) (step x) in (
+      λ h. elim (added.0 h) [ inl before ↦ inl before | inr e ↦ inr (equal_name n x e) ],
+      λ h. added.1 (elim h [ inl before ↦ inl before | inr e ↦ inr (name_equal n x e) ]),
     )
 
 pub variables_added : (old a b new : BTreeSet (List ℕ)) (pattern : Pattern) → AddsSlot old pattern.s a → AddsSlot a pattern.p b → AddsSlot b pattern.o new → AddsVariables old pattern new
@@ -109,7 +98,7 @@ module _ (patch : Patch) (names : BTreeSet (List ℕ)) (are : AreNamesOf names p
 
   pub rest_unnamed : (a : Bool) → (IsTrue a ↔ HasNames names (IsVariableOf ds)) → a ≡ false → IsTrue a ↔ IsBound patch
   rest_unnamed a h e = (
-    λ yes. absurd (false_is_true a e yes),
+    λ yes. absurd (false≢true (sym e ∙ yes)),
     λ bound. h.1 (deletions_named bound),
   )
 

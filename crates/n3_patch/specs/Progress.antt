@@ -1,5 +1,6 @@
 -- Invariants of the code that judges the rules.
-use Rattle.std.specs.Prelude.{◌≡◌, ◌<◌, ◌≤◌, ℕ, List, length, Option, Some, if◌then◌else◌}
+use Rattle.std.specs.Prelude.{◌≡◌, ◌<◌, ◌≤◌, ℕ, List, [], length, Option, Some, None}
+use Rattle.std.specs.Prelude.{if◌then◌else◌}
 use Rattle.std.specs.List.{list_any}
 use Rattle.std.specs.BTreeSet.{BTreeSet, contains}
 use Rattle.std.specs.Ordering.{eq_by_cmp}
@@ -7,16 +8,20 @@ use Rattle.rdf_graph.specs.Patch.{IsBound}
 use Rattle.rdf_graph.specs.TermOrder.{pattern_cmp}
 use Rattle.rdf_graph.specs.declared.patch.Patch.{Patch}
 use Rattle.rdf_graph.specs.declared.pattern.Pattern.{Pattern}
+use Rattle.rdf_graph.specs.declared.pattern.Slot.{Slot}
+use Rattle.rdf_graph.specs.declared.pattern.Slot.TheVariants.{Fixed, Var}
 use Rattle.n3_patch.specs.declared.fault.PatchRule.{PatchRule}
 use Rattle.n3_patch.specs.declared.fault.PatchRule.TheVariants as rule
 use Rattle.n3_patch.specs.declared.fault.TheConstants.{CONDITIONS_LIMIT}
 use Rattle.n3_patch.specs.declared.fault.Judgement.{Judgement}
 use Rattle.n3_patch.specs.declared.fault.Judgement.TheVariants.{Broken, TooLarge, NoMemory}
 use Rattle.n3_patch.specs.declared.triples.PatchNode.{PatchNode}
+use Rattle.n3_patch.specs.declared.triples.PatchNode.TheVariants.{Term, Variable, Formula}
 use Rattle.n3_patch.specs.declared.triples.PatchTriple.{PatchTriple}
 use Rattle.n3_patch.specs.Nodes.{is_this_formula, pattern_of}
 use Rattle.n3_patch.specs.Parts.{first_typing, with_pattern, IsPatchOf}
-use Rattle.n3_patch.specs.Rules.{BreaksOf, KeepsRules, rank}
+use Rattle.n3_patch.specs.Rules.{BreaksOf, KeepsRules, rank, types_other, is_repeated, gives_other}
+use Rattle.n3_patch.specs.Rules.{is_stray, is_nested, has_blank}
 
 -- No rule with a lesser rank is broken.
 abbrev pub KeepsBelow : PatchNode → List PatchTriple → ℕ → Type 0
@@ -26,10 +31,29 @@ KeepsBelow r triples n = (other : PatchRule) → rank other < n → BreaksOf r t
 abbrev pub KeepsTests : PatchNode → List PatchTriple → Type 0
 KeepsTests r triples = KeepsBelow r triples 7
 
+-- the first broken rule of those that are tests
+abbrev pub first_test : PatchNode → List PatchTriple → Option PatchRule
+first_test r triples = if list_any (types_other r) triples then Some rule.ManyPatches
+    else if is_repeated r triples then Some rule.Repeated
+    else if list_any (gives_other r) triples then Some rule.NotFormula
+    else if list_any (is_stray r) triples then Some rule.Stray
+    else if list_any is_nested triples then Some rule.Nested
+    else if list_any has_blank triples then Some rule.BlankNode else None
+
 -- this is the first rule that is broken
 pub record IsFirstOf (r : PatchNode) (triples : List PatchTriple) (broken : PatchRule) : Type 0 where
   pub breaks : BreaksOf r triples broken
   pub first : KeepsBelow r triples (rank broken)
+
+-- The pattern of a triple, in which a formula is a variable without a name.
+abbrev pub slot_like : PatchNode → Slot
+slot_like (Term t) = Fixed t
+slot_like (Variable name) = Var name
+slot_like (Formula i) = Var []
+
+abbrev pub pattern_like : PatchTriple → Pattern
+pattern_like t =
+    record { s = slot_like t.subject; p = slot_like t.predicate; o = slot_like t.object }
 
 -- the set has these patterns
 abbrev pub HasPatterns : BTreeSet Pattern → List Pattern → Type 0

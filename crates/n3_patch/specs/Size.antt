@@ -13,9 +13,11 @@ node_size (Term t) = term_size t
 node_size (Variable name) = term_size (Blank name)
 node_size (Formula i) = 0
 
+abbrev pub nodes_size : PatchTriple → ℕ
+nodes_size t = node_size t.subject + (node_size t.predicate + node_size t.object)
+
 abbrev pub counted_size : PatchTriple → ℕ
-counted_size t = if is_formula t.object then 0 else
-    node_size t.subject + (node_size t.predicate + node_size t.object)
+counted_size t = if is_formula t.object then 0 else nodes_size t
 
 -- the size of a patch document, repeats included
 abbrev pub patch_size : List PatchTriple → ℕ

@@ -1,6 +1,6 @@
 //! The patch of triples, or the first rule that they break.
 
-ghost use Rattle.std.specs.Prelude.{◌≡◌, ◌↔◌, IfOk, IfErr, IfSome, IfNone, IsTrue};
+ghost use Rattle.std.specs.Prelude.{◌↔◌, IfOk, IfErr, IfSome, IfNone, IsTrue};
 ghost use Rattle.rdf_graph.specs.Patch.{IsBound};
 ghost use Rattle.n3_patch.specs.Parts.{IsPatchOf};
 ghost use Rattle.n3_patch.specs.Rules.{IsJudged, IsFaultOf};

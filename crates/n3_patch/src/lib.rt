@@ -26,9 +26,9 @@
 mod fault;
 mod free_variables;
 mod judging;
-mod kept;
 pub mod laws;
 mod made;
+mod pattern_ref;
 mod patterns;
 mod reading;
 mod rules;
@@ -38,7 +38,7 @@ mod vocabulary;
 
 pub use fault::{CONDITIONS_LIMIT, Judgement, N3Fault, PatchRule};
 pub use judging::judge;
-pub use kept::KEPT_BYTES_LIMIT;
 pub use reading::read;
+pub use size::KEPT_BYTES_LIMIT;
 pub use triples::{PatchNode, PatchTriple};
 pub use vocabulary::{Part, SOLID_DELETES, SOLID_INSERT_DELETE_PATCH, SOLID_INSERTS, SOLID_WHERE};

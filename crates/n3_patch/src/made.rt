@@ -5,11 +5,12 @@ ghost use Rattle.turtle_labels.specs.Documents.{AreLazyLabelsOf};
 ghost use Rattle.n3_patch.specs.Spells.{IsReferentNode, within_formula};
 ghost use Rattle.n3_patch.specs.Reading.{IsReferentTriple};
 
-use crate::kept::{KEPT_BYTES_LIMIT, kept_bytes};
+use crate::size::{KEPT_BYTES_LIMIT, kept_bytes};
 use crate::triples::{PatchNode, PatchTriple};
-use pod_base::{List, Mem, NoMemory};
+use pod_base::{List, Mem, NoMemory, Text};
 use rdf_graph::Term;
 use std::alloc::Global;
+use std::collections::BTreeSet;
 use turtle_grammar::{Start, Within};
 use turtle_labels::LazyLabels;
 use turtle_reader::{Language, Referent, ResolvedTriple};
@@ -19,8 +20,24 @@ use turtle_reader::{Language, Referent, ResolvedTriple};
 pub(crate) struct Made {
     pub(crate) list: List<PatchTriple>,
     pub(crate) labels: LazyLabels,
+    /// The names of variables, each of which has its memory once.
+    names: BTreeSet<Text>,
     /// How many bytes of triples it may still keep.
     left: u64,
+}
+
+/// An equal name, which shares its memory with the ones before.
+fn shared(alloc: Global, names: &mut BTreeSet<Text>, name: Text) -> Mem<Text>
+    ensures { IfOk result (λ one. one ≡ name) }
+{
+    match names.get(&name) {
+        Some(known) => known.copy(alloc),
+        None => {
+            let copy = name.copy(alloc)?;
+            let _ = names.insert(copy)?;
+            Ok(name)
+        }
+    }
 }
 
 /// The node of a patch document that a node refers to.
@@ -28,6 +45,7 @@ fn node_of(
     alloc: Global,
     bytes: &[u8],
     labels: &mut LazyLabels,
+    names: &mut BTreeSet<Text>,
     referent: Referent,
 ) -> Mem<PatchNode>
     requires { AreLazyLabelsOf bytes.now labels.old }
@@ -36,7 +54,7 @@ fn node_of(
 {
     match referent {
         Referent::Term(term) => Ok(PatchNode::Term(term)),
-        Referent::Variable(name) => Ok(PatchNode::Variable(name)),
+        Referent::Variable(name) => Ok(PatchNode::Variable(shared(alloc, names, name)?)),
         Referent::Formula(index) => Ok(PatchNode::Formula(index)),
         Referent::Unnamed(number) => match labels.label(alloc, bytes, number) {
             Ok(label) => Ok(PatchNode::Term(Term::Blank(label))),
@@ -60,6 +78,7 @@ fn triple_of(
     alloc: Global,
     bytes: &[u8],
     labels: &mut LazyLabels,
+    names: &mut BTreeSet<Text>,
     resolved: ResolvedTriple,
 ) -> Mem<PatchTriple>
     requires { AreLazyLabelsOf bytes.now labels.old }
@@ -67,9 +86,9 @@ fn triple_of(
     ensures triple { IfOk result (IsReferentTriple bytes.now resolved) }
 {
     let formula = within_formula(resolved.within);
-    let subject = node_of(alloc, bytes, labels, resolved.subject)?;
-    let predicate = node_of(alloc, bytes, labels, resolved.predicate)?;
-    let object = node_of(alloc, bytes, labels, resolved.object)?;
+    let subject = node_of(alloc, bytes, labels, names, resolved.subject)?;
+    let predicate = node_of(alloc, bytes, labels, names, resolved.predicate)?;
+    let object = node_of(alloc, bytes, labels, names, resolved.object)?;
     Ok(PatchTriple {
         subject,
         predicate,
@@ -86,6 +105,7 @@ impl Made {
         Made {
             list: List::new(alloc),
             labels: LazyLabels::new(),
+            names: BTreeSet::new(alloc),
             left: KEPT_BYTES_LIMIT,
         }
     }
@@ -124,7 +144,7 @@ impl Language for Made {
     }
 
     fn keep(&mut self, alloc: Global, bytes: &[u8], triple: ResolvedTriple) -> Mem<()> {
-        let triple = triple_of(alloc, bytes, &mut self.labels, triple)?;
+        let triple = triple_of(alloc, bytes, &mut self.labels, &mut self.names, triple)?;
         self.push(alloc, triple)
     }
 

@@ -1,6 +1,6 @@
 //! The patterns of the parts.
 
-ghost use Rattle.std.specs.Prelude.{◌≡◌, ◌++◌, ◌∷◌, ◌||◌, [], not, Some, IfOk, OnOk};
+ghost use Rattle.std.specs.Prelude.{◌≡◌, ◌++◌, ◌∷◌, ◌||◌, [], not, IfOk, OnOk};
 ghost use Rattle.std.specs.BTreeSet.{contains};
 ghost use Rattle.std.specs.Option.{option_copied};
 ghost use Rattle.std.specs.Ordering.{eq_by_cmp};
@@ -8,8 +8,9 @@ ghost use Rattle.rdf_graph.specs.TermOrder.{pattern_cmp};
 ghost use Rattle.rdf_graph.specs.declared.pattern.Pattern.{Pattern};
 ghost use Rattle.n3_patch.specs.Nodes.{is_this_formula, pattern_of};
 ghost use Rattle.n3_patch.specs.Parts.{with_formula, object_formula, part_patterns};
-ghost use Rattle.n3_patch.specs.Progress.{AddsPattern, AddsIfInside};
+ghost use Rattle.n3_patch.specs.Progress.{AddsPattern, AddsIfInside, pattern_like};
 
+use crate::pattern_ref::PatternRef;
 use crate::rules::first_formula;
 use crate::triples::{PatchNode, PatchTriple};
 use crate::vocabulary::Part;
@@ -27,42 +28,32 @@ fn push_pattern(alloc: Global, patterns: &mut List<Pattern>, pattern: Pattern) -
     }
 }
 
-/// Appends the pattern of a triple.
-fn push_pattern_of(alloc: Global, patterns: &mut List<Pattern>, triple: &PatchTriple) -> Mem<()>
-    ensures { OnOk result ((x : Pattern) → pattern_of triple.now ≡ Some x
-        → patterns.new.items ≡ patterns.old.items ++ x ∷ []) }
-{
-    match triple.pattern(alloc)? {
-        Some(pattern) => push_pattern(alloc, patterns, pattern),
-        None => Ok(()),
-    }
-}
-
-/// Puts the pattern in, and returns whether it is new.
-fn insert_new(seen: &mut BTreeSet<Pattern>, pattern: Pattern) -> Mem<bool>
-    ensures new { IfOk result (λ new. new ≡ not (contains pattern_cmp seen.old pattern)) }
+/// Puts the pattern of a triple in, and returns whether it is new.
+fn insert_new<'a>(seen: &mut BTreeSet<PatternRef<'a>>, triple: &'a PatchTriple) -> Mem<bool>
+    ensures new { IfOk result (λ new. new
+        ≡ not (contains pattern_cmp seen.old (pattern_like triple.now))) }
     ensures members { OnOk result ((x : Pattern) → contains pattern_cmp seen.new x
-        ≡ (eq_by_cmp pattern_cmp x pattern || contains pattern_cmp seen.old x)) }
+        ≡ (eq_by_cmp pattern_cmp x (pattern_like triple.now) || contains pattern_cmp seen.old x)) }
 {
-    Ok(seen.insert(pattern)?)
+    Ok(seen.insert(PatternRef { triple })?)
 }
 
 /// Appends the pattern of a triple, if it is new.
-fn add_pattern(
+fn add_pattern<'a>(
     alloc: Global,
-    seen: &mut BTreeSet<Pattern>,
+    seen: &mut BTreeSet<PatternRef<'a>>,
     patterns: &mut List<Pattern>,
-    triple: &PatchTriple,
+    triple: &'a PatchTriple,
 ) -> Mem<()>
     ensures { OnOk result (AddsPattern seen.old patterns.old.items (pattern_of triple.now)
         seen.new patterns.new.items) }
 {
-    let Some(key) = triple.pattern(alloc)? else {
+    let Some(pattern) = triple.pattern(alloc)? else {
         return Ok(());
     };
-    let new = insert_new(seen, key)?;
+    let new = insert_new(seen, triple)?;
     if new {
-        push_pattern_of(alloc, patterns, triple)
+        push_pattern(alloc, patterns, pattern)
     } else {
         Ok(())
     }
@@ -79,12 +70,12 @@ fn stands_in(index: usize, triple: &PatchTriple) -> bool
 }
 
 /// Appends the pattern of a triple, if it is in the formula and is new.
-fn add_if_inside(
+fn add_if_inside<'a>(
     alloc: Global,
-    seen: &mut BTreeSet<Pattern>,
+    seen: &mut BTreeSet<PatternRef<'a>>,
     patterns: &mut List<Pattern>,
     index: usize,
-    triple: &PatchTriple,
+    triple: &'a PatchTriple,
 ) -> Mem<()>
     ensures { OnOk result (AddsIfInside index triple.now seen.old patterns.old.items
         seen.new patterns.new.items) }

@@ -43,6 +43,24 @@ fn syntax(fault: TurtleFault) -> N3Fault
     }
 }
 
+/// The patch that the bytes parse to, or their first fault.
+fn read_patch(alloc: Global, base: &Iri, bytes: &[u8]) -> Result<Patch, N3Fault>
+    ensures spells { IfOk result (PatchSpells base.now bytes.now) }
+    ensures sound { OnOk result (HasNoFault base.now bytes.now) }
+    ensures bound { IfOk result IsBound }
+    ensures fault { IfErr result (IsN3Fault base.now bytes.now) }
+{
+    match read_triples(alloc, base, bytes) {
+        Err(fault) => Err(syntax(fault)),
+        Ok(triples) => match judge(alloc, triples.as_slice()) {
+            Ok(patch) => Ok(patch),
+            Err(Judgement::Broken(rule)) => Err(N3Fault::Constraint(rule)),
+            Err(Judgement::TooLarge) => Err(N3Fault::TooLarge),
+            Err(Judgement::NoMemory) => Err(N3Fault::NoMemory),
+        },
+    }
+}
+
 /// The patch that the bytes parse to under a base IRI.
 ///
 /// # Errors
@@ -57,13 +75,5 @@ pub fn read(alloc: Global, base: &Iri, bytes: &[u8]) -> Result<Patch, N3Fault>
     ensures fault { IfErr result (IsN3Fault base.now bytes.now) }
     ensures only { HasOnlyPatch base.now bytes.now result }
 {
-    match read_triples(alloc, base, bytes) {
-        Err(fault) => Err(syntax(fault)),
-        Ok(triples) => match judge(alloc, triples.as_slice()) {
-            Ok(patch) => Ok(patch),
-            Err(Judgement::Broken(rule)) => Err(N3Fault::Constraint(rule)),
-            Err(Judgement::TooLarge) => Err(N3Fault::TooLarge),
-            Err(Judgement::NoMemory) => Err(N3Fault::NoMemory),
-        },
-    }
+    read_patch(alloc, base, bytes)
 }

@@ -1,12 +1,12 @@
 //! The rules of a patch document, each as a test of its triples.
 
-ghost use Rattle.std.specs.Prelude.{◌≡◌, IfSome, IfNone};
+ghost use Rattle.std.specs.Prelude.{◌≡◌};
 ghost use Rattle.std.specs.List.{find, list_any};
 ghost use Rattle.std.specs.Option.{option_copied};
 ghost use Rattle.n3_patch.specs.Parts.{is_typing, first_typing, gives_part, gives_formula};
 ghost use Rattle.n3_patch.specs.Rules.{types_other, has_two, is_repeated, gives_any, gives_other};
 ghost use Rattle.n3_patch.specs.Rules.{is_stray, is_nested, has_blank};
-ghost use Rattle.n3_patch.specs.Progress.{IsFirstOf, KeepsTests};
+ghost use Rattle.n3_patch.specs.Progress.{first_test};
 
 use crate::fault::PatchRule;
 use crate::triples::{PatchNode, PatchTriple};
@@ -25,14 +25,7 @@ pub(crate) fn is_typing(triple: &PatchTriple) -> bool
 pub(crate) fn first_typing(triples: &[PatchTriple]) -> Option<&PatchTriple>
     ensures { option_copied result ≡ first_typing triples.now }
 {
-    let mut left = triples;
-    while let Some((first, rest)) = left.split_first() {
-        if is_typing(first) {
-            return Some(first);
-        }
-        left = rest;
-    }
-    None
+    triples.iter().find(|triple| is_typing(triple))
 }
 
 /// Whether another resource is a patch.
@@ -64,14 +57,9 @@ pub(crate) fn first_formula<'a>(
 ) -> Option<&'a PatchTriple>
     ensures { option_copied result ≡ find (gives_formula resource.now part) triples.now }
 {
-    let mut left = triples;
-    while let Some((first, rest)) = left.split_first() {
-        if gives_formula(resource, part, first) {
-            return Some(first);
-        }
-        left = rest;
-    }
-    None
+    triples
+        .iter()
+        .find(|triple| gives_formula(resource, part, triple))
 }
 
 /// Whether some triple gives the part a formula.
@@ -169,8 +157,7 @@ fn any_has_blank(triples: &[PatchTriple]) -> bool
 
 /// The first broken rule of those that are tests: all up to `BlankNode`.
 pub(crate) fn broken_test(resource: &PatchNode, triples: &[PatchTriple]) -> Option<PatchRule>
-    ensures broken { IfSome result (IsFirstOf resource.now triples.now) }
-    ensures kept { IfNone result (KeepsTests resource.now triples.now) }
+    ensures { result ≡ first_test resource.now triples.now }
 {
     if any_types_other(resource, triples) {
         Some(PatchRule::ManyPatches)

@@ -1,102 +1,95 @@
-//! The size of a patch document, which is limited.
+//! The size of a patch document, which is limited, and what its triples count while they are read.
 
-ghost use Rattle.std.specs.Prelude.{◌≡◌, ◌+◌, ◌<◌, ◌≤◌, ℕ, length, IfSome, IfNone};
+ghost use Rattle.std.specs.Prelude.{◌≡◌, ◌+◌, ◌<◌, ◌≤◌, ℕ};
 ghost use Rattle.std.specs.Bool.{OnTrue, OnFalse};
-ghost use Rattle.rdf_graph.specs.Size.{saturated, term_size};
+ghost use Rattle.rdf_graph.specs.Size.{saturated};
 ghost use Rattle.rdf_graph.specs.declared.size.TheConstants.{TRIPLES_LIMIT};
-ghost use Rattle.n3_patch.specs.Size.{node_size, counted_size, patch_size};
+ghost use Rattle.n3_patch.specs.Size.{node_size, nodes_size, counted_size, patch_size};
 
 use crate::triples::{PatchNode, PatchTriple};
-use rdf_graph::{TRIPLES_LIMIT, Term};
+use rdf_graph::TRIPLES_LIMIT;
 
-/// What is left of a number of bytes after so many, which may be saturated.
-fn after_size(left: u64, size: u64) -> Option<u64>
-    requires { left ≤ TRIPLES_LIMIT }
-    ensures some { IfSome result (λ rest. (n : ℕ) → size ≡ saturated n → rest + n ≡ left) }
-    ensures none { IfNone result ((n : ℕ) → size ≡ saturated n → left < n) }
+/// The most bytes that the triples of a patch document count: past it the parser is out of memory.
+/// It is 8 times the limit of a document, so that the first broken rule of one that is too large is
+/// still reported. A triple counts its encoded terms and [`TRIPLE_BYTES`], a variable counts as a
+/// label, and a formula nothing.
+pub const KEPT_BYTES_LIMIT: u64 = 67_108_864;
+
+/// What a triple takes beside its terms, as one of the document and as a pattern. No document
+/// within `rdf_graph::TRIPLES_LIMIT` passes [`KEPT_BYTES_LIMIT`] by it, but for triples whose
+/// object is a formula, and for patterns of which almost all are of variables alone.
+const TRIPLE_BYTES: u64 = 224;
+
+/// The number as a size.
+#[tactic(auto, unfolding(rdf_graph::specs::Size::saturated))]
+fn size_of(number: usize) -> u64
+    ensures { result ≡ saturated number }
 {
-    if size <= left {
-        Some(left - size)
-    } else {
-        None
-    }
+    number as u64
 }
 
-/// What is left of a number of bytes after a term's.
-fn after_term(left: u64, term: &Term) -> Option<u64>
-    requires { left ≤ TRIPLES_LIMIT }
-    ensures some { IfSome result (λ rest. rest + term_size term.now ≡ left) }
-    ensures none { IfNone result (left < term_size term.now) }
+/// The sum of two sizes, at most 2^64 - 1.
+fn saturating_sum(first: u64, second: u64) -> u64
+    ensures { (m : ℕ) (n : ℕ) → first ≡ saturated m → second ≡ saturated n
+        → result ≡ saturated (m + n) }
 {
-    match after_size(left, term.encoded_size()) {
-        Some(rest) => Some(rest),
-        None => None,
-    }
+    first.saturating_add(second)
 }
 
-/// What is left of a number of bytes after a variable's.
-fn after_variable(left: u64, name: &str) -> Option<u64>
-    ensures some { IfSome result (λ rest. rest + (9 + length name.now) ≡ left) }
-    ensures none { IfNone result (left < 9 + length name.now) }
-{
-    let rest = left.checked_sub(9)?;
-    rest.checked_sub(name.len() as u64)
-}
-
-/// What is left of a number of bytes after a node's.
-fn after_node(left: u64, node: &PatchNode) -> Option<u64>
-    requires { left ≤ TRIPLES_LIMIT }
-    ensures some { IfSome result (λ rest. rest + node_size node.now ≡ left) }
-    ensures none { IfNone result (left < node_size node.now) }
+/// The size of a node.
+fn node_bytes(node: &PatchNode) -> u64
+    ensures { result ≡ saturated (node_size node.now) }
 {
     match node {
-        PatchNode::Term(term) => after_term(left, term),
-        PatchNode::Variable(name) => after_variable(left, name.as_str()),
-        PatchNode::Formula(_) => Some(left),
+        PatchNode::Term(term) => term.encoded_size(),
+        PatchNode::Variable(name) => {
+            let text = saturating_sum(size_of(8), size_of(name.as_str().len()));
+            saturating_sum(size_of(1), text)
+        }
+        PatchNode::Formula(_) => size_of(0),
     }
 }
 
-/// What is left of a number of bytes after the nodes of a triple.
-fn after_nodes(left: u64, triple: &PatchTriple) -> Option<u64>
-    requires { left ≤ TRIPLES_LIMIT }
-    ensures some { IfSome result (λ rest. rest + (node_size triple.now.subject
-        + (node_size triple.now.predicate + node_size triple.now.object)) ≡ left) }
-    ensures none { IfNone result (left < node_size triple.now.subject
-        + (node_size triple.now.predicate + node_size triple.now.object)) }
+/// The size of a triple's nodes.
+fn nodes_bytes(triple: &PatchTriple) -> u64
+    ensures { result ≡ saturated (nodes_size triple.now) }
 {
-    match after_node(left, &triple.subject) {
-        None => None,
-        Some(left) => match after_node(left, &triple.predicate) {
-            None => None,
-            Some(left) => after_node(left, &triple.object),
-        },
-    }
+    let rest = saturating_sum(node_bytes(&triple.predicate), node_bytes(&triple.object));
+    saturating_sum(node_bytes(&triple.subject), rest)
 }
 
-/// What is left of a number of bytes after those that a triple counts.
-fn after_triple(left: u64, triple: &PatchTriple) -> Option<u64>
-    requires { left ≤ TRIPLES_LIMIT }
-    ensures some { IfSome result (λ rest. rest + counted_size triple.now ≡ left) }
-    ensures none { IfNone result (left < counted_size triple.now) }
+/// The bytes that a triple counts while the document is read.
+pub(crate) fn kept_bytes(triple: &PatchTriple) -> u64 {
+    TRIPLE_BYTES.saturating_add(nodes_bytes(triple))
+}
+
+/// What a triple counts for the size of the document.
+fn counted_bytes(triple: &PatchTriple) -> u64
+    ensures { result ≡ saturated (counted_size triple.now) }
 {
     if triple.object.is_formula() {
-        Some(left)
+        size_of(0)
     } else {
-        after_nodes(left, triple)
+        nodes_bytes(triple)
     }
+}
+
+/// The size of the document.
+fn document_bytes(triples: &[PatchTriple]) -> u64
+    ensures { result ≡ saturated (patch_size triples.now) }
+{
+    let mut size = size_of(0);
+    for triple in triples {
+        size = saturating_sum(size, counted_bytes(triple));
+    }
+    size
 }
 
 /// Whether the document is larger than the limit of a graph's.
+#[tactic(auto, unfolding(rdf_graph::specs::Size::saturated))]
 pub(crate) fn is_too_large(triples: &[PatchTriple]) -> bool
     ensures large { OnTrue result (TRIPLES_LIMIT < patch_size triples.now) }
     ensures small { OnFalse result (patch_size triples.now ≤ TRIPLES_LIMIT) }
 {
-    let mut left = TRIPLES_LIMIT;
-    for triple in triples {
-        match after_triple(left, triple) {
-            Some(rest) => left = rest,
-            None => return true,
-        }
-    }
-    false
+    document_bytes(triples) > TRIPLES_LIMIT
 }

@@ -1,15 +1,13 @@
 -- What is put or posted fits the row that it becomes.
-use Rattle.std.proofs.Common.{◌≡◌, List, ℕ, Bool, true, false, cond, refl, subst, Option, Some, None, Result, Ok, Err, unwrap_or, codes}
+use Rattle.std.proofs.Common.{◌≡◌, List, ℕ, Bool, true, false, cond, refl, ap, ◌∙◌, subst, Option, Some, None, Result, Ok, Err, unwrap_or, codes}
 use Rattle.std.specs.Option.{option_and_then}
 use Rattle.httparse.specs.Grammar.{trim_ows}
 use Rattle.field_list.specs.Values.{only_value}
 use Rattle.pod_base.specs.declared.method.Method.{Method}
-use Rattle.pod_base.specs.declared.method.Method.TheVariants.{Put, Post}
 use Rattle.pod_base.specs.declared.request.Request.{Request}
 use Rattle.pod_command.specs.declared.row.Content.{Content as RowContent}
 use Rattle.pod_command.specs.declared.row.Content.TheVariants.{Graph, Bytes}
 use Rattle.request_fields.specs.ContentTypes.{is_content_type, type_text}
-use Rattle.request_fields.specs.Links.{links_to_container}
 use Rattle.request_fields.specs.MediaTypes.{media_type}
 use Rattle.request_fields.specs.declared.media_types.MediaType.{MediaType}
 use Rattle.request_fields.specs.declared.media_types.MediaType.TheVariants as media
@@ -20,7 +18,7 @@ use Rattle.request_body.specs.declared.syntax.BodySyntax.{BodySyntax}
 use Rattle.request_body.specs.declared.syntax.BodySyntax.TheVariants as syntax
 use Rattle.request_body.specs.Bodies.{Outcome, Means, MeansIn, opaque_type}
 use Rattle.request_body.specs.Laws.{IsGraphContent, PutsGraph, PostsGraph, HasContentType}
-use Rattle.request_body.specs.Syntaxes.{holds_graph, put_type, put_syntax, typed_syntax, syntax_by}
+use Rattle.request_body.specs.Syntaxes.{put_type, put_syntax, typed_syntax, syntax_by}
 
 abbrev sent : RowContent → Outcome
 sent c = Ok (Content c)
@@ -35,37 +33,31 @@ module _ (base : List ℕ) (request : Request) where
   by_media media.Turtle (Bytes t b) h = h
   by_media media.JsonLd (Graph g) h = tt
   by_media media.JsonLd (Bytes t b) h = h
-  by_media media.N3 c h = absurd (no_fault c UnsupportedType h)
-  by_media media.SparqlUpdate c h = absurd (no_fault c UnsupportedType h)
-  by_media media.Other c h = absurd (no_fault c UnsupportedType h)
+  by_media _ c h = absurd (no_fault c UnsupportedType h)
 
   by_type : (o : Option (List ℕ)) (c : RowContent) → MeansIn (typed_syntax (put_syntax true) o) base request (sent c) → IsGraphContent c
   by_type None c h = absurd (no_fault c NoType h)
   by_type (Some t) c h = by_media (media_type t) c h
 
-  by_put : (path : List ℕ) (c : RowContent) (m : Method) → m ≡ Put → holds_graph path ≡ true
-      → MeansIn (syntax_by m path request.fields request.body) base request (sent c) → IsGraphContent c
-  by_put path c m is holds h =
-      let put : MeansIn (syntax_by Put path request.fields request.body) base request (sent c) =
-      subst (λ (z : Method). MeansIn (syntax_by z path request.fields request.body) base request (sent c)) is h in
-      by_type (put_type true request.fields request.body) c
-      (subst (λ (z : Bool). MeansIn (typed_syntax (put_syntax z) (put_type z request.fields request.body)) base request (sent c)) holds put)
+  by_graph : (s : Result BodySyntax BodyFault) (c : RowContent) → s ≡ typed_syntax (put_syntax true) (put_type true request.fields request.body)
+      → MeansIn s base request (sent c) → IsGraphContent c
+  by_graph s c is h =
+      by_type (put_type true request.fields request.body) c (subst (λ (z : Result BodySyntax BodyFault). MeansIn z base request (sent c)) is h)
 
-  by_post : (path : List ℕ) (c : RowContent) (m : Method) → m ≡ Post → links_to_container request.fields ≡ true
-      → MeansIn (syntax_by m path request.fields request.body) base request (sent c) → IsGraphContent c
-  by_post path c m is links h =
-      let post : MeansIn (syntax_by Post path request.fields request.body) base request (sent c) =
-      subst (λ (z : Method). MeansIn (syntax_by z path request.fields request.body) base request (sent c)) is h in
-      by_type (put_type true request.fields request.body) c
-      (subst (λ (z : Bool). MeansIn (typed_syntax (put_syntax z) (put_type z request.fields request.body)) base request (sent c)) links post)
+abbrev typed_as : Request → Bool → Result BodySyntax BodyFault
+typed_as request graph = typed_syntax (put_syntax graph) (put_type graph request.fields request.body)
 
 pub puts_graph : PutsGraph
 unfolding Means
-puts_graph base path request content is holds h = by_put base request path content request.method is holds h
+puts_graph base path request content is holds h =
+    by_graph base request (syntax_by request.method path request.fields request.body) content
+    (ap (λ (m : Method). syntax_by m path request.fields request.body) is ∙ ap (typed_as request) holds) h
 
 pub posts_graph : PostsGraph
 unfolding Means
-posts_graph base path request content is links h = by_post base request path content request.method is links h
+posts_graph base path request content is links h =
+    by_graph base request (syntax_by request.method path request.fields request.body) content
+    (ap (λ (m : Method). syntax_by m path request.fields request.body) is ∙ ap (typed_as request) links) h
 
 -- bytes have a content type
 
@@ -86,11 +78,8 @@ by_syntax : (s : Result BodySyntax BodyFault) (base : List ℕ) (request : Reque
 by_syntax (Ok syntax.Ignored) base request t b h = let e : sent (Bytes t b) ≡ Ok Nothing = h in cc
 by_syntax (Ok syntax.Opaque) base request t b h =
     subst (λ (z : List ℕ). is_content_type z ≡ true) (same_type request t b h) (type_holds (only_value (codes "content-type") request.fields))
-by_syntax (Ok syntax.Turtle) base request t b h = absurd h
-by_syntax (Ok syntax.JsonLd) base request t b h = absurd h
-by_syntax (Ok syntax.N3Patch) base request t b h = absurd h
-by_syntax (Ok syntax.SparqlUpdate) base request t b h = absurd h
 by_syntax (Err f) base request t b h = absurd (no_fault (Bytes t b) f h)
+by_syntax _ base request t b h = absurd h
 
 pub has_content_type : HasContentType
 unfolding Means

@@ -4,12 +4,12 @@ use Rattle.rdf_graph.specs.declared.triple.Triple.{Triple}
 use Rattle.rdf_graph.specs.Graph.{IsGraph}
 use Rattle.rdf_graph.specs.Size.{triples_size}
 use Rattle.serde_json.specs.Data.{Data}
-use Rattle.pod_command.specs.declared.row.Content.TheVariants.{Graph, Bytes}
+use Rattle.pod_command.specs.declared.row.Content.TheVariants.{Graph}
 use Rattle.jsonld_expanded.specs.Expands.{Expands, ExpandsTo}
 use Rattle.jsonld_expanded.specs.Outcomes.{IsJson, IsDocumentOf, IsNotJson, IsOutOfProfile, IsTooLarge}
 use Rattle.jsonld_expanded.proofs.Graphs.{expands_once, walks_once}
-use Rattle.request_body.specs.declared.body.RequestBody.TheVariants.{Nothing, Content, Patch, Update}
-use Rattle.request_body.specs.declared.fault.BodyFault.TheVariants.{NoType, UnsupportedType, Syntax, Json, Rule, GraphSize}
+use Rattle.request_body.specs.declared.body.RequestBody.TheVariants.{Content}
+use Rattle.request_body.specs.declared.fault.BodyFault.TheVariants.{Json, GraphSize}
 use Rattle.request_body.specs.Bodies.{Outcome, IsJsonLdBody}
 use Rattle.request_body.specs.Laws.{SameOutcome}
 use Rattle.request_body.proofs.Same.{same}
@@ -32,17 +32,10 @@ module _ (base bytes : List ℕ) where
       ⊎ (((o ≡ Err Json) × IsBad) ⊎ ((o ≡ Err GraphSize) × IsTooLarge base bytes))
 
   ends : (o : Outcome) → IsJsonLdBody base bytes o → End o
-  ends (Ok Nothing) h = absurd h
   ends (Ok (Content (Graph g))) h = inl (g, refl, h)
-  ends (Ok (Content (Bytes c b))) h = absurd h
-  ends (Ok (Patch p)) h = absurd h
-  ends (Ok (Update u)) h = absurd h
-  ends (Err NoType) h = absurd h
-  ends (Err UnsupportedType) h = absurd h
-  ends (Err (Syntax at)) h = absurd h
   ends (Err Json) h = inr (inl (refl, h))
-  ends (Err (Rule r)) h = absurd h
   ends (Err GraphSize) h = inr (inr (refl, h))
+  ends _ h = absurd h
 
   one_graph : (g h : List Triple) → IsGraphOf g → IsGraphOf h → g ≡ h
   one_graph g h (doc, is) (other, is') =

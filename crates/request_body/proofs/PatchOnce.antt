@@ -1,13 +1,12 @@
 -- A patch document has one outcome.
 use Rattle.std.proofs.Common.{◌≡◌, ◌⊎◌, ℕ, List, refl, sym, ap, ◌∙◌, inl, inr, Ok, Err}
 use Rattle.rdf_graph.specs.declared.patch.Patch.{Patch as RdfPatch}
-use Rattle.pod_command.specs.declared.row.Content.TheVariants.{Graph, Bytes}
 use Rattle.n3_patch.specs.declared.fault.N3Fault.{N3Fault}
 use Rattle.n3_patch.specs.declared.fault.N3Fault.TheVariants as fault_of
 use Rattle.n3_patch.specs.Answers.{IsReadAs}
 use Rattle.n3_patch.proofs.OneAnswer.{one_answer}
-use Rattle.request_body.specs.declared.body.RequestBody.TheVariants.{Nothing, Content, Patch, Update}
-use Rattle.request_body.specs.declared.fault.BodyFault.TheVariants.{NoType, UnsupportedType, Syntax, Json, Rule, GraphSize}
+use Rattle.request_body.specs.declared.body.RequestBody.TheVariants.{Patch}
+use Rattle.request_body.specs.declared.fault.BodyFault.TheVariants.{Syntax, Rule, GraphSize}
 use Rattle.request_body.specs.Bodies.{Outcome, IsPatchBody}
 use Rattle.request_body.specs.Laws.{SameOutcome}
 use Rattle.request_body.proofs.Same.{same, same_patch}
@@ -29,17 +28,11 @@ module _ (base bytes : List ℕ) where
   End o = ((p : RdfPatch) × (o ≡ Ok (Patch p)) × IsSpelled p) ⊎ ((f : N3Fault) × (o ≡ told f) × IsTold f)
 
   ends : (o : Outcome) → IsPatchBody base bytes o → End o
-  ends (Ok Nothing) h = absurd h
-  ends (Ok (Content (Graph g))) h = absurd h
-  ends (Ok (Content (Bytes c b))) h = absurd h
   ends (Ok (Patch p)) h = inl (p, refl, h)
-  ends (Ok (Update u)) h = absurd h
-  ends (Err NoType) h = absurd h
-  ends (Err UnsupportedType) h = absurd h
   ends (Err (Syntax at)) h = inr (fault_of.Syntax at, refl, h)
-  ends (Err Json) h = absurd h
   ends (Err (Rule r)) h = inr (fault_of.Constraint r, refl, h)
   ends (Err GraphSize) h = inr (fault_of.TooLarge, refl, h)
+  ends _ h = absurd h
 
   one : (a b : Outcome) → End a → End b → SameOutcome a b
   one a b (inl (p, e, is)) (inl (q, f, is')) = same_patch a b p q e f (one_answer base bytes (Ok p) (Ok q) is is')

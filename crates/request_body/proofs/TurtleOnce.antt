@@ -1,7 +1,7 @@
 -- A document of Turtle has one outcome.
 use Rattle.std.proofs.Common.{◌≡◌, ◌⊎◌, ℕ, List, refl, sym, ap, ◌∙◌, inl, inr, Ok, Err}
 use Rattle.rdf_graph.specs.declared.triple.Triple.{Triple}
-use Rattle.pod_command.specs.declared.row.Content.TheVariants.{Graph, Bytes}
+use Rattle.pod_command.specs.declared.row.Content.TheVariants.{Graph}
 use Rattle.turtle_grammar.specs.declared.symbol.Start.TheVariants as start_of
 use Rattle.turtle_terms.specs.declared.fault.TurtleFault.{TurtleFault}
 use Rattle.turtle_terms.specs.declared.fault.TurtleFault.TheVariants.{Bad, TooLarge, NoMemory}
@@ -9,8 +9,8 @@ use Rattle.turtle_reader.proofs.OneFault.{one_first_fault}
 use Rattle.turtle_text.specs.Spells.{Spells}
 use Rattle.turtle_text.specs.Faults.{IsLarge, HasNoFault, IsFirstFault}
 use Rattle.turtle_text.proofs.Spelling.{one_graph}
-use Rattle.request_body.specs.declared.body.RequestBody.TheVariants.{Nothing, Content, Patch, Update}
-use Rattle.request_body.specs.declared.fault.BodyFault.TheVariants.{NoType, UnsupportedType, Syntax, Json, Rule, GraphSize}
+use Rattle.request_body.specs.declared.body.RequestBody.TheVariants.{Content}
+use Rattle.request_body.specs.declared.fault.BodyFault.TheVariants.{Syntax, GraphSize}
 use Rattle.request_body.specs.Bodies.{Outcome, IsTurtleBody}
 use Rattle.request_body.specs.Laws.{SameOutcome}
 use Rattle.request_body.proofs.Same.{same}
@@ -29,17 +29,10 @@ module _ (base bytes : List ℕ) where
       ⊎ ((f : TurtleFault) × (o ≡ told f) × IsFirstFault base bytes f)
 
   ends : (o : Outcome) → IsTurtleBody base bytes o → End o
-  ends (Ok Nothing) h = absurd h
   ends (Ok (Content (Graph g))) (spells, sound) = inl (g, refl, spells, sound)
-  ends (Ok (Content (Bytes c b))) h = absurd h
-  ends (Ok (Patch p)) h = absurd h
-  ends (Ok (Update u)) h = absurd h
-  ends (Err NoType) h = absurd h
-  ends (Err UnsupportedType) h = absurd h
   ends (Err (Syntax at)) (kind, first) = inr (Bad at kind, refl, first)
-  ends (Err Json) h = absurd h
-  ends (Err (Rule r)) h = absurd h
   ends (Err GraphSize) (at, first) = inr (TooLarge at, refl, first)
+  ends _ h = absurd h
 
   one : (a b : Outcome) → End a → End b → a ≡ b
   one a b (inl (g, e, spells, sound)) (inl (h, f, spells', sound')) = e ∙ ap graph (one_graph base bytes g h spells spells') ∙ sym f

@@ -2,7 +2,9 @@
 use Rattle.std.proofs.Common.{◌≡◌, ℕ, ◌+◌, ◌<◌, ◌≤◌, ◌-◌, ◌^◌, min, sum, map, Bool, true, false, ◌||◌, List, [], ◌∷◌, ◌++◌, Some, None, Result, Ok, Err, OnOk}
 use Rattle.std.proofs.Common.{refl, sym, ap, ◌∙◌, arith}
 use Rattle.std.proofs.lemmas.Bool.{false≢true}
+use Rattle.std.proofs.Math.Bool.{or-false, or-true}
 use Rattle.std.proofs.lemmas.List.{map-append}
+use Rattle.std.proofs.lemmas.List.Folds.{list_any-append}
 use Rattle.std.proofs.lemmas.List.Sums.{sum_by_push}
 use Rattle.rdf_graph.specs.Size.{saturated, triple_size}
 use Rattle.rdf_graph.specs.declared.size.TheConstants.{TRIPLES_LIMIT}
@@ -55,27 +57,14 @@ counted_over all n c size over =
 
 -- One triple more
 
-or_assoc : (a b c : Bool) → (a || (b || c)) ≡ ((a || b) || c)
-or_assoc true b c = refl
-or_assoc false b c = refl
-
-or_false : (a b : Bool) → b ≡ false → (a || b) ≡ a
-or_false true b e = refl
-or_false false b e = e
-
-or_true : (a b : Bool) → b ≡ true → (a || b) ≡ true
-or_true true b e = refl
-or_true false b e = e
-
 blank_more : (rs : List ResolvedTriple) (r : ResolvedTriple) → any_blank (rs ++ r ∷ []) ≡ (any_blank rs || blank_in r)
-blank_more [] r = or_false (blank_in r) false refl
-blank_more (x ∷ rs) r = ap (λ (b : Bool). blank_in x || b) (blank_more rs r) ∙ or_assoc (blank_in x) (any_blank rs) (blank_in r)
+blank_more rs r = list_any-append blank_in rs (r ∷ []) ∙ ap (λ (b : Bool). any_blank rs || b) (or-false (blank_in r))
 
 module _ (rs : List ResolvedTriple) (r : ResolvedTriple) (old new : Collected) (h : IsCollected rs old) where
   pub collects_naming : (n : Named) → IsNamingOrBlank r (Some n) → new.has_blank ≡ old.has_blank
       → ((all : List Named) → IsCounted all old → IsCounted (all ++ n ∷ []) new) → IsCollected (rs ++ r ∷ []) new
   collects_naming n k blank counted =
-      let same : any_blank (rs ++ r ∷ []) ≡ any_blank rs = blank_more rs r ∙ or_false (any_blank rs) (blank_in r) k.blank in
+      let same : any_blank (rs ++ r ∷ []) ≡ any_blank rs = blank_more rs r ∙ ap (λ (b : Bool). any_blank rs || b) k.blank ∙ or-false (any_blank rs) in
       record {
         blank = blank ∙ h.blank ∙ sym same;
         named = λ no. let before = h.named (sym same ∙ no) in record {
@@ -87,5 +76,5 @@ module _ (rs : List ResolvedTriple) (r : ResolvedTriple) (old new : Collected) (
 
   pub collects_blank : IsNamingOrBlank r None → new.has_blank ≡ true → IsCollected (rs ++ r ∷ []) new
   collects_blank k blank =
-      let some : any_blank (rs ++ r ∷ []) ≡ true = blank_more rs r ∙ or_true (any_blank rs) (blank_in r) k.blank in
+      let some : any_blank (rs ++ r ∷ []) ≡ true = blank_more rs r ∙ ap (λ (b : Bool). any_blank rs || b) k.blank ∙ or-true (any_blank rs) in
       record { blank = blank ∙ sym some; named = λ no. absurd (false≢true (sym no ∙ some)) }

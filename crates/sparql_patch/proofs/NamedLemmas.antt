@@ -1,7 +1,7 @@
 -- The last namings of triples.
 use Rattle.std.proofs.Common.{◌≡◌, inl, inr, ◌&&◌, ◌||◌, ℕ, Bool, true, false, not, List, [], ◌∷◌, ◌++◌, map, Some, None, if◌then◌else◌, refl, sym, ap, ◌∙◌, subst, append-nil}
 use Rattle.std.specs.List.{AllByRecursion, Contains, IsDistinct, filter}
-use Rattle.std.proofs.lemmas.Bool.{and_parts, and_from}
+use Rattle.std.proofs.lemmas.Bool.{and_parts, and_from, false≢true, not-true, not_from_false}
 use Rattle.std.proofs.lemmas.List.Elements.{Contains-append_left, Contains-append_right, Contains-append_cases}
 use Rattle.std.proofs.lemmas.Map.Keys.{IsDistinct-head, IsDistinct-tail, IsDistinct-push}
 use Rattle.rdf_graph.proofs.Members.{contains_cases, contains_here, contains_there, contains_none, contains_filter}
@@ -15,30 +15,18 @@ use Rattle.sparql_patch.specs.Laws.{LastNamingDecides, DeletionsAreInGraph, Each
 use Rattle.sparql_patch.specs.NamedUpdate.{triple_eq, has_triple, has_word, if_last, is_named, last_named, last_word, pattern_of, IsSpelledAt}
 use Rattle.sparql_patch.proofs.TripleLemmas.{triple_eq_decides, triple_eq_laws, has_triple_decides}
 
-not_false : (b : Bool) → not b ≡ true → b ≡ false
-not_false true e = cc
-not_false false e = refl
-
-not_true : (b : Bool) → b ≡ false → not b ≡ true
-not_true true e = cc
-not_true false e = refl
-
-true_is_false : (b : Bool) → b ≡ true → b ≡ false → ⊥
-true_is_false true t f = cc
-true_is_false false t f = cc
-
 same_word : (insert : Bool) (x : Named) → has_word insert x ≡ true → x.insert ≡ insert
 same_word true x e = e
-same_word false x e = not_false x.insert e
+same_word false x e = not-true x.insert e
 
 word_of : (insert : Bool) (x : Named) → x.insert ≡ insert → has_word insert x ≡ true
 word_of true x e = e
-word_of false x e = not_true x.insert e
+word_of false x e = not_from_false x.insert e
 
 -- what `if_last` lists
 module _ (insert : Bool) (x : Named) (others : List Named) where
   pub listed_last : has_word insert x ≡ true → is_named others x.triple ≡ false → if_last insert x others ≡ x.triple ∷ []
-  listed_last word free = ap (λ b. if b then x.triple ∷ [] else []) (and_from _ _ word (not_true _ free))
+  listed_last word free = ap (λ b. if b then x.triple ∷ [] else []) (and_from _ _ word (not_from_false _ free))
 
   pub unlisted : (has_word insert x && not (is_named others x.triple)) ≡ false → if_last insert x others ≡ []
   unlisted e = ap (λ b. if b then x.triple ∷ [] else []) e
@@ -47,7 +35,7 @@ module _ (insert : Bool) (x : Named) (others : List Named) where
   pub if_last-cases : (P : List Triple → Type 0) → (has_word insert x ≡ true → is_named others x.triple ≡ false → P (x.triple ∷ [])) → P [] → P (if_last insert x others)
   if_last-cases P listed none = by_test (has_word insert x && not (is_named others x.triple)) refl where
     by_test : (b : Bool) → (has_word insert x && not (is_named others x.triple)) ≡ b → P (if b then x.triple ∷ [] else [])
-    by_test true e = let parts = and_parts _ _ e in listed parts.0 (not_false _ parts.1)
+    by_test true e = let parts = and_parts _ _ e in listed parts.0 (not-true _ parts.1)
     by_test false e = none
 
 -- the word of what others name
@@ -69,7 +57,7 @@ named_if_word (x ∷ xs) t insert e = by_test (triple_eq t x.triple) refl where
   by_rest : (b : Bool) → is_named xs t ≡ b → triple_eq t x.triple ≡ false → is_named xs t ≡ true
   by_rest true named other = named
   by_rest false free other =
-      absurd (true_is_false (triple_eq t x.triple) (some_if (triple_eq t x.triple) insert x.insert (sym (word_of_unnamed x xs t free) ∙ e)).0 other)
+      absurd (false≢true (sym other ∙ (some_if (triple_eq t x.triple) insert x.insert (sym (word_of_unnamed x xs t free) ∙ e)).0))
 
   by_test : (b : Bool) → triple_eq t x.triple ≡ b → (b || is_named xs t) ≡ true
   by_test true same = refl
@@ -123,7 +111,7 @@ listed_once (x ∷ xs) insert = if_last-cases insert x xs (λ ts. IsDistinct tri
       absent : is_named xs x.triple ≡ false → has_triple (last_named insert xs) x.triple ≡ false
       absent free = by_test (has_triple (last_named insert xs) x.triple) refl where
         by_test : (b : Bool) → has_triple (last_named insert xs) x.triple ≡ b → b ≡ false
-        by_test true e = absurd (true_is_false _ (named_if_word xs x.triple insert (word_of_listed insert x.triple xs ((has_triple_decides (last_named insert xs) x.triple).0 e))) free)
+        by_test true e = absurd (false≢true (sym free ∙ named_if_word xs x.triple insert (word_of_listed insert x.triple xs ((has_triple_decides (last_named insert xs) x.triple).0 e))))
         by_test false e = refl
 
 -- without repeats

@@ -31,6 +31,15 @@ answered named = Ok named
 abbrev refused : SparqlFault → Answer
 refused fault = Err fault
 
+pub no_refusal : (f : SparqlFault) (named : List Named) → answered named ≡ refused f → ⊥
+no_refusal f named e = cc
+
+pub same_items : (a b : List Named) → answered a ≡ answered b → a ≡ b
+same_items a b e = cc
+
+pub same_fault : (f g : SparqlFault) → refused f ≡ refused g → f ≡ g
+same_fault f g e = cc
+
 module _ (base bytes : List ℕ) where
   never : (f : TurtleFault) → HasNoFault base bytes → IsFirstFault base bytes f → ⊥
   never f none first = none first.index f first.has
@@ -64,12 +73,6 @@ module _ (base bytes : List ℕ) where
   one_answer (Err NoMemory) b h k = absurd h
 
   -- Of a text that names triples within the limits only these are returned.
-
-  no_refusal : (f : SparqlFault) (named : List Named) → answered named ≡ refused f → ⊥
-  no_refusal f named e = cc
-
-  same_items : (a b : List Named) → answered a ≡ answered b → a ≡ b
-  same_items a b e = cc
 
   module _ (named : List Named) (h : Names base bytes named) (shallow : IsShallow base bytes) (fits : named_size named ≤ TRIPLES_LIMIT) where
     read_as : IsReadAs base bytes (Ok named)

@@ -1,6 +1,7 @@
 -- What is collected of an update as it is read.
-use Rattle.std.specs.Prelude.{◌≡◌, ◌≤◌, ◌||◌, Bool, false, not, List, [], ◌∷◌, Option, Some, None}
+use Rattle.std.specs.Prelude.{◌≡◌, ◌≤◌, ◌||◌, Bool, false, not, List, Option, Some, None}
 use Rattle.std.specs.Prelude.{IfSome, is_some}
+use Rattle.std.specs.List.{list_any}
 use Rattle.rdf_graph.specs.declared.size.TheConstants.{TRIPLES_LIMIT}
 use Rattle.rdf_graph.specs.declared.term.Term.{Term}
 use Rattle.rdf_graph.specs.declared.triple.Triple.{Triple as RdfTriple}
@@ -29,8 +30,7 @@ blank_in t = is_blank_referent (Some t.subject)
     || (is_blank_referent (Some t.predicate) || is_blank_referent (Some t.object))
 
 abbrev pub any_blank : List ResolvedTriple → Bool
-any_blank [] = false
-any_blank (t ∷ triples) = blank_in t || any_blank triples
+any_blank triples = list_any blank_in triples
 
 -- The naming is the triple of these referents.
 pub record IsNaming (resolved : ResolvedTriple) (naming : Named) : Type 0 where

@@ -9,8 +9,7 @@ use Rattle.turtle_grammar.specs.declared.production.Production.{Production}
 use Rattle.turtle_grammar.specs.declared.production.SymbolicTriple.{SymbolicTriple}
 use Rattle.turtle_grammar.proofs.OneTree.{same_tree}
 use Rattle.turtle_terms.specs.declared.fault.TurtleFault.{TurtleFault}
-use Rattle.turtle_terms.specs.declared.fault.TurtleFault.TheVariants.{Bad, TooLarge, NoMemory}
-use Rattle.turtle_reader.specs.declared.lexeme.Lexeme.{Lexeme}
+use Rattle.turtle_terms.specs.declared.fault.TurtleFault.TheVariants.{NoMemory}
 use Rattle.turtle_reader.specs.declared.meaning.Meaning.{Meaning}
 use Rattle.turtle_reader.specs.declared.referent.Referent.{Referent}
 use Rattle.turtle_reader.specs.declared.referent.ResolvedTriple.{ResolvedTriple}
@@ -89,13 +88,9 @@ none_within base bytes g h within =
 
 only_memory : (base bytes : List ℕ) (f : TurtleFault) → (f ≢ NoMemory → IsFirstFault base bytes f) → (g : List RdfTriple) → Spells base bytes g
     → IsWithinLimits base bytes → f ≡ NoMemory
-only_memory base bytes (Bad at kind) err g spells within =
-    let first = err (λ e. cc) in
-    absurd (none_within base bytes g spells within first.index (Bad at kind) first.has)
-only_memory base bytes (TooLarge at) err g spells within =
-    let first = err (λ e. cc) in
-    absurd (none_within base bytes g spells within first.index (TooLarge at) first.has)
 only_memory base bytes NoMemory err g spells within = refl
+only_memory base bytes f err g spells within =
+    let first = err (λ e. cc) in absurd (none_within base bytes g spells within first.index f first.has)
 
 pub only_handed : (base bytes : List ℕ) (r : Result (List RdfTriple) TurtleFault) (e : TurtleFault) → IsErrAnd r (λ x. x ≡ e)
     → (e ≢ NoMemory → IsFirstFault base bytes e) → HasOnlyGraph base bytes r

@@ -1,6 +1,7 @@
 -- Triples one more at a time, and their size.
-use Rattle.std.proofs.Common.{◌≡◌, ℕ, ◌+◌, List, [], ◌∷◌, ◌++◌, map, sum, refl, sym, ap, ◌∙◌, subst, arith}
-use Rattle.std.proofs.lemmas.List.Sums.{sum_by-cons}
+use Rattle.std.proofs.Common.{◌≡◌, ℕ, ◌+◌, List, [], ◌∷◌, ◌++◌, map, sum, refl, sym, ap, ◌∙◌, subst}
+use Rattle.std.proofs.lemmas.List.{map-append}
+use Rattle.std.proofs.lemmas.List.Sums.{sum_by_push}
 use Rattle.std.proofs.lemmas.List.Elements.{All-nil, All-push}
 use Rattle.std.specs.List.{All}
 use Rattle.rdf_graph.specs.declared.triple.Triple.{Triple as RdfTriple}
@@ -11,12 +12,9 @@ use Rattle.turtle_text.specs.declared.triples.Triples.{Triples}
 use Rattle.turtle_text.specs.Triples.{IsReferentTriple, AreReferentTriples}
 use Rattle.turtle_text.specs.Progress.{IsKept, KeepsTriple}
 
-sum_first : (x : ℕ) (xs : List ℕ) → sum (x ∷ xs) ≡ x + sum xs
-sum_first x xs = sum_by-cons (λ n. n) x xs
-
 pub size_more : (ts : List RdfTriple) (t : RdfTriple) → triples_size (ts ++ t ∷ []) ≡ triples_size ts + triple_size t
-size_more [] t = omega (arith, sum_first (triple_size t) [])
-size_more (x ∷ ts) t = omega (arith, size_more ts t, sum_first (triple_size x) (map triple_size ts), sum_first (triple_size x) (map triple_size (ts ++ t ∷ [])))
+size_more ts t =
+    ap (λ (ns : List ℕ). sum ns) (map-append triple_size ts (t ∷ [])) ∙ sum_by_push (λ (k : ℕ). k) (map triple_size ts) (triple_size t)
 
 nothing_saturated : 0 ≡ saturated 0
 unfolding saturated

@@ -68,22 +68,6 @@ fn sound(triple: Triple) -> Mem<Triple>
     }
 }
 
-/// The triple over the terms that nodes refer to, which is one of RDF.
-fn sound_triple(
-    alloc: Global,
-    bytes: &[u8],
-    labels: &mut LazyLabels,
-    resolved: ResolvedTriple,
-) -> Mem<Triple>
-    requires { AreLazyLabelsOf bytes.now labels.old }
-    ensures labels { AreLazyLabelsOf bytes.now labels.new }
-    ensures triple { IfOk result (IsReferentTriple bytes.now resolved) }
-    ensures rdf { IfOk result IsRdf }
-{
-    let triple = triple_of(alloc, bytes, labels, resolved)?;
-    sound(triple)
-}
-
 /// The sum of two sizes, at most 2^64 - 1.
 fn saturating_sum(first: u64, second: u64) -> u64
     ensures { (m : ℕ) (n : ℕ) → first ≡ saturated m → second ≡ saturated n
@@ -143,7 +127,8 @@ impl Language for Triples {
     }
 
     fn keep(&mut self, alloc: Global, bytes: &[u8], triple: ResolvedTriple) -> Mem<()> {
-        let triple = sound_triple(alloc, bytes, &mut self.labels, triple)?;
+        let made = triple_of(alloc, bytes, &mut self.labels, triple)?;
+        let triple = sound(made)?;
         self.push(alloc, triple)
     }
 
