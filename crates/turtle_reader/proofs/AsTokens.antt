@@ -1,45 +1,27 @@
 -- The lexemes of a text without words are its tokens.
-use Rattle.std.proofs.Common.{◌≡◌, ℕ, Bool, true, false, List, [], ◌∷◌, Some, None, Ok, Err, refl, ap, ◌∙◌, subst}
-use Rattle.turtle_lex.specs.declared.token.TokenKind.{TokenKind}
-use Rattle.turtle_lex.specs.declared.token.TokenKind.TheVariants as Kind
+use Rattle.std.proofs.Common.{◌≡◌, ℕ, Bool, false, List, [], ◌∷◌, Some, None, Ok, Err, refl, sym, ap, ◌∙◌, subst}
 use Rattle.turtle_lex.specs.declared.token.Token.{Token as LexToken}
-use Rattle.turtle_lex.specs.declared.token.LexFault.{LexFault}
 use Rattle.turtle_lex.specs.declared.token.LexFault.TheVariants as lex
-use Rattle.turtle_lex.specs.Tokens.{IsNext, IsAnswer, AreTokens, AreTokensTo, is_string, kind_after, listed_token}
+use Rattle.turtle_lex.specs.Tokens.{IsNext, IsAnswer, AreTokens, AreTokensTo, is_string, listed_token}
 use Rattle.turtle_grammar.specs.declared.symbol.Start.TheVariants.{Document}
 use Rattle.turtle_reader.specs.declared.lexeme.Lexeme.{Lexeme}
-use Rattle.turtle_reader.specs.Faults.{Next}
 use Rattle.turtle_reader.specs.Lexemes.{lexeme_of, lexemes_of}
 use Rattle.turtle_reader.specs.Texts.{IsLexed, AreLexemesTo, AreFirst, is_string_symbol}
-
-string_same : (s : Bool) (kind : TokenKind) → is_string (kind_after s kind) ≡ is_string kind
-string_same true Kind.AtPrefix = refl
-string_same true Kind.AtBase = refl
-string_same true _ = refl
-string_same false _ = refl
-
-same_lexeme : (l m : Lexeme) (next : Next) → next ≡ Ok (Some l) → next ≡ Ok (Some m) → l ≡ m
-same_lexeme l m next e h = cc
-
-no_end : (l : Lexeme) (next : Next) → next ≡ Ok (Some l) → next ≡ Ok None → ⊥
-no_end l next e h = cc
-
-no_fault : (l : Lexeme) (f : LexFault) (next : Next) → next ≡ Ok (Some l) → next ≡ Err f → ⊥
-no_fault l f next e h = cc
+use Rattle.turtle_reader.proofs.OneLexeme.{ended, found_none, no_lexeme, same_lexeme, string_same}
 
 token_of : (bytes : List ℕ) (from : ℕ) (s : Bool) (l : Lexeme) → IsLexed Document bytes from s (Ok (Some l))
     → (n : LexToken) × IsNext bytes from n × (l ≡ lexeme_of (listed_token s n))
 token_of bytes from s l (Ok (Some n), is_next, is) = (n, is_next, same_lexeme l (lexeme_of (listed_token s n)) (Ok (Some l)) refl is)
-token_of bytes from s l (Ok None, answers, is) = absurd (no_end l (Ok (Some l)) refl is)
-token_of bytes from s l (Err (lex.NotText at), answers, is) = absurd (no_fault l (lex.NotText at) (Ok (Some l)) refl is)
-token_of bytes from s l (Err (lex.BadToken at), answers, is) = absurd (no_fault l (lex.BadToken at) (Ok (Some l)) refl is)
+token_of bytes from s l (Ok None, answers, is) = absurd (ended l (Ok (Some l)) refl is)
+token_of bytes from s l (Err (lex.NotText at), answers, is) = absurd (no_lexeme l (lex.NotText at) (Ok (Some l)) refl is)
+token_of bytes from s l (Err (lex.BadToken at), answers, is) = absurd (no_lexeme l (lex.BadToken at) (Ok (Some l)) refl is)
 token_of bytes from s l (Err lex.NoMemory, answers, is) = absurd answers
 
 ends_with : (bytes : List ℕ) (from : ℕ) (s : Bool) → IsLexed Document bytes from s (Ok None) → IsAnswer bytes from (Ok None)
-ends_with bytes from s (Ok (Some n), is_next, is) = absurd (no_end (lexeme_of (listed_token s n)) (Ok None) is refl)
+ends_with bytes from s (Ok (Some n), is_next, is) = absurd (ended (lexeme_of (listed_token s n)) (Ok None) is refl)
 ends_with bytes from s (Ok None, answers, is) = answers
-ends_with bytes from s (Err (lex.NotText at), answers, is) = absurd (let no : ⊥ = cc in no)
-ends_with bytes from s (Err (lex.BadToken at), answers, is) = absurd (let no : ⊥ = cc in no)
+ends_with bytes from s (Err (lex.NotText at), answers, is) = absurd (found_none (lex.NotText at) (Ok None) is refl)
+ends_with bytes from s (Err (lex.BadToken at), answers, is) = absurd (found_none (lex.BadToken at) (Ok None) is refl)
 ends_with bytes from s (Err lex.NoMemory, answers, is) = absurd answers
 
 tokens_to : (bytes : List ℕ) (ls : List Lexeme) (from : ℕ) (s : Bool) (to : ℕ) (u : Bool) → AreLexemesTo Document bytes from s ls to u
@@ -48,7 +30,7 @@ tokens_to bytes [] from s to u h = ([], refl, h)
 tokens_to bytes (l ∷ ls) from s to u (lexed, rest) =
     let (n, is_next, is) = token_of bytes from s l lexed in
     let at : l.to ≡ n.to = ap (λ (z : Lexeme). z.to) is in
-    let string : is_string_symbol l.symbol ≡ is_string n.kind = ap (λ (z : Lexeme). is_string_symbol z.symbol) is ∙ string_same s n.kind in
+    let string : is_string_symbol l.symbol ≡ is_string n.kind = ap (λ (z : Lexeme). is_string_symbol z.symbol) is ∙ sym (string_same s n.kind) in
     let moved : AreLexemesTo Document bytes n.to (is_string n.kind) ls to u =
     subst (λ (b : Bool). AreLexemesTo Document bytes n.to b ls to u) string (subst (λ (k : ℕ). AreLexemesTo Document bytes k (is_string_symbol l.symbol) ls to u) at rest) in
     let (ts, same, tokens) = tokens_to bytes ls n.to (is_string n.kind) to u moved in

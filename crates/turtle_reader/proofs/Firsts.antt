@@ -2,30 +2,18 @@
 use Rattle.std.proofs.Common.{◌≡◌, ℕ, ◌<◌, Bool, false, List, [], ◌∷◌, ◌++◌, length, Some, None, Ok}
 use Rattle.std.proofs.Common.{inl, inr, refl, sym, ap, ◌∙◌, subst, arith}
 use Rattle.std.proofs.lemmas.Bool.{cases_lt}
-use Rattle.std.proofs.lemmas.List.{map-append}
-use Rattle.turtle_lex.specs.declared.token.Token.{Token}
 use Rattle.turtle_grammar.specs.declared.symbol.Start.{Start}
 use Rattle.turtle_reader.specs.declared.lexeme.Lexeme.{Lexeme}
 use Rattle.turtle_reader.specs.Faults.{Next}
-use Rattle.turtle_reader.specs.Lexemes.{lexeme_of, lexemes_of}
 use Rattle.turtle_reader.specs.Texts.{IsLexed, is_string_symbol, AreLexemesTo, AreFirst}
-use Rattle.turtle_reader.proofs.OneLexeme.{one_lexed}
-
-abbrev found : Lexeme → Next
-found l = Ok (Some l)
-
-same_lexeme : (a b : Lexeme) (r s : Next) → r ≡ found a → s ≡ found b → r ≡ s → a ≡ b
-same_lexeme a b r s e f h = cc
+use Rattle.turtle_reader.proofs.OneLexeme.{one_lexed, same_lexeme}
 
 pub ended : (l : Lexeme) (next : Next) → next ≡ Ok None → next ≡ Ok (Some l) → ⊥
 ended l next e f = cc
 
-pub lexemes_more : (ts us : List Token) → lexemes_of (ts ++ us) ≡ lexemes_of ts ++ lexemes_of us
-lexemes_more ts us = map-append lexeme_of ts us
-
 module _ (start : Start) (bytes : List ℕ) where
   next_agrees : (from : ℕ) (s : Bool) (a b : Lexeme) → IsLexed start bytes from s (Ok (Some a)) → IsLexed start bytes from s (Ok (Some b)) → a ≡ b
-  next_agrees from s a b h k = same_lexeme a b (Ok (Some a)) (Ok (Some b)) refl refl (one_lexed start bytes from s (Ok (Some a)) (Ok (Some b)) h k)
+  next_agrees from s a b h k = same_lexeme a b (Ok (Some a)) refl (one_lexed start bytes from s (Ok (Some a)) (Ok (Some b)) h k)
 
   here : (from : ℕ) (s : Bool) (to : ℕ) (u : Bool) (a : Next) → from ≡ to → s ≡ u → IsLexed start bytes to u a → IsLexed start bytes from s a
   here from s to u a at string h =

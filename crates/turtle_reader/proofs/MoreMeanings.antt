@@ -1,58 +1,80 @@
--- A node refers to the same with more meanings.
-use Rattle.std.proofs.Common.{◌≡◌, ℕ, List, [], ◌∷◌, ◌++◌, Option, Some, None, slice_get}
+-- What is kept of meanings, and what a node refers to, stay the same with more meanings.
+use Rattle.std.proofs.Common.{◌≡◌, ℕ, List, [], ◌∷◌, ◌++◌, length, Option, Some, None, slice_get}
 use Rattle.std.proofs.Common.{refl, sym, ◌∙◌, subst}
-use Rattle.std.proofs.lemmas.Option.{slice_get_within}
+use Rattle.std.proofs.lemmas.List.Elements.{All-filter, All-push, All-weaker}
+use Rattle.std.proofs.lemmas.Option.{none-some, slice_get_within}
+use Rattle.std.specs.List.{All, filter}
 use Rattle.rdf_graph.proofs.Components.{slice_get-push_before}
 use Rattle.rdf_graph.specs.declared.term.Term.TheVariants.{Iri, Blank, Literal, Tagged as TaggedTerm}
 use Rattle.turtle_grammar.specs.declared.production.Node.{Node}
 use Rattle.turtle_grammar.specs.declared.production.Node.TheVariants as node
+use Rattle.turtle_reader.specs.declared.kept.Kept.{Kept}
+use Rattle.turtle_reader.specs.declared.kept.KeptMeanings.{KeptMeanings}
 use Rattle.turtle_reader.specs.declared.meaning.Meaning.{Meaning}
 use Rattle.turtle_reader.specs.declared.meaning.Meaning.TheVariants as meaning_of
 use Rattle.turtle_reader.specs.declared.referent.Referent.{Referent}
+use Rattle.turtle_reader.specs.Kept.{IsKept, KeepsMeaning, stays}
 use Rattle.turtle_reader.specs.Referents.{term_referent, tagged, typed, referent}
 
 still_there : (ms : List Meaning) (more : Meaning) (i : ℕ) (m : Meaning) → slice_get ms i ≡ Some m → slice_get (ms ++ more ∷ []) i ≡ Some m
 still_there ms more i m h = slice_get-push_before ms more i (slice_get_within ms i m h) ∙ h
 
+-- What is kept
+
+last_there : (ms : List Meaning) (m : Meaning) → slice_get (ms ++ m ∷ []) (length ms) ≡ Some m
+last_there [] m = refl
+last_there (n ∷ ms) m = last_there ms m
+
+pub keeps_none : (index : ℕ) (m : Meaning) (kept : KeptMeanings) → KeepsMeaning index m kept kept
+keeps_none index m kept ms size h = All-weaker (IsKept ms) (IsKept (ms ++ m ∷ [])) (λ k. still_there ms m k.index k.meaning) kept.list.items h
+
+pub keeps_one : (one : Kept) (old new : KeptMeanings) → new.list.items ≡ filter (stays one.place one.index) old.list.items ++ one ∷ []
+    → KeepsMeaning one.index one.meaning old new
+keeps_one one old new is ms size h =
+    let all = ms ++ one.meaning ∷ [] in let left = filter (stays one.place one.index) old.list.items in
+    let found : IsKept all one = subst (λ (i : ℕ). slice_get all i ≡ Some one.meaning) size (last_there ms one.meaning) in
+    let more = All-filter (stays one.place one.index) (IsKept all) old.list.items (keeps_none one.index one.meaning old ms size h) in
+    subst (λ (ks : List Kept). All (IsKept all) ks) (sym is) (All-push (IsKept all) left one more found)
+
+-- What nodes refer to
+
 abbrev got : Referent → Option Referent
 got r = Some r
 
 term_still : (a b : Option Meaning) (r : Referent) → ((m : Meaning) → a ≡ Some m → b ≡ Some m) → term_referent a ≡ Some r → term_referent b ≡ Some r
-term_still None b r f h = absurd (let no : ⊥ = cc in no)
+term_still None b r f h = absurd (none-some r h)
 term_still (Some m) b r f h = subst (λ (z : Option Meaning). term_referent z ≡ got r) (sym (f m refl)) h
 
-no_tag : (m : Meaning) (r : Referent) → tagged (Some m) None ≡ Some r → ⊥
-no_tag (meaning_of.Term (Literal l d)) r h = cc
-no_tag (meaning_of.Term (Iri l)) r h = cc
-no_tag (meaning_of.Term (Blank l)) r h = cc
-no_tag (meaning_of.Term (TaggedTerm l d)) r h = cc
-no_tag _ r h = cc
+abbrev none : Option Referent
+none = None
 
-no_type : (m : Meaning) (r : Referent) → typed (Some m) None ≡ Some r → ⊥
-no_type (meaning_of.Term (Literal l d)) r h = cc
-no_type (meaning_of.Term (Iri l)) r h = cc
-no_type (meaning_of.Term (Blank l)) r h = cc
-no_type (meaning_of.Term (TaggedTerm l d)) r h = cc
-no_type _ r h = cc
+no_tag : (m : Meaning) → tagged (Some m) None ≡ none
+no_tag (meaning_of.Term (Literal l d)) = refl
+no_tag (meaning_of.Term (Iri l)) = refl
+no_tag (meaning_of.Term (Blank l)) = refl
+no_tag (meaning_of.Term (TaggedTerm l d)) = refl
+no_tag _ = refl
 
-tagged_still : (a b c d : Option Meaning) (r : Referent) → ((m : Meaning) → a ≡ Some m → b ≡ Some m) → ((m : Meaning) → c ≡ Some m → d ≡ Some m)
-    → tagged a c ≡ Some r → tagged b d ≡ Some r
-tagged_still None b c d r f g h = absurd (let no : ⊥ = cc in no)
-tagged_still (Some m) b None d r f g h = absurd (no_tag m r h)
-tagged_still (Some m) b (Some n) d r f g h =
-    subst (λ (z : Option Meaning). tagged z d ≡ got r) (sym (f m refl)) (subst (λ (z : Option Meaning). tagged (Some m) z ≡ got r) (sym (g n refl)) h)
+no_type : (m : Meaning) → typed (Some m) None ≡ none
+no_type (meaning_of.Term (Literal l d)) = refl
+no_type (meaning_of.Term (Iri l)) = refl
+no_type (meaning_of.Term (Blank l)) = refl
+no_type (meaning_of.Term (TaggedTerm l d)) = refl
+no_type _ = refl
 
-typed_still : (a b c d : Option Meaning) (r : Referent) → ((m : Meaning) → a ≡ Some m → b ≡ Some m) → ((m : Meaning) → c ≡ Some m → d ≡ Some m)
-    → typed a c ≡ Some r → typed b d ≡ Some r
-typed_still None b c d r f g h = absurd (let no : ⊥ = cc in no)
-typed_still (Some m) b None d r f g h = absurd (no_type m r h)
-typed_still (Some m) b (Some n) d r f g h =
-    subst (λ (z : Option Meaning). typed z d ≡ got r) (sym (f m refl)) (subst (λ (z : Option Meaning). typed (Some m) z ≡ got r) (sym (g n refl)) h)
+-- what two meanings make together
+both_still : (make : Option Meaning → Option Meaning → Option Referent) → ((o : Option Meaning) → make None o ≡ none) → ((m : Meaning) → make (Some m) None ≡ none)
+    → (a b c d : Option Meaning) (r : Referent) → ((m : Meaning) → a ≡ Some m → b ≡ Some m) → ((m : Meaning) → c ≡ Some m → d ≡ Some m)
+    → make a c ≡ Some r → make b d ≡ Some r
+both_still make first second None b c d r f g h = absurd (none-some r (sym (first c) ∙ h))
+both_still make first second (Some m) b None d r f g h = absurd (none-some r (sym (second m) ∙ h))
+both_still make first second (Some m) b (Some n) d r f g h =
+    subst (λ (z : Option Meaning). make z d ≡ got r) (sym (f m refl)) (subst (λ (z : Option Meaning). make (Some m) z ≡ got r) (sym (g n refl)) h)
 
 pub referent_still : (ms : List Meaning) (more : Meaning) (n : Node) (r : Referent) → referent ms n ≡ Some r → referent (ms ++ more ∷ []) n ≡ Some r
 referent_still ms more (node.Token i) r h = term_still (slice_get ms i) (slice_get (ms ++ more ∷ []) i) r (still_there ms more i) h
 referent_still ms more (node.Tagged i k) r h =
-    tagged_still (slice_get ms i) (slice_get (ms ++ more ∷ []) i) (slice_get ms k) (slice_get (ms ++ more ∷ []) k) r (still_there ms more i) (still_there ms more k) h
+    both_still tagged (λ o. refl) no_tag (slice_get ms i) (slice_get (ms ++ more ∷ []) i) (slice_get ms k) (slice_get (ms ++ more ∷ []) k) r (still_there ms more i) (still_there ms more k) h
 referent_still ms more (node.Typed i k) r h =
-    typed_still (slice_get ms i) (slice_get (ms ++ more ∷ []) i) (slice_get ms k) (slice_get (ms ++ more ∷ []) k) r (still_there ms more i) (still_there ms more k) h
+    both_still typed (λ o. refl) no_type (slice_get ms i) (slice_get (ms ++ more ∷ []) i) (slice_get ms k) (slice_get (ms ++ more ∷ []) k) r (still_there ms more i) (still_there ms more k) h
 referent_still ms more _ r h = h

@@ -1,29 +1,19 @@
 -- A text has one first fault, and faults of a lesser index have a lesser position.
-use Rattle.std.proofs.Common.{◌≡◌, ◌⊎◌, ℕ, ◌<◌, ◌≤◌, ◌==◌, if◌then◌else◌, Bool, false, List, [], ◌∷◌, ◌++◌, length, Option, Some, None, Result, Ok, Err}
+use Rattle.std.proofs.Common.{◌≡◌, ◌⊎◌, ℕ, ◌<◌, ◌≤◌, ◌==◌, if◌then◌else◌, Bool, false, List, [], ◌∷◌, ◌++◌, length, Some, None, Ok, Err}
 use Rattle.std.proofs.Common.{inl, inr, refl, sym, ap, ◌∙◌, subst, arith}
-use Rattle.turtle_lex.specs.declared.token.Token.{Token as LexToken}
-use Rattle.turtle_lex.specs.Laws.{text_of}
-use Rattle.turtle_grammar.specs.declared.symbol.Symbol.{Symbol}
-use Rattle.turtle_grammar.specs.declared.symbol.Symbol.TheVariants.{Token}
 use Rattle.turtle_grammar.specs.declared.symbol.Start.{Start}
 use Rattle.turtle_terms.specs.declared.fault.TurtleKind.TheVariants as Why
 use Rattle.turtle_terms.specs.declared.fault.TurtleFault.{TurtleFault}
 use Rattle.turtle_terms.specs.declared.fault.TurtleFault.TheVariants.{Bad, TooLarge, NoMemory}
-use Rattle.turtle_terms.specs.Prefixes.{Prefixes}
-use Rattle.turtle_terms.specs.Meaning.{IsTermOf}
 use Rattle.turtle_reader.specs.declared.lexeme.Lexeme.{Lexeme}
-use Rattle.turtle_reader.specs.declared.meaning.Meaning.{Meaning}
-use Rattle.turtle_reader.specs.declared.context.Directive.{Directive}
-use Rattle.turtle_reader.specs.declared.context.Directive.TheVariants as directive_of
-use Rattle.turtle_reader.specs.declared.context.Context.{Context}
 use Rattle.turtle_reader.specs.Contexts.{at_start, context_from}
 use Rattle.turtle_reader.specs.Faults.{Next, IsStop, HasNoIri, IsDeep, rank}
 use Rattle.turtle_reader.specs.FirstFaults.{IsFaultAt, IsLargeAt, HasFaultAt, IsFirstFault, place_of}
-use Rattle.turtle_reader.specs.Lexemes.{token_at}
-use Rattle.turtle_reader.specs.Meanings.{special_meaning, IsPlainMeaning, IsTokenMeaning, IsMeaningBy}
 use Rattle.turtle_reader.specs.Texts.{IsLexed, is_string_symbol, AreLexemesTo}
-use Rattle.turtle_reader.proofs.Firsts.{firsts_agree, first_shorter}
+use Rattle.turtle_reader.proofs.Firsts.{first_shorter}
 use Rattle.turtle_reader.proofs.OneLexeme.{lex_at, placed, fault_after}
+use Rattle.turtle_reader.proofs.Sequences.{iri_fault}
+use Rattle.turtle_reader.proofs.Telling.{at_index}
 
 -- the fault of a rank at a position
 abbrev fault_of : ℕ → ℕ → TurtleFault
@@ -38,13 +28,7 @@ fault_of n at =
 
 fault_is : (f : TurtleFault) → f ≡ fault_of (rank f) (place_of f)
 fault_is (Bad at Why.NotText) = refl
-fault_is (Bad at Why.BadToken) = refl
-fault_is (Bad at Why.Grammar) = refl
-fault_is (Bad at Why.Prefix) = refl
-fault_is (Bad at Why.BadIri) = refl
-fault_is (Bad at Why.Depth) = refl
-fault_is (TooLarge at) = refl
-fault_is NoMemory = refl
+fault_is _ = refl
 
 -- where a fault after some lexemes is
 abbrev pub places : ℕ → Next → ℕ
@@ -52,39 +36,10 @@ places end (Ok (Some l)) = l.from
 places end (Ok None) = end
 places end (Err f) = lex_at f
 
--- The position of an IRI's fault
-
-abbrev MeaningResult : Type 0
-MeaningResult = Result Meaning TurtleFault
-
-not_ok : (f : TurtleFault) (m : Meaning) (a : MeaningResult) → a ≡ Err f → a ≡ Ok m → ⊥
-not_ok f m a e h = cc
-
-term_place : (base : List ℕ) (prefixes : Prefixes) (bytes : List ℕ) (token : LexToken) (f : TurtleFault) → IsTermOf base prefixes bytes token (Err f)
-    → place_of f ≡ token.from
-term_place base prefixes bytes token (Bad at why) h = h.0
-term_place base prefixes bytes token (TooLarge at) h = absurd h
-term_place base prefixes bytes token NoMemory h = absurd h
-
-plain_place : (special : Option Meaning) (base : List ℕ) (prefixes : Prefixes) (bytes : List ℕ) (token : LexToken) (f : TurtleFault)
-    → IsPlainMeaning special base prefixes bytes token (Err f) → place_of f ≡ token.from
-plain_place (Some m) base prefixes bytes token f h = absurd (not_ok f m (Err f) refl h)
-plain_place None base prefixes bytes token f h = term_place base prefixes bytes token f h
-
-token_place : (d : Directive) (base : List ℕ) (prefixes : Prefixes) (bytes : List ℕ) (token : LexToken) (f : TurtleFault)
-    → IsTokenMeaning d base prefixes bytes token (Err f) → place_of f ≡ token.from
-token_place directive_of.Name base prefixes bytes token f h = absurd (not_ok f _ (Err f) refl h)
-token_place _ base prefixes bytes token f h = plain_place (special_meaning token.kind (text_of bytes token)) base prefixes bytes token f h
-
-by_place : (s : Symbol) (bytes : List ℕ) (c : Context) (l : Lexeme) (f : TurtleFault) → IsMeaningBy s bytes c l (Err f) → place_of f ≡ l.from
-by_place (Token kind) bytes c l f h = token_place c.directive c.base c.scope bytes (token_at kind l) f h
-by_place _ bytes c l f h = absurd (not_ok f _ (Err f) refl h)
-
 iri_place : (base bytes : List ℕ) (before : List Lexeme) (next : Next) (f : TurtleFault) → HasNoIri base bytes before next f
     → place_of f ≡ places (length bytes) next
-iri_place base bytes before (Ok (Some l)) f (ms, means, bad) = by_place l.symbol bytes (context_from (at_start base) before ms) l f bad
-iri_place base bytes before (Ok None) f h = absurd h
-iri_place base bytes before (Err e) f h = absurd h
+iri_place base bytes before (Ok (Some l)) f (ms, means, bad) = (iri_fault bytes (context_from (at_start base) before ms) l f bad).1
+iri_place base bytes before _ f h = absurd h
 
 stop_place : (start : Start) (end : ℕ) (before : List Lexeme) (next : Next) (at : ℕ) → IsStop start end before next at → at ≡ places end next
 stop_place start end before (Ok (Some l)) at h = h.0
@@ -93,13 +48,11 @@ stop_place start end before (Err f) at h = absurd h
 
 deep_place : (end : ℕ) (before : List Lexeme) (next : Next) (at : ℕ) → IsDeep before next at → at ≡ places end next
 deep_place end before (Ok (Some l)) at h = h.0
-deep_place end before (Ok None) at h = absurd h
-deep_place end before (Err f) at h = absurd h
+deep_place end before _ at h = absurd h
 
 large_place : (IsLarge : List Lexeme → Type 0) (end : ℕ) (before : List Lexeme) (next : Next) (at : ℕ) → IsLargeAt IsLarge before next at → at ≡ places end next
 large_place IsLarge end before (Ok (Some l)) at h = h.0
-large_place IsLarge end before (Ok None) at h = absurd h
-large_place IsLarge end before (Err f) at h = absurd h
+large_place IsLarge end before _ at h = absurd h
 
 -- The positions of lexemes
 
@@ -151,14 +104,6 @@ module _ (IsLarge : List Lexeme → Type 0) (start : Start) (base bytes : List �
       fault_is f ∙ ap (λ (n : ℕ). fault_of n (place_of f)) same
       ∙ ap (fault_of (rank g)) (place_is before next f h ∙ sym (place_is before next g k)) ∙ sym (fault_is g)
 
-  -- faults of one index and one rank are one
-  at_one_index : (i j : ℕ) (f g : TurtleFault) → i ≡ j → rank f ≡ rank g → Has i f → Has j g → f ≡ g
-  at_one_index i j f g index same (before, next, first, size, is) (other, next', first', size', is') =
-      let agree = firsts_agree start bytes before other next next' first first' (size ∙ index ∙ sym size') in
-      let lexemes : Here before next' g = subst (λ (z : List Lexeme). Here z next' g) (sym agree.0) is' in
-      let moved : Here before next g = subst (λ (z : Next). Here before z g) (sym agree.1) lexemes in
-      same_fault before next f g same is moved
-
   abbrev Order : ℕ → ℕ → ℕ → ℕ → Type 0
   Order i j m n = (i < j) ⊎ ((i ≡ j) × (m ≤ n))
 
@@ -171,7 +116,8 @@ module _ (IsLarge : List Lexeme → Type 0) (start : Start) (base bytes : List �
   pub one_first_fault : (f g : TurtleFault) → IsFirstFault IsLarge start base bytes f → IsFirstFault IsLarge start base bytes g → f ≡ g
   one_first_fault f g h k =
       let same = both h.index k.index (rank f) (rank g) (h.first k.index g k.has) (k.first h.index f h.has) in
-      at_one_index h.index k.index f g same.0 same.1 h.has k.has
+      let (before, next, first, size, is) = h.has in
+      same_fault before next f g same.1 is (at_index IsLarge start base bytes before next first k.index g (size ∙ same.0) k.has)
 
   pub places_ascend : (i j : ℕ) (f g : TurtleFault) → Has i f → Has j g → i < j → place_of f < place_of g
   places_ascend i j f g (before, next, first, size, is) (other, next', first', size', is') lt =

@@ -79,13 +79,13 @@ word_place bytes l Delete u r x = tt
 word_place bytes l Data u r x = tt
 word_place bytes l (Token kind) u r x = absurd x
 
-no_lexeme : (l : Lexeme) (f : LexFault) (next : Next) → next ≡ Ok (Some l) → next ≡ Err f → ⊥
+pub no_lexeme : (l : Lexeme) (f : LexFault) (next : Next) → next ≡ Ok (Some l) → next ≡ Err f → ⊥
 no_lexeme l f next e h = cc
 
-ended : (l : Lexeme) (next : Next) → next ≡ Ok (Some l) → next ≡ Ok None → ⊥
+pub ended : (l : Lexeme) (next : Next) → next ≡ Ok (Some l) → next ≡ Ok None → ⊥
 ended l next e h = cc
 
-same_lexeme : (l m : Lexeme) (next : Next) → next ≡ Ok (Some l) → next ≡ Ok (Some m) → l ≡ m
+pub same_lexeme : (l m : Lexeme) (next : Next) → next ≡ Ok (Some l) → next ≡ Ok (Some m) → l ≡ m
 same_lexeme l m next e h = cc
 
 tokenless_placed : (start : Start) (bytes : List ℕ) (from at : ℕ) (l : Lexeme) → IsBadToken bytes from at → IsTokenlessAnswer start bytes at (Ok (Some l))
@@ -115,7 +115,7 @@ lex_at lex.NoMemory = 0
 same_fault : (f g : LexFault) (next : Next) → next ≡ Err f → next ≡ Err g → f ≡ g
 same_fault f g next e h = cc
 
-found_none : (f : LexFault) (next : Next) → next ≡ Err f → next ≡ Ok None → ⊥
+pub found_none : (f : LexFault) (next : Next) → next ≡ Err f → next ≡ Ok None → ⊥
 found_none f next e h = cc
 
 tokenless_after : (start : Start) (bytes : List ℕ) (from at : ℕ) (f : LexFault) → from ≤ at → IsTokenlessAnswer start bytes at (Err f) → from ≤ lex_at f
@@ -142,7 +142,7 @@ lexemes_on start bytes (x ∷ ls) from s to u l (is_next, rest) h = (is_next, le
 
 -- Tokens as lexemes
 
-string_same : (s : Bool) (kind : TokenKind) → is_string kind ≡ is_string (kind_after s kind)
+pub string_same : (s : Bool) (kind : TokenKind) → is_string kind ≡ is_string (kind_after s kind)
 string_same true Kind.AtPrefix = refl
 string_same true Kind.AtBase = refl
 string_same true _ = refl

@@ -2,9 +2,7 @@
 use Rattle.std.proofs.Common.{◌≡◌, ℕ, Bool, true, false, List, [], ◌∷◌, ◌++◌, length, take, Some, None, Ok, Err}
 use Rattle.std.proofs.Common.{inl, inr, refl, sym, ap, ◌∙◌, subst, arith, append_assoc, length-append}
 use Rattle.std.proofs.lemmas.Bool.{cases_lt}
-use Rattle.std.proofs.lemmas.List.{map-append, take-append-le}
-use Rattle.std.proofs.Math.Seq.{take-length}
-use Rattle.turtle_lex.specs.declared.token.LexFault.{LexFault}
+use Rattle.std.proofs.lemmas.List.{map-append, take_at}
 use Rattle.turtle_lex.specs.declared.token.LexFault.TheVariants as lex
 use Rattle.turtle_grammar.specs.declared.symbol.Symbol.{Symbol}
 use Rattle.turtle_grammar.specs.declared.symbol.Start.{Start}
@@ -27,6 +25,7 @@ use Rattle.turtle_reader.specs.Meanings.{AreMeanings}
 use Rattle.turtle_reader.specs.Texts.{AreFirst, IsText, AreComplete, AreCompleteWhere, adds_to_string}
 use Rattle.turtle_reader.proofs.Firsts.{firsts_agree, strings_agree, first_shorter, one_list, ended}
 use Rattle.turtle_reader.proofs.Handing.{one_handed}
+use Rattle.turtle_reader.proofs.OneLexeme.{no_lexeme}
 use Rattle.turtle_reader.proofs.Sequences.{one_means, no_iri_fault}
 use Rattle.turtle_reader.proofs.Telling.{fault_along, at_index, least_end}
 
@@ -37,9 +36,6 @@ one_text start base bytes ps qs ms ns h k =
     let derives : Derives start (symbols_of h.lexemes) qs = subst (λ (z : List Lexeme). Derives start (symbols_of z) qs) lexemes k.derives in
     let means : AreMeanings bytes (at_start base) h.lexemes ns = subst (λ (z : List Lexeme). AreMeanings bytes (at_start base) z ns) lexemes k.means in
     (same_productions start (symbols_of h.lexemes) qs ps derives h.derives, one_means bytes (at_start base) h.lexemes ns ms means h.means)
-
-no_lexeme : (f : LexFault) (l : Lexeme) (r : Next) → r ≡ Ok (Some l) → r ≡ Err f → ⊥
-no_lexeme f l r e h = cc
 
 -- A text within the limits has no fault.
 module _ (IsLarge : List Lexeme → Type 0) (start : Start) (base bytes : List ℕ) (ps : List Production) (ms : List Meaning) (h : IsText start base bytes ps ms)
@@ -62,8 +58,8 @@ module _ (IsLarge : List Lexeme → Type 0) (start : Start) (base bytes : List �
         (subst (λ (z : List Lexeme). AreMeanings bytes (at_start base) z ms) split h.means) means bad
 
     not_inside : (f : TurtleFault) → (n : ℕ) → HasFaultAt IsLarge start base bytes n f → IsFaultAt IsLarge start base bytes before (Ok (Some l)) f → ⊥
-    not_inside (Bad at Why.NotText) n has is = no_lexeme (lex.NotText at) l (Ok (Some l)) refl is
-    not_inside (Bad at Why.BadToken) n has is = no_lexeme (lex.BadToken at) l (Ok (Some l)) refl is
+    not_inside (Bad at Why.NotText) n has is = no_lexeme l (lex.NotText at) (Ok (Some l)) refl is
+    not_inside (Bad at Why.BadToken) n has is = no_lexeme l (lex.BadToken at) (Ok (Some l)) refl is
     not_inside (Bad at Why.Grammar) n has is = is.1 goes
     not_inside (Bad at Why.Prefix) n has is = no_iri (Bad at Why.Prefix) is
     not_inside (Bad at Why.BadIri) n has is = no_iri (Bad at Why.BadIri) is
@@ -93,14 +89,11 @@ module _ (IsLarge : List Lexeme → Type 0) (start : Start) (base bytes : List �
 
 -- Complete triples
 
-front : {X : Type 0} (xs : List X) (x : X) → take (length xs) (xs ++ x ∷ []) ≡ xs
-front xs x = take-append-le (length xs) xs (x ∷ []) (omega arith) ∙ take-length xs
+last_size : {X : Type 0} (xs ys : List X) (x y : X) → xs ++ x ∷ [] ≡ ys ++ y ∷ [] → length xs ≡ length ys
+last_size xs ys x y e = omega (arith, ap length e, length-append xs (x ∷ []), length-append ys (y ∷ []))
 
 fronts_agree : {X : Type 0} (xs ys : List X) (x y : X) → xs ++ x ∷ [] ≡ ys ++ y ∷ [] → xs ≡ ys
-fronts_agree xs ys x y e =
-    let sizes : length (xs ++ x ∷ []) ≡ length (ys ++ y ∷ []) = ap length e in
-    let same : length xs ≡ length ys = omega (arith, sizes, length-append xs (x ∷ []), length-append ys (y ∷ [])) in
-    sym (front xs x) ∙ ap (take (length xs)) e ∙ ap (λ (n : ℕ). take n (ys ++ y ∷ [])) same ∙ front ys y
+fronts_agree xs ys x y e = sym (take_at xs (x ∷ []) (length xs) refl) ∙ ap (take (length xs)) e ∙ take_at ys (y ∷ []) (length xs) (sym (last_size xs ys x y e))
 
 one_where : (string adds : Bool) (ps cs ds : List Production) → AreCompleteWhere string adds ps cs → AreCompleteWhere string adds ps ds → cs ≡ ds
 one_where true true ps cs ds (own, e) (other, f) = fronts_agree cs ds own other (sym e ∙ f)

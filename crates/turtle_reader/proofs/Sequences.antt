@@ -3,7 +3,6 @@ use Rattle.std.proofs.Common.{◌≡◌, ℕ, List, [], ◌∷◌, ◌++◌, Opt
 use Rattle.std.proofs.Common.{refl, sym, ap, ◌∙◌, subst}
 use Rattle.std.proofs.lemmas.List.{map-append}
 use Rattle.std.specs.FinMap as map_of
-use Rattle.rdf_graph.specs.declared.term.Term.{Term}
 use Rattle.turtle_lex.specs.declared.token.TokenKind.{TokenKind}
 use Rattle.turtle_lex.specs.declared.token.TokenKind.TheVariants as Kind
 use Rattle.turtle_lex.specs.declared.token.Token.{Token as LexToken}
@@ -13,7 +12,7 @@ use Rattle.turtle_grammar.specs.declared.symbol.Symbol.TheVariants.{Token}
 use Rattle.turtle_terms.specs.declared.fault.TurtleKind.{TurtleKind}
 use Rattle.turtle_terms.specs.declared.fault.TurtleKind.TheVariants as Why
 use Rattle.turtle_terms.specs.declared.fault.TurtleFault.{TurtleFault}
-use Rattle.turtle_terms.specs.declared.fault.TurtleFault.TheVariants.{Bad, TooLarge, NoMemory}
+use Rattle.turtle_terms.specs.declared.fault.TurtleFault.TheVariants.{Bad}
 use Rattle.turtle_terms.specs.Prefixes.{Prefixes}
 use Rattle.turtle_terms.specs.Values.{reference_value, prefix_value, local_value}
 use Rattle.turtle_terms.specs.Meaning.{IsTermOf, IsReferenceMeaning, IsNameMeaning}
@@ -26,6 +25,7 @@ use Rattle.turtle_reader.specs.declared.context.Directive.TheVariants as directi
 use Rattle.turtle_reader.specs.declared.context.Context.{Context}
 use Rattle.turtle_reader.specs.Lexemes.{symbols_of, token_at}
 use Rattle.turtle_reader.specs.Contexts.{context_after, context_from}
+use Rattle.turtle_reader.specs.FirstFaults.{place_of}
 use Rattle.turtle_reader.specs.Meanings.{special_meaning, term_meaning, IsTermMeaning, IsPlainMeaning}
 use Rattle.turtle_reader.specs.Meanings.{IsTokenMeaning, IsMeaningBy, IsMeaning, AreMeanings}
 
@@ -51,29 +51,28 @@ context_more bytes c (x ∷ ls) (n ∷ ms) l m h = context_more bytes (context_a
 abbrev MeaningResult : Type 0
 MeaningResult = Result Meaning TurtleFault
 
-abbrev TermResult : Type 0
-TermResult = Result (Option Term) TurtleFault
+-- A result is one value, or one fault.
+module _ {T E : Type 0} where
+  same_ok : (a b : T) (r : Result T E) → r ≡ Ok a → r ≡ Ok b → a ≡ b
+  same_ok a b r e f = cc
 
-same_ok : (t u : Option Term) (a b : TermResult) → a ≡ Ok t → b ≡ Ok u → a ≡ b → t ≡ u
-same_ok t u a b e f h = cc
+  same_err : (a b : E) (r : Result T E) → r ≡ Err a → r ≡ Err b → a ≡ b
+  same_err a b r e f = cc
 
-same_err : (t u : TurtleFault) (a b : TermResult) → a ≡ Err t → b ≡ Err u → a ≡ b → t ≡ u
-same_err t u a b e f h = cc
-
-apart : (t : Option Term) (u : TurtleFault) (a b : TermResult) → a ≡ Ok t → b ≡ Err u → a ≡ b → ⊥
-apart t u a b e f h = cc
+  apart : (a : T) (b : E) (r : Result T E) → r ≡ Ok a → r ≡ Err b → ⊥
+  apart a b r e f = cc
 
 one_term_meaning : (base : List ℕ) (prefixes : Prefixes) (bytes : List ℕ) (token : LexToken) (a b : MeaningResult)
     → IsTermMeaning base prefixes bytes token a → IsTermMeaning base prefixes bytes token b → a ≡ b
 one_term_meaning base prefixes bytes token (Ok m) (Ok n) (t, h, e) (u, k, f) =
-    let same : t ≡ u = same_ok t u (Ok t) (Ok u) refl refl (one_term base prefixes bytes token (Ok t) (Ok u) h k) in
+    let same : t ≡ u = same_ok t u (Ok t) refl (one_term base prefixes bytes token (Ok t) (Ok u) h k) in
     ap Ok (e ∙ ap term_meaning same ∙ sym f)
 one_term_meaning base prefixes bytes token (Ok m) (Err f) (t, h, e) k =
-    absurd (apart t f (Ok t) (Err f) refl refl (one_term base prefixes bytes token (Ok t) (Err f) h k))
+    absurd (apart t f (Ok t) refl (one_term base prefixes bytes token (Ok t) (Err f) h k))
 one_term_meaning base prefixes bytes token (Err f) (Ok n) h (u, k, e) =
-    absurd (apart u f (Ok u) (Err f) refl refl (one_term base prefixes bytes token (Ok u) (Err f) k h))
+    absurd (apart u f (Ok u) refl (one_term base prefixes bytes token (Ok u) (Err f) k h))
 one_term_meaning base prefixes bytes token (Err f) (Err g) h k =
-    ap Err (same_err f g (Err f) (Err g) refl refl (one_term base prefixes bytes token (Err f) (Err g) h k))
+    ap Err (same_err f g (Err f) refl (one_term base prefixes bytes token (Err f) (Err g) h k))
 
 one_plain : (special : Option Meaning) (base : List ℕ) (prefixes : Prefixes) (bytes : List ℕ) (token : LexToken) (a b : MeaningResult)
     → IsPlainMeaning special base prefixes bytes token a → IsPlainMeaning special base prefixes bytes token b → a ≡ b
@@ -95,24 +94,15 @@ pub one_meaning : (bytes : List ℕ) (c : Context) (l : Lexeme) (a b : Result Me
     → IsMeaning bytes c l a → IsMeaning bytes c l b → a ≡ b
 one_meaning bytes c l a b h k = one_by l.symbol bytes c l a b h k
 
-meaning_same : (m n : Meaning) (a b : MeaningResult) → a ≡ Ok m → b ≡ Ok n → a ≡ b → m ≡ n
-meaning_same m n a b e f h = cc
-
-meaning_apart : (m : Meaning) (f : TurtleFault) (a b : MeaningResult) → a ≡ Ok m → b ≡ Err f → a ≡ b → ⊥
-meaning_apart m f a b d e h = cc
-
 pub meanings_agree : (bytes : List ℕ) (c : Context) (l : Lexeme) (m n : Meaning) → IsMeaning bytes c l (Ok m) → IsMeaning bytes c l (Ok n) → m ≡ n
-meanings_agree bytes c l m n h k = meaning_same m n (Ok m) (Ok n) refl refl (one_meaning bytes c l (Ok m) (Ok n) h k)
+meanings_agree bytes c l m n h k = same_ok m n (Ok m) refl (one_meaning bytes c l (Ok m) (Ok n) h k)
 
 pub meaning_or_fault : (bytes : List ℕ) (c : Context) (l : Lexeme) (m : Meaning) (f : TurtleFault)
     → IsMeaning bytes c l (Ok m) → IsMeaning bytes c l (Err f) → ⊥
-meaning_or_fault bytes c l m f h k = meaning_apart m f (Ok m) (Err f) refl refl (one_meaning bytes c l (Ok m) (Err f) h k)
-
-faults_same : (f g : TurtleFault) (a b : MeaningResult) → a ≡ Err f → b ≡ Err g → a ≡ b → f ≡ g
-faults_same f g a b d e h = cc
+meaning_or_fault bytes c l m f h k = apart m f (Ok m) refl (one_meaning bytes c l (Ok m) (Err f) h k)
 
 pub faults_agree : (bytes : List ℕ) (c : Context) (l : Lexeme) (f g : TurtleFault) → IsMeaning bytes c l (Err f) → IsMeaning bytes c l (Err g) → f ≡ g
-faults_agree bytes c l f g h k = faults_same f g (Err f) (Err g) refl refl (one_meaning bytes c l (Err f) (Err g) h k)
+faults_agree bytes c l f g h k = same_err f g (Err f) refl (one_meaning bytes c l (Err f) (Err g) h k)
 
 -- lexemes mean one list
 pub one_means : (bytes : List ℕ) (c : Context) (ls : List Lexeme) (ms ns : List Meaning)
@@ -162,51 +152,42 @@ name_kind (Some p) local _ h = absurd h
 name_kind None local Why.Prefix h = tt
 name_kind None local _ h = absurd h
 
-abbrev KindResult : Type 0
-KindResult = Result (Option Term) TurtleKind
-
-no_ok : (why : TurtleKind) (o : Option Term) (a : KindResult) → a ≡ Err why → a ≡ Ok o → ⊥
-no_ok why o a e f = cc
-
-no_iri_ok : (why : TurtleKind) (o : List ℕ) (a : Result (List ℕ) TurtleKind) → a ≡ Err why → a ≡ Ok o → ⊥
-no_iri_ok why o a e f = cc
-
 term_kind : (base : List ℕ) (prefixes : Prefixes) (kind : TokenKind) (text : List ℕ) (why : TurtleKind)
     → IsTermMeaningOf base prefixes kind text (Err why) → IsIriKind why
 term_kind base prefixes Kind.IriRef text why h = reference_kind base (reference_value text) why h
 term_kind base prefixes Kind.PnameNs text why h = name_kind (map_of.get prefixes (prefix_value text)) (local_value text) why h
 term_kind base prefixes Kind.PnameLn text why h = name_kind (map_of.get prefixes (prefix_value text)) (local_value text) why h
-term_kind base prefixes Kind.A text why h = absurd (no_iri_ok why _ (Err why) refl h)
-term_kind base prefixes _ text why h = absurd (no_ok why _ (Err why) refl h)
+term_kind base prefixes Kind.A text why h = absurd (apart _ why (Err why) h refl)
+term_kind base prefixes _ text why h = absurd (apart _ why (Err why) h refl)
 
 fault_of_kind : (at : ℕ) (why : TurtleKind) → IsIriKind why → IsIriFault (Bad at why)
 fault_of_kind at Why.Prefix h = tt
 fault_of_kind at Why.BadIri h = tt
 fault_of_kind at _ h = absurd h
 
-term_fault : (base : List ℕ) (prefixes : Prefixes) (bytes : List ℕ) (token : LexToken) (f : TurtleFault)
-    → IsTermOf base prefixes bytes token (Err f) → IsIriFault f
-term_fault base prefixes bytes token (Bad at why) h = fault_of_kind at why (term_kind base prefixes token.kind (text_of bytes token) why h.1)
-term_fault base prefixes bytes token (TooLarge at) h = absurd h
-term_fault base prefixes bytes token NoMemory h = absurd h
+-- the fault is of such a kind, and at this position
+abbrev IsIriFaultAt : ℕ → TurtleFault → Type 0
+IsIriFaultAt at f = IsIriFault f × (place_of f ≡ at)
 
-no_meaning_ok : (f : TurtleFault) (m : Meaning) (a : MeaningResult) → a ≡ Err f → a ≡ Ok m → ⊥
-no_meaning_ok f m a e h = cc
+term_fault : (base : List ℕ) (prefixes : Prefixes) (bytes : List ℕ) (token : LexToken) (f : TurtleFault)
+    → IsTermOf base prefixes bytes token (Err f) → IsIriFaultAt token.from f
+term_fault base prefixes bytes token (Bad at why) h = (fault_of_kind at why (term_kind base prefixes token.kind (text_of bytes token) why h.1), h.0)
+term_fault base prefixes bytes token _ h = absurd h
 
 plain_fault : (special : Option Meaning) (base : List ℕ) (prefixes : Prefixes) (bytes : List ℕ) (token : LexToken) (f : TurtleFault)
-    → IsPlainMeaning special base prefixes bytes token (Err f) → IsIriFault f
-plain_fault (Some m) base prefixes bytes token f h = absurd (no_meaning_ok f m (Err f) refl h)
+    → IsPlainMeaning special base prefixes bytes token (Err f) → IsIriFaultAt token.from f
+plain_fault (Some m) base prefixes bytes token f h = absurd (apart m f (Err f) h refl)
 plain_fault None base prefixes bytes token f h = term_fault base prefixes bytes token f h
 
 token_fault : (d : Directive) (base : List ℕ) (prefixes : Prefixes) (bytes : List ℕ) (token : LexToken) (f : TurtleFault)
-    → IsTokenMeaning d base prefixes bytes token (Err f) → IsIriFault f
-token_fault directive_of.Name base prefixes bytes token f h = absurd (no_meaning_ok f _ (Err f) refl h)
+    → IsTokenMeaning d base prefixes bytes token (Err f) → IsIriFaultAt token.from f
+token_fault directive_of.Name base prefixes bytes token f h = absurd (apart _ f (Err f) h refl)
 token_fault _ base prefixes bytes token f h = plain_fault (special_meaning token.kind (text_of bytes token)) base prefixes bytes token f h
 
-by_fault : (s : Symbol) (bytes : List ℕ) (c : Context) (l : Lexeme) (f : TurtleFault) → IsMeaningBy s bytes c l (Err f) → IsIriFault f
+by_fault : (s : Symbol) (bytes : List ℕ) (c : Context) (l : Lexeme) (f : TurtleFault) → IsMeaningBy s bytes c l (Err f) → IsIriFaultAt l.from f
 by_fault (Token kind) bytes c l f h = token_fault c.directive c.base c.scope bytes (token_at kind l) f h
-by_fault _ bytes c l f h = absurd (no_meaning_ok f _ (Err f) refl h)
+by_fault _ bytes c l f h = absurd (apart _ f (Err f) h refl)
 
--- the fault of a lexeme is that of an IRI
-pub iri_fault : (bytes : List ℕ) (c : Context) (l : Lexeme) (f : TurtleFault) → IsMeaning bytes c l (Err f) → IsIriFault f
+-- the fault of a lexeme is that of an IRI, at its start
+pub iri_fault : (bytes : List ℕ) (c : Context) (l : Lexeme) (f : TurtleFault) → IsMeaning bytes c l (Err f) → IsIriFault f × (place_of f ≡ l.from)
 iri_fault bytes c l f h = by_fault l.symbol bytes c l f h

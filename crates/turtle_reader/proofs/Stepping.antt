@@ -1,9 +1,8 @@
 -- What a reader has read has no fault, and the fault of the lexeme after it is the least one there.
-use Rattle.std.proofs.Common.{◌≡◌, ◌≢◌, ℕ, ◌+◌, ◌<◌, ◌≤◌, lit≤, List, [], ◌∷◌, ◌++◌, length, take, drop, Some, Result, Ok, Err}
+use Rattle.std.proofs.Common.{◌≡◌, ◌≢◌, ℕ, ◌+◌, ◌<◌, ◌≤◌, lit≤, List, [], ◌∷◌, ◌++◌, length, take, Some, Result, Ok, Err}
 use Rattle.std.proofs.Common.{refl, sym, ap, ◌∙◌, subst, arith, append_assoc, length-append}
-use Rattle.std.proofs.lemmas.List.{drop-append-le, map-append, length-map, take-append-le}
+use Rattle.std.proofs.lemmas.List.{map-append, length-map, take-append-le}
 use Rattle.std.proofs.Math.Seq.{take-length}
-use Rattle.turtle_lex.specs.declared.token.LexFault.{LexFault}
 use Rattle.turtle_grammar.specs.declared.symbol.Start.{Start}
 use Rattle.turtle_grammar.specs.declared.symbol.Symbol.{Symbol}
 use Rattle.turtle_grammar.specs.declared.production.Production.{Production}
@@ -14,7 +13,6 @@ use Rattle.turtle_grammar.specs.Readings.{HasRead, produced_by, StopsAt, IsTooDe
 use Rattle.turtle_grammar.specs.Readings.{ReadsOn as MachineReadsOn}
 use Rattle.turtle_grammar.proofs.Steps.{goes_on_now}
 use Rattle.turtle_grammar.proofs.Theorem.{goes_on_front}
-use Rattle.turtle_terms.specs.declared.fault.TurtleKind.{TurtleKind}
 use Rattle.turtle_terms.specs.declared.fault.TurtleKind.TheVariants as Why
 use Rattle.turtle_terms.specs.declared.fault.TurtleFault.{TurtleFault}
 use Rattle.turtle_terms.specs.declared.fault.TurtleFault.TheVariants.{Bad, TooLarge, NoMemory}
@@ -22,34 +20,32 @@ use Rattle.turtle_reader.specs.declared.lexeme.Lexeme.{Lexeme}
 use Rattle.turtle_reader.specs.declared.meaning.Meaning.{Meaning}
 use Rattle.turtle_reader.specs.declared.context.Context.{Context}
 use Rattle.turtle_reader.specs.declared.reader.Reader.{Reader}
+use Rattle.turtle_reader.specs.Kept.{KeepsMeaning}
 use Rattle.turtle_reader.specs.Lexemes.{symbols_of}
 use Rattle.turtle_reader.specs.Contexts.{at_start, context_after, context_from}
 use Rattle.turtle_reader.specs.Meanings.{IsMeaning}
-use Rattle.turtle_reader.specs.Faults.{Next, HasNoIri, IsFaultAfter, IsLeastAfter, HasNoFaultAfter, rank}
-use Rattle.turtle_reader.specs.Readings.{IsReading, produced_last, Keeps, ReadsOn, IsRefused}
+use Rattle.turtle_reader.specs.Faults.{HasNoIri, IsFaultAfter, IsLeastAfter, HasNoFaultAfter, rank}
+use Rattle.turtle_reader.specs.Readings.{IsReading, produced_last, ReadsOn, IsRefused}
+use Rattle.turtle_reader.proofs.OneLexeme.{no_lexeme}
 use Rattle.turtle_reader.proofs.Sequences.{symbols_more, means_more, context_more, no_iri_fault, one_means, meaning_or_fault, faults_agree, IsIriFault, iri_fault}
-
-no_error : (l : Lexeme) (f : LexFault) (next : Next) → next ≡ Ok (Some l) → next ≡ Err f → ⊥
-no_error l f next e h = cc
 
 module _ (start : Start) (base bytes : List ℕ) (ls : List Lexeme) (ps : List Production) (ms : List Meaning) (old : Reader)
     (h : IsReading start base bytes ls ps ms old) where
   -- one lexeme more
   pub reads_more : (l : Lexeme) (m : Meaning) (new : Reader) → MachineReadsOn l.symbol old.machine new.machine
       → IsMeaning bytes old.context l (Ok m) → new.context ≡ context_after old.context l m
-      → new.meanings.items ≡ old.meanings.items ++ m ∷ [] → new.since ≡ old.since
+      → KeepsMeaning old.read m old.kept new.kept → new.read ≡ old.read + 1
       → IsReading start base bytes (ls ++ l ∷ []) (ps ++ produced_last new) (ms ++ m ∷ []) new
-  reads_more l m new reads means context kept since =
+  reads_more l m new reads means context kept read =
       let here : IsMeaning bytes (context_from (at_start base) ls ms) l (Ok m) = subst (λ (c : Context). IsMeaning bytes c l (Ok m)) (sym h.context) means in
       let size : length (ms ++ m ∷ []) ≡ length ms + 1 = length-append ms (m ∷ []) in
-      let within : old.since ≤ length ms = h.since in
+      let before : old.read ≡ length ms = h.read in
       record {
         machine = subst (λ (z : List Symbol). HasRead start z (ps ++ produced_last new) new.machine) (sym (symbols_more ls l)) (reads start (symbols_of ls) ps h.machine);
         means = means_more bytes (at_start base) ls ms l m h.means here;
         context = context_more bytes (at_start base) ls ms l m h.means ∙ ap (λ (c : Context). context_after c l m) h.context ∙ sym context;
-        kept = ap (λ (n : ℕ). drop n (ms ++ m ∷ [])) since ∙ drop-append-le old.since ms (m ∷ []) h.since
-            ∙ ap (λ (z : List Meaning). z ++ m ∷ []) h.kept ∙ sym kept;
-        since = subst (λ (n : ℕ). n ≤ length (ms ++ m ∷ [])) (sym since) (omega (arith, size, within));
+        kept = kept ms (sym h.read) h.kept;
+        read = omega (arith, read, size, before);
       }
 
   module _ (l : Lexeme) where
@@ -63,14 +59,9 @@ module _ (start : Start) (base bytes : List ℕ) (ls : List Lexeme) (ps : List P
     Here f = IsFaultAfter start base bytes ls (Ok (Some l)) f
 
     grammar_least : (f : TurtleFault) → Here f → 2 ≤ rank f
-    grammar_least (Bad at Why.NotText) e = absurd (no_error l _ (Ok (Some l)) refl e)
-    grammar_least (Bad at Why.BadToken) e = absurd (no_error l _ (Ok (Some l)) refl e)
-    grammar_least (Bad at Why.Grammar) e = lit≤ tt
-    grammar_least (Bad at Why.Prefix) e = lit≤ tt
-    grammar_least (Bad at Why.BadIri) e = lit≤ tt
-    grammar_least (Bad at Why.Depth) e = lit≤ tt
-    grammar_least (TooLarge at) e = absurd e
-    grammar_least NoMemory e = absurd e
+    grammar_least (Bad at Why.NotText) e = absurd (no_lexeme l _ (Ok (Some l)) refl e)
+    grammar_least (Bad at Why.BadToken) e = absurd (no_lexeme l _ (Ok (Some l)) refl e)
+    grammar_least _ e = lit≤ tt
 
     -- nothing goes on with the lexeme
     pub grammar_here : StopsAt l.symbol old.machine → IsLeastAfter start base bytes ls (Ok (Some l)) (Bad l.from Why.Grammar)
@@ -96,14 +87,12 @@ module _ (start : Start) (base bytes : List ℕ) (ls : List Lexeme) (ps : List P
 
     module _ (goes : GoesOn start (symbols_of ls ++ l.symbol ∷ [])) where
       iri_least : (f : TurtleFault) → IsMeaning bytes old.context l (Err f) → rank f ≤ 4 → (g : TurtleFault) → Here g → rank f ≤ rank g
-      iri_least f k low (Bad at Why.NotText) e = absurd (no_error l _ (Ok (Some l)) refl e)
-      iri_least f k low (Bad at Why.BadToken) e = absurd (no_error l _ (Ok (Some l)) refl e)
+      iri_least f k low (Bad at Why.NotText) e = absurd (no_lexeme l _ (Ok (Some l)) refl e)
+      iri_least f k low (Bad at Why.BadToken) e = absurd (no_lexeme l _ (Ok (Some l)) refl e)
       iri_least f k low (Bad at Why.Grammar) e = absurd (e.1 (more_back goes))
       iri_least f k low (Bad at Why.Prefix) e = same_rank f (Bad at Why.Prefix) k e
       iri_least f k low (Bad at Why.BadIri) e = same_rank f (Bad at Why.BadIri) k e
-      iri_least f k low (Bad at Why.Depth) e = omega (arith, low)
-      iri_least f k low (TooLarge at) e = absurd e
-      iri_least f k low NoMemory e = absurd e
+      iri_least f k low _ e = omega (arith, low)
 
       iri_by_kind : (f : TurtleFault) → IsIriFault f → IsMeaning bytes old.context l (Err f) → IsLeastAfter start base bytes ls (Ok (Some l)) f
       iri_by_kind (Bad at Why.Prefix) i k = record {
@@ -118,20 +107,18 @@ module _ (start : Start) (base bytes : List ℕ) (ls : List Lexeme) (ps : List P
 
       -- its IRI is none
       pub iri_here : (f : TurtleFault) → IsMeaning bytes old.context l (Err f) → IsLeastAfter start base bytes ls (Ok (Some l)) f
-      iri_here f k = iri_by_kind f (iri_fault bytes old.context l f k) k
+      iri_here f k = iri_by_kind f (iri_fault bytes old.context l f k).0 k
 
       no_iri_here : (m : Meaning) → IsMeaning bytes old.context l (Ok m) → (g : TurtleFault) → HasNoIri base bytes ls (Ok (Some l)) g → ⊥
       no_iri_here m k g e = meaning_or_fault bytes old.context l m g k (known g e)
 
       deep_least : (m : Meaning) → IsMeaning bytes old.context l (Ok m) → (g : TurtleFault) → Here g → 5 ≤ rank g
-      deep_least m k (Bad at Why.NotText) e = absurd (no_error l _ (Ok (Some l)) refl e)
-      deep_least m k (Bad at Why.BadToken) e = absurd (no_error l _ (Ok (Some l)) refl e)
+      deep_least m k (Bad at Why.NotText) e = absurd (no_lexeme l _ (Ok (Some l)) refl e)
+      deep_least m k (Bad at Why.BadToken) e = absurd (no_lexeme l _ (Ok (Some l)) refl e)
       deep_least m k (Bad at Why.Grammar) e = absurd (e.1 (more_back goes))
       deep_least m k (Bad at Why.Prefix) e = absurd (no_iri_here m k (Bad at Why.Prefix) e)
       deep_least m k (Bad at Why.BadIri) e = absurd (no_iri_here m k (Bad at Why.BadIri) e)
-      deep_least m k (Bad at Why.Depth) e = lit≤ tt
-      deep_least m k (TooLarge at) e = absurd e
-      deep_least m k NoMemory e = absurd e
+      deep_least m k _ e = lit≤ tt
 
     take_all_more : (ts : List Symbol) (t : Symbol) → take (length ts + 1) (ts ++ t ∷ []) ≡ ts ++ t ∷ []
     take_all_more ts t = ap (λ n. take n (ts ++ t ∷ [])) (sym (length-append ts (t ∷ []))) ∙ take-length (ts ++ t ∷ [])
@@ -183,8 +170,8 @@ module _ (start : Start) (base bytes : List ℕ) (bs : List Lexeme) (x : Lexeme)
   no_iri f (ns, means, bad) = no_iri_fault bytes (at_start base) bs x us ms ns f h.means means bad
 
   pub no_fault_before : HasNoFaultAfter start base bytes bs (Ok (Some x))
-  no_fault_before (Bad at Why.NotText) e = no_error x _ (Ok (Some x)) refl e
-  no_fault_before (Bad at Why.BadToken) e = no_error x _ (Ok (Some x)) refl e
+  no_fault_before (Bad at Why.NotText) e = no_lexeme x _ (Ok (Some x)) refl e
+  no_fault_before (Bad at Why.BadToken) e = no_lexeme x _ (Ok (Some x)) refl e
   no_fault_before (Bad at Why.Grammar) e = e.1 goes
   no_fault_before (Bad at Why.Prefix) e = no_iri (Bad at Why.Prefix) e
   no_fault_before (Bad at Why.BadIri) e = no_iri (Bad at Why.BadIri) e
@@ -192,43 +179,37 @@ module _ (start : Start) (base bytes : List ℕ) (bs : List Lexeme) (x : Lexeme)
   no_fault_before (TooLarge at) e = e
   no_fault_before NoMemory e = e
 
-no_memory : (at : ℕ) (kind : TurtleKind) (f : TurtleFault) → f ≡ Bad at kind → f ≡ NoMemory → ⊥
-no_memory at kind f e h = cc
-
-module _ (bytes : List ℕ) (l : Lexeme) (old kept : Reader) (keeps : Keeps old kept) where
+module _ (bytes : List ℕ) (l : Lexeme) (old : Reader) where
   -- nothing goes on with the lexeme
-  pub grammar_refused : StopsAt l.symbol kept.machine → (f : TurtleFault) → f ≡ Bad l.from Why.Grammar → IsRefused bytes l old f
-  grammar_refused stops f is = subst (IsRefused bytes l old) (sym is)
-      (λ start base ls ps ms h. grammar_here start base bytes ls ps ms kept (keeps start base bytes ls ps ms h) l stops)
+  pub grammar_refused : StopsAt l.symbol old.machine → (f : TurtleFault) → f ≡ Bad l.from Why.Grammar → IsRefused bytes l old f
+  grammar_refused stops f is = subst (IsRefused bytes l old) (sym is) (λ start base ls ps ms h. grammar_here start base bytes ls ps ms old h l stops)
 
   -- its IRI is none
-  pub iri_refused : ((start : Start) (ls : List Lexeme) (ps : List Production) → HasRead start (symbols_of ls) ps kept.machine
+  pub iri_refused : ((start : Start) (ls : List Lexeme) (ps : List Production) → HasRead start (symbols_of ls) ps old.machine
       → GoesOn start (symbols_of ls ++ l.symbol ∷ []))
-      → (f : TurtleFault) → (f ≢ NoMemory → IsMeaning bytes kept.context l (Err f)) → IsRefused bytes l old f
+      → (f : TurtleFault) → (f ≢ NoMemory → IsMeaning bytes old.context l (Err f)) → IsRefused bytes l old f
   iri_refused goes (Bad at kind) means = λ start base ls ps ms h.
-      let now : IsReading start base bytes ls ps ms kept = keeps start base bytes ls ps ms h in
-      iri_here start base bytes ls ps ms kept now l (goes start ls ps now.machine) (Bad at kind) (means (no_memory at kind (Bad at kind) refl))
-  iri_refused goes (TooLarge at) means = iri_fault bytes kept.context l (TooLarge at) (means (λ e. cc))
+      iri_here start base bytes ls ps ms old h l (goes start ls ps h.machine) (Bad at kind) (means (λ e. cc))
+  iri_refused goes (TooLarge at) means = (iri_fault bytes old.context l (TooLarge at) (means (λ e. cc))).0
   iri_refused goes NoMemory means = tt
 
   -- it opens a bracket too many
-  pub deep_refused : (m : Meaning) → IsTooDeepAt l.symbol kept.machine → IsMeaning bytes kept.context l (Ok m)
+  pub deep_refused : (m : Meaning) → IsTooDeepAt l.symbol old.machine → IsMeaning bytes old.context l (Ok m)
       → (f : TurtleFault) → f ≡ Bad l.from Why.Depth → IsRefused bytes l old f
   deep_refused m deep means f is = subst (IsRefused bytes l old) (sym is)
-      (λ start base ls ps ms h. deep_here start base bytes ls ps ms kept (keeps start base bytes ls ps ms h) l m deep means)
+      (λ start base ls ps ms h. deep_here start base bytes ls ps ms old h l m deep means)
 
   -- what was read goes on
-  pub goes_read : (new : Machine) → MachineReadsOn l.symbol kept.machine new → (start : Start) (ls : List Lexeme) (ps : List Production)
-      → HasRead start (symbols_of ls) ps kept.machine → GoesOn start (symbols_of ls ++ l.symbol ∷ [])
+  pub goes_read : (new : Machine) → MachineReadsOn l.symbol old.machine new → (start : Start) (ls : List Lexeme) (ps : List Production)
+      → HasRead start (symbols_of ls) ps old.machine → GoesOn start (symbols_of ls ++ l.symbol ∷ [])
   goes_read new reads start ls ps h = goes_on_now start (symbols_of ls ++ l.symbol ∷ []) (ps ++ produced_by new) new (reads start (symbols_of ls) ps h)
 
-  pub goes_deep : IsTooDeepAt l.symbol kept.machine → (start : Start) (ls : List Lexeme) (ps : List Production)
-      → HasRead start (symbols_of ls) ps kept.machine → GoesOn start (symbols_of ls ++ l.symbol ∷ [])
+  pub goes_deep : IsTooDeepAt l.symbol old.machine → (start : Start) (ls : List Lexeme) (ps : List Production)
+      → HasRead start (symbols_of ls) ps old.machine → GoesOn start (symbols_of ls ++ l.symbol ∷ [])
   goes_deep deep start ls ps h = (deep start (symbols_of ls) ps h).0
 
   -- one lexeme more
-  pub reads_on : (m : Meaning) (new : Reader) → MachineReadsOn l.symbol kept.machine new.machine
-      → IsMeaning bytes kept.context l (Ok m) → new.context ≡ context_after kept.context l m
-      → new.meanings.items ≡ kept.meanings.items ++ m ∷ [] → new.since ≡ kept.since → ReadsOn bytes l old new
-  reads_on m new reads means context items since = λ start base ls ps ms h.
-      (m, reads_more start base bytes ls ps ms kept (keeps start base bytes ls ps ms h) l m new reads means context items since)
+  pub reads_on : (m : Meaning) (new : Reader) → MachineReadsOn l.symbol old.machine new.machine
+      → IsMeaning bytes old.context l (Ok m) → new.context ≡ context_after old.context l m
+      → KeepsMeaning old.read m old.kept new.kept → new.read ≡ old.read + 1 → ReadsOn bytes l old new
+  reads_on m new reads means context kept read = λ start base ls ps ms h. (m, reads_more start base bytes ls ps ms old h l m new reads means context kept read)

@@ -22,24 +22,12 @@ use Rattle.turtle_reader.specs.Readings.{IsReading}
 use Rattle.turtle_reader.specs.Texts.{AreFirst, AreLexemesTo}
 use Rattle.turtle_reader.specs.Walks.{IsSoFar, FitsBelow}
 use Rattle.turtle_reader.proofs.Stepping.{no_fault_before}
+use Rattle.turtle_reader.proofs.OneLexeme.{found_none}
 use Rattle.turtle_reader.proofs.Firsts.{firsts_agree, first_shorter, first_front, ended}
-
-not_ok : (f : LexFault) (r : Next) → r ≡ Ok None → r ≡ Err f → ⊥
-not_ok f r e g = cc
-
-lex_same : (f g : LexFault) (r : Next) → r ≡ Err f → r ≡ Err g → f ≡ g
-lex_same f g r e h = cc
-
-not_text_bad : (at at' : ℕ) (f : LexFault) → f ≡ lex.NotText at → f ≡ lex.BadToken at' → ⊥
-not_text_bad at at' f e h = cc
 
 rank_bad : (at : ℕ) (kind : TurtleKind) → rank (Bad at kind) ≤ 6
 rank_bad at Why.NotText = lit≤ tt
-rank_bad at Why.BadToken = lit≤ tt
-rank_bad at Why.Grammar = lit≤ tt
-rank_bad at Why.Prefix = lit≤ tt
-rank_bad at Why.BadIri = lit≤ tt
-rank_bad at Why.Depth = lit≤ tt
+rank_bad at _ = lit≤ tt
 
 module _ (IsLarge : List Lexeme → Type 0) (start : Start) (base bytes : List ℕ) where
   abbrev At : List Lexeme → Next → TurtleFault → Type 0
@@ -61,25 +49,15 @@ module _ (IsLarge : List Lexeme → Type 0) (start : Start) (base bytes : List �
   -- at the end of the text only the grammar can have a fault
   pub least_end : (ls : List Lexeme) (g : TurtleFault) → At ls (Ok None) g
       → (2 ≤ rank g) × ((productions : List Production) → Derives start (symbols_of ls) productions → ⊥)
-  least_end ls (Bad at Why.NotText) is = absurd (not_ok (lex.NotText at) (Ok None) refl is)
-  least_end ls (Bad at Why.BadToken) is = absurd (not_ok (lex.BadToken at) (Ok None) refl is)
+  least_end ls (Bad at Why.NotText) is = absurd (found_none (lex.NotText at) (Ok None) is refl)
+  least_end ls (Bad at Why.BadToken) is = absurd (found_none (lex.BadToken at) (Ok None) is refl)
   least_end ls (Bad at Why.Grammar) is = (lit≤ tt, is.1)
-  least_end ls (Bad at Why.Prefix) is = absurd is
-  least_end ls (Bad at Why.BadIri) is = absurd is
-  least_end ls (Bad at Why.Depth) is = absurd is
-  least_end ls (TooLarge at) is = absurd is
-  least_end ls NoMemory is = absurd is
+  least_end ls _ is = absurd is
 
   least_bad_token : (ls : List Lexeme) (at : ℕ) (g : TurtleFault) → At ls (Err (lex.BadToken at)) g → 1 ≤ rank g
-  least_bad_token ls at (Bad at' Why.NotText) is =
-      absurd (not_text_bad at' at (lex.BadToken at) (lex_same (lex.BadToken at) (lex.NotText at') (Err (lex.BadToken at)) refl is) refl)
+  least_bad_token ls at (Bad at' Why.NotText) is = absurd (let no : ⊥ = cc in no)
   least_bad_token ls at (Bad at' Why.BadToken) is = lit≤ tt
-  least_bad_token ls at (Bad at' Why.Grammar) is = absurd is
-  least_bad_token ls at (Bad at' Why.Prefix) is = absurd is
-  least_bad_token ls at (Bad at' Why.BadIri) is = absurd is
-  least_bad_token ls at (Bad at' Why.Depth) is = absurd is
-  least_bad_token ls at (TooLarge at') is = absurd is
-  least_bad_token ls at NoMemory is = absurd is
+  least_bad_token ls at _ is = absurd is
 
   -- a reader's fault is the least, since the size has the last rank
   least_of : (ls : List Lexeme) (l : Lexeme) (at : ℕ) (kind : TurtleKind) → IsLeastAfter start base bytes ls (Ok (Some l)) (Bad at kind)

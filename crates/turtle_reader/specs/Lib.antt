@@ -2,6 +2,7 @@ pub mod Lexemes
 pub mod Contexts
 pub mod Meanings
 pub mod Referents
+pub mod Kept
 pub mod Handed
 pub mod Faults
 pub mod Texts

@@ -1,6 +1,6 @@
 -- A reader as its caller sees it: which lexemes it has read, what they mean, and what they
 -- produced.
-use Rattle.std.specs.Prelude.{◌≡◌, ◌≤◌, ℕ, List, [], ◌∷◌, ◌++◌, length, drop, Ok, Some}
+use Rattle.std.specs.Prelude.{◌≡◌, ℕ, List, [], ◌∷◌, ◌++◌, length, Ok, Some}
 use Rattle.turtle_grammar.specs.declared.production.Production.{Production}
 use Rattle.turtle_grammar.specs.declared.production.SymbolicTriple.{SymbolicTriple}
 use Rattle.turtle_grammar.specs.declared.symbol.Start.{Start}
@@ -13,19 +13,20 @@ use Rattle.turtle_reader.specs.declared.reader.Reader.{Reader}
 use Rattle.turtle_reader.specs.declared.referent.ResolvedTriple.{ResolvedTriple}
 use Rattle.turtle_reader.specs.Contexts.{at_start, context_from}
 use Rattle.turtle_reader.specs.Faults.{IsLeastAfter}
+use Rattle.turtle_reader.specs.Kept.{AreKept}
 use Rattle.turtle_reader.specs.Lexemes.{symbols_of}
 use Rattle.turtle_reader.specs.Meanings.{AreMeanings}
 use Rattle.turtle_reader.specs.Referents.{IsResolved}
 
 -- The reader has read these lexemes of the bytes, from the start symbol and the base on. It keeps
--- the meanings of the last of them.
+-- some of their meanings.
 pub record IsReading (start : Start) (base bytes : List ℕ) (lexemes : List Lexeme)
     (productions : List Production) (meanings : List Meaning) (reader : Reader) : Type 0 where
   pub machine : HasRead start (symbols_of lexemes) productions reader.machine
   pub means : AreMeanings bytes (at_start base) lexemes meanings
   pub context : context_from (at_start base) lexemes meanings ≡ reader.context
-  pub kept : drop reader.since meanings ≡ reader.meanings.items
-  pub since : reader.since ≤ length meanings
+  pub kept : AreKept meanings reader.kept
+  pub read : reader.read ≡ length meanings
 
 -- what the last lexeme produced
 abbrev pub produced_last : Reader → List Production
@@ -57,10 +58,3 @@ Resolves triple reader resolved =
     (start : Start) (base bytes : List ℕ) (lexemes : List Lexeme) (productions : List Production)
     (meanings : List Meaning) → IsReading start base bytes lexemes productions meanings reader
     → IsResolved meanings triple resolved
-
--- Whatever was read, it is as if nothing had happened.
-abbrev pub Keeps : Reader → Reader → Type 0
-Keeps old new =
-    (start : Start) (base bytes : List ℕ) (lexemes : List Lexeme) (productions : List Production)
-    (meanings : List Meaning) → IsReading start base bytes lexemes productions meanings old
-    → IsReading start base bytes lexemes productions meanings new

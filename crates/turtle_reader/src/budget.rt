@@ -9,8 +9,8 @@ use turtle_lex::{Token, TokenKind};
 /// prefix's IRI beside them.
 pub const TERM_BYTES_LIMIT: usize = 33_554_432;
 
-/// The most lexemes of one statement, whose meanings a reader keeps. Past it the reader is out of
-/// memory. A block of an update and a statement with formulas are one statement each.
+/// The most lexemes of one statement. Past it the reader is out of memory. A block of an update and
+/// a statement with formulas are one statement each.
 pub const STATEMENT_LIMIT: usize = 2_097_152;
 
 /// Takes bytes off those that are left.

@@ -20,15 +20,17 @@
 //! returns the first fault (`fault`, by `IsFirstFault` of `specs/FirstFaults.antt`). [`laws`] has
 //! what the proofs of the languages above cite.
 //!
-//! A reader keeps the meanings of the lexemes since the last complete statement, at most
-//! [`STATEMENT_LIMIT`]. Terms share the memory of the lexemes that mean them, and all that one
-//! reader makes have at most [`TERM_BYTES_LIMIT`] bytes. Past either it is out of memory. The crate
-//! stands on `turtle_grammar` for productions and on `turtle_terms` for the terms of tokens.
+//! A reader keeps the meanings of the lexemes to which a later production may refer, a few for each
+//! open bracket. Terms share the memory of the lexemes that mean them, and all that one reader makes
+//! have at most [`TERM_BYTES_LIMIT`] bytes. Past that, and past [`STATEMENT_LIMIT`], it is out of
+//! memory. The crate stands on `turtle_grammar` for productions and on `turtle_terms` for the terms
+//! of tokens.
 #![tactic(auto)]
 
 mod budget;
 mod context;
 mod driver;
+mod kept;
 mod language;
 pub mod laws;
 mod lexeme;

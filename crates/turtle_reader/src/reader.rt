@@ -1,12 +1,13 @@
 //! The reader of lexemes.
 
-ghost use Rattle.std.specs.Prelude.{◌≡◌, ◌++◌, ◌∷◌, [], List, ℕ, IfOk, IfErr, OnOk, IfSome, IsTrue};
+ghost use Rattle.std.specs.Prelude.{◌≡◌, ◌+◌, [], List, ℕ, IfOk, IfErr, OnOk, IfSome, IsTrue};
 ghost use Rattle.std.specs.Bool.{OnTrue, OnFalse};
 ghost use Rattle.turtle_terms.specs.declared.fault.TurtleKind.TheVariants as Why;
 ghost use Rattle.turtle_terms.specs.declared.fault.TurtleFault.TheVariants.{Bad};
 
 use crate::budget::{STATEMENT_LIMIT, TERM_BYTES_LIMIT};
 use crate::context::Context;
+use crate::kept::KeptMeanings;
 use crate::lexeme::Lexeme;
 use crate::meaning::Meaning;
 use crate::referent::{ResolvedTriple, resolved};
@@ -17,15 +18,16 @@ use turtle_grammar::{Machine, Production, Refusal, Start, Symbol, SymbolicTriple
 use turtle_lex::TokenKind;
 use turtle_terms::{TurtleFault, TurtleKind, Vocabulary};
 
-/// Reads the lexemes of a text one by one, from a start symbol and a base on. It keeps the meanings
-/// of those since the last complete statement, at most [`STATEMENT_LIMIT`], and makes at most
-/// [`TERM_BYTES_LIMIT`] bytes of terms.
+/// Reads the lexemes of a text one by one, from a start symbol and a base on, at most
+/// [`STATEMENT_LIMIT`] of one statement, and makes at most [`TERM_BYTES_LIMIT`] bytes of terms.
 #[derive(Drop)]
 pub struct Reader {
     machine: Machine,
     context: Context,
     vocabulary: Vocabulary,
-    meanings: Vec<Meaning>,
+    kept: KeptMeanings,
+    /// How many lexemes were read, and how many before the present statement.
+    read: usize,
     since: usize,
     /// How many bytes of terms it may still make.
     left: usize,
@@ -38,13 +40,19 @@ fn fault_at(at: usize, kind: TurtleKind) -> TurtleFault
     TurtleFault::Bad { at, kind }
 }
 
+/// How many lexemes come before the present statement, which may begin after those that were read.
+fn statement_start(begins: bool, read: usize, since: usize) -> usize {
+    if begins { read } else { since }
+}
+
 impl Reader {
     ghost use Rattle.turtle_grammar.specs.Readings.{HasRead, IsDerived, IsUnfinished, Waits};
     ghost use Rattle.turtle_grammar.specs.Readings.{HasString, IsTriple};
     ghost use Rattle.turtle_reader.specs.Contexts.{advanced};
+    ghost use Rattle.turtle_reader.specs.Kept.{KeepsMeaning};
     ghost use Rattle.turtle_reader.specs.Lexemes.{IsLexemeOf};
     ghost use Rattle.turtle_reader.specs.Readings.{IsReading, ReadsOn, IsRefused, Resolves};
-    ghost use Rattle.turtle_reader.specs.Readings.{produced_last, Keeps};
+    ghost use Rattle.turtle_reader.specs.Readings.{produced_last};
 
     /// Before the first lexeme.
     pub fn new(alloc: Global, start: Start, base: &Iri) -> Mem<Reader>
@@ -57,22 +65,11 @@ impl Reader {
             machine: Machine::new(alloc, start),
             context,
             vocabulary,
-            meanings: Vec::new(alloc),
+            kept: KeptMeanings::new(alloc),
+            read: 0,
             since: 0,
             left: TERM_BYTES_LIMIT,
         })
-    }
-
-    /// Lets go of the meanings of complete statements.
-    fn forget(&mut self)
-        ensures { Keeps self.old self.new }
-    {
-        if self.machine.is_complete() {
-            if let Some(since) = self.since.checked_add(self.meanings.len()) {
-                self.since = since;
-                self.meanings.clear();
-            }
-        }
     }
 
     /// Reads the next lexeme. After a fault the reader has read nothing that is known.
@@ -88,14 +85,14 @@ impl Reader {
         ensures string { OnOk result (lexeme.symbol ≡ Symbol.Token TokenKind.Quoted
             → HasString self.new.machine) }
     {
-        self.forget();
+        let statement = self.machine.is_complete();
         let meaning = self
             .context
             .meaning(alloc, &self.vocabulary, &mut self.left, bytes, lexeme);
         match self.machine.step(lexeme.symbol) {
             Ok(()) => match meaning {
                 Ok(meaning) => {
-                    self.keep(alloc, lexeme.symbol, meaning)?;
+                    self.keep(alloc, statement, lexeme.symbol, meaning)?;
                     Ok(())
                 }
                 Err(fault) => Err(fault),
@@ -109,19 +106,26 @@ impl Reader {
         }
     }
 
-    /// Passes a lexeme with this meaning.
-    fn keep(&mut self, alloc: Global, symbol: Symbol, meaning: Meaning) -> Mem<()>
+    /// Passes a lexeme with this meaning, with which a statement may begin.
+    fn keep(&mut self, alloc: Global, statement: bool, symbol: Symbol, meaning: Meaning) -> Mem<()>
         ensures context { OnOk result (self.new.context
             ≡ advanced self.old.context.directive self.old.context symbol meaning) }
-        ensures meanings { OnOk result (self.new.meanings.items ≡ self.old.meanings.items ++ meaning ∷ []) }
-        ensures since { OnOk result (self.new.since ≡ self.old.since) }
+        ensures kept { OnOk result (KeepsMeaning self.old.read meaning self.old.kept self.new.kept) }
+        ensures read { OnOk result (self.new.read ≡ self.old.read + 1) }
         ensures machine { OnOk result (self.new.machine ≡ self.old.machine) }
     {
-        if self.meanings.len() >= STATEMENT_LIMIT {
+        let index = self.read;
+        self.since = statement_start(statement, index, self.since);
+        if index.saturating_sub(self.since) >= STATEMENT_LIMIT {
             return Err(NoMemory);
         }
+        let Some(read) = index.checked_add(1) else {
+            return Err(NoMemory);
+        };
         self.context.advance(alloc, symbol, &meaning)?;
-        self.meanings.push(meaning)?;
+        let produces = !self.machine.produced().is_empty();
+        self.kept.keep(statement, symbol, produces, index, meaning)?;
+        self.read = read;
         Ok(())
     }
 
@@ -154,12 +158,6 @@ impl Reader {
     pub fn triple(&self, alloc: Global, triple: &SymbolicTriple) -> Mem<ResolvedTriple>
         ensures { IfOk result (λ resolved. Resolves triple.now self.now resolved) }
     {
-        resolved(
-            alloc,
-            &self.vocabulary,
-            self.meanings.as_slice(),
-            self.since,
-            triple,
-        )
+        resolved(alloc, &self.vocabulary, &self.kept, triple)
     }
 }

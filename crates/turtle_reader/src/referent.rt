@@ -1,9 +1,11 @@
 //! What the nodes of a triple refer to, by the meanings of the lexemes that they name.
 
-ghost use Rattle.std.specs.Prelude.{◌≡◌, List, Option, Some, IfOk, IfSome, drop, slice_get};
+ghost use Rattle.std.specs.Prelude.{◌≡◌, List, Option, Some, IfOk};
 ghost use Rattle.turtle_reader.specs.declared.meaning.Meaning.{Meaning};
+ghost use Rattle.turtle_reader.specs.Kept.{AreKept};
 ghost use Rattle.turtle_reader.specs.Referents.{term_referent, tagged, typed, referent, IsResolved};
 
+use crate::kept::KeptMeanings;
 use crate::meaning::Meaning;
 use iri_ref::Iri;
 use pod_base::{Mem, NoMemory, Text};
@@ -33,15 +35,6 @@ pub struct ResolvedTriple {
     pub within: Within,
     /// The index of the lexeme at which the triple ends.
     pub end: usize,
-}
-
-/// The meaning of the lexeme of this index, where these are the meanings from the index `since` on.
-fn meaning_at(meanings: &[Meaning], since: usize, index: usize) -> Option<&Meaning>
-    ensures { IfSome result (λ m. (all : List Meaning) → drop since all ≡ meanings.now
-        → slice_get all index ≡ Some m.now) }
-{
-    let place = index.checked_sub(since)?;
-    meanings.get(place)
 }
 
 /// What a lexeme of this meaning refers to by itself.
@@ -89,31 +82,25 @@ fn typed(alloc: Global, string: &Meaning, datatype: &Meaning) -> Mem<Referent>
     }
 }
 
-/// What a node refers to, where these are the meanings from the index `since` on.
-fn refer(
-    alloc: Global,
-    vocabulary: &Vocabulary,
-    meanings: &[Meaning],
-    since: usize,
-    node: Node,
-) -> Mem<Referent>
-    ensures { IfOk result (λ r. (all : List Meaning) → drop since all ≡ meanings.now
+/// What a node refers to, where these meanings are kept.
+fn refer(alloc: Global, vocabulary: &Vocabulary, kept: &KeptMeanings, node: Node) -> Mem<Referent>
+    ensures { IfOk result (λ r. (all : List Meaning) → AreKept all kept.now
         → referent all node ≡ Some r) }
 {
     match node {
-        Node::Token(i) => match meaning_at(meanings, since, i) {
+        Node::Token(i) => match kept.meaning(i) {
             Some(meaning) => term_referent(alloc, meaning),
             None => Err(NoMemory),
         },
-        Node::Tagged(i, k) => match meaning_at(meanings, since, i) {
-            Some(string) => match meaning_at(meanings, since, k) {
+        Node::Tagged(i, k) => match kept.meaning(i) {
+            Some(string) => match kept.meaning(k) {
                 Some(tag) => tagged(alloc, string, tag),
                 None => Err(NoMemory),
             },
             None => Err(NoMemory),
         },
-        Node::Typed(i, k) => match meaning_at(meanings, since, i) {
-            Some(string) => match meaning_at(meanings, since, k) {
+        Node::Typed(i, k) => match kept.meaning(i) {
+            Some(string) => match kept.meaning(k) {
                 Some(datatype) => typed(alloc, string, datatype),
                 None => Err(NoMemory),
             },
@@ -127,20 +114,19 @@ fn refer(
     }
 }
 
-/// What the nodes of a triple refer to, where these are the meanings from the index `since` on.
+/// What the nodes of a triple refer to, where these meanings are kept.
 pub(crate) fn resolved(
     alloc: Global,
     vocabulary: &Vocabulary,
-    meanings: &[Meaning],
-    since: usize,
+    kept: &KeptMeanings,
     triple: &SymbolicTriple,
 ) -> Mem<ResolvedTriple>
-    ensures { IfOk result (λ r. (all : List Meaning) → drop since all ≡ meanings.now
+    ensures { IfOk result (λ r. (all : List Meaning) → AreKept all kept.now
         → IsResolved all triple.now r) }
 {
-    let subject = refer(alloc, vocabulary, meanings, since, triple.subject)?;
-    let predicate = refer(alloc, vocabulary, meanings, since, triple.predicate)?;
-    let object = refer(alloc, vocabulary, meanings, since, triple.object)?;
+    let subject = refer(alloc, vocabulary, kept, triple.subject)?;
+    let predicate = refer(alloc, vocabulary, kept, triple.predicate)?;
+    let object = refer(alloc, vocabulary, kept, triple.object)?;
     Ok(ResolvedTriple {
         subject,
         predicate,

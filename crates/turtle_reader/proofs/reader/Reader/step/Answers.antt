@@ -8,32 +8,32 @@ use Rattle.turtle_reader.proofs.reader.Reader.step.Goals as goal
 pub returns-in-Ok-meaning-clause-read : goal.returns-in-Ok-meaning-clause-read
 returns-in-Ok-meaning-clause-read c =
     let done = c.in_ok-keep-in-Ok-meaning.ensures in
-    let reads = subst (λ (m : Machine). ReadsOn c.args.lexeme.symbol c.forget.new.self.machine m) (sym done.machine) c.in-Ok.ensures.read in
-    reads_on c.args.bytes.now c.args.lexeme c.args.self.now c.forget.new.self c.forget.ensures c.in-Ok-meaning.meaning c.keep.new.self
-    reads c.in-Ok-meaning.ensures.meaning done.context done.meanings done.since
+    let reads = subst (λ (m : Machine). ReadsOn c.args.lexeme.symbol c.args.self.now.machine m) (sym done.machine) c.in-Ok.ensures.read in
+    reads_on c.args.bytes.now c.args.lexeme c.args.self.now c.in-Ok-meaning.meaning c.keep.new.self
+    reads c.in-Ok-meaning.ensures.meaning done.context done.kept done.read
 
 pub returns-in-Ok-clause-refused : goal.returns-in-Ok-clause-refused
 returns-in-Ok-clause-refused c =
-    iri_refused c.args.bytes.now c.args.lexeme c.args.self.now c.forget.new.self c.forget.ensures
-    (goes_read c.args.bytes.now c.args.lexeme c.args.self.now c.forget.new.self c.forget.ensures c.step.new.self c.in-Ok.ensures.read)
+    iri_refused c.args.bytes.now c.args.lexeme c.args.self.now
+    (goes_read c.args.bytes.now c.args.lexeme c.args.self.now c.step.new.self c.in-Ok.ensures.read)
     c.in-Err.fault c.in-Err.ensures.fault
 
 pub returns-in-Err-Grammar-clause-refused : goal.returns-in-Err-Grammar-clause-refused
 returns-in-Err-Grammar-clause-refused c =
-    let stops = subst (λ (r : Refusal). IsRefused r c.args.lexeme.symbol c.forget.new.self.machine) c.in-Err-Grammar.field-0-is c.in-Err-Grammar.ensures.refused in
-    grammar_refused c.args.bytes.now c.args.lexeme c.args.self.now c.forget.new.self c.forget.ensures stops c.fault_at.result c.fault_at.ensures
+    let stops = subst (λ (r : Refusal). IsRefused r c.args.lexeme.symbol c.args.self.now.machine) c.in-Err-Grammar.field-0-is c.in-Err-Grammar.ensures.refused in
+    grammar_refused c.args.bytes.now c.args.lexeme c.args.self.now stops c.fault_at.result c.fault_at.ensures
 
 pub returns-in-Ok-meaning-2-clause-refused : goal.returns-in-Ok-meaning-2-clause-refused
 returns-in-Ok-meaning-2-clause-refused c =
-    let deep = subst (λ (r : Refusal). IsRefused r c.args.lexeme.symbol c.forget.new.self.machine) c.in-Err-Depth.field-0-is c.in-Err-Depth.ensures.refused in
-    deep_refused c.args.bytes.now c.args.lexeme c.args.self.now c.forget.new.self c.forget.ensures c.in-Ok-meaning-2.field-0 deep
+    let deep = subst (λ (r : Refusal). IsRefused r c.args.lexeme.symbol c.args.self.now.machine) c.in-Err-Depth.field-0-is c.in-Err-Depth.ensures.refused in
+    deep_refused c.args.bytes.now c.args.lexeme c.args.self.now c.in-Ok-meaning-2.field-0 deep
     c.in-Ok-meaning-2.ensures.meaning c.fault_at-in-Ok-meaning-2.result c.fault_at-in-Ok-meaning-2.ensures
 
 pub returns-in-Err-Depth-clause-refused : goal.returns-in-Err-Depth-clause-refused
 returns-in-Err-Depth-clause-refused c =
-    let deep = subst (λ (r : Refusal). IsRefused r c.args.lexeme.symbol c.forget.new.self.machine) c.in-Err-Depth.field-0-is c.in-Err-Depth.ensures.refused in
-    iri_refused c.args.bytes.now c.args.lexeme c.args.self.now c.forget.new.self c.forget.ensures
-    (goes_deep c.args.bytes.now c.args.lexeme c.args.self.now c.forget.new.self c.forget.ensures deep)
+    let deep = subst (λ (r : Refusal). IsRefused r c.args.lexeme.symbol c.args.self.now.machine) c.in-Err-Depth.field-0-is c.in-Err-Depth.ensures.refused in
+    iri_refused c.args.bytes.now c.args.lexeme c.args.self.now
+    (goes_deep c.args.bytes.now c.args.lexeme c.args.self.now deep)
     c.in-Err-meaning.fault c.in-Err-meaning.ensures.fault
 
 pub returns-in-Ok-meaning-clause-string : goal.returns-in-Ok-meaning-clause-string
