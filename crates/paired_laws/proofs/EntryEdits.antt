@@ -18,9 +18,9 @@ use Rattle.pod_reply.specs.AccessRank.{access_of}
 use Rattle.pod_reply.specs.DeleteReplies.{delete_edits, delete_refusal, delete_reply}
 use Rattle.pod_reply.specs.EntrySize.{is_too_large, size_refusal}
 use Rattle.pod_reply.specs.MemberNames.{IsMemberPath, IsNamed}
-use Rattle.pod_reply.specs.PatchReplies.{IsApplied, IsBodyOutcome, IsPatchedUnless, changing_reply, guard_refusal, new_row, outcome_reply, patch_refusal, patched_triples}
-use Rattle.pod_reply.specs.PostReplies.{IsMade, IsMadeUnless, IsMemberReply, IsNamedReply, IsPosted, containment_refusal, member_refusal, member_reply}
-use Rattle.pod_reply.specs.PutReplies.{make_reply, making_edits, put_refusal, put_reply, row_of, unless_refused}
+use Rattle.pod_reply.specs.PatchReplies.{IsApplied, IsBodyOutcome, changing_reply, guard_refusal, new_row, outcome_reply, patch_refusal, patched_triples}
+use Rattle.pod_reply.specs.PostReplies.{IsMade, IsMemberReply, IsNamedReply, IsPosted, containment_refusal, member_refusal, member_reply}
+use Rattle.pod_reply.specs.PutReplies.{IsUnlessRefused, make_reply, making_edits, put_refusal, put_reply, row_of, unless_refused}
 use Rattle.pod_reply.specs.Replies.{Reply, change_reply, changed_by, unchanged}
 use Rattle.pod_reply.specs.Reply.{IsAdmittedReply, IsGrantedReply, IsMemberPost, IsMethodReply, IsPutReply, IsReadReply, IsReply, body_base, origin_of}
 use Rattle.pod_reply.specs.Shapes.{shape_of}
@@ -101,13 +101,9 @@ entry_change response made entry has = by_test (is_too_large made) has
     by_test true k = absurd cc
     by_test false k = let same : made ≡ entry = cc in ap (λ (e : Entry). e.edits.items) (sym same)
 
-made_unless : (o : Option Response) (P : Reply → Type 0) (told : Reply) (entry : Entry) → IsMadeUnless o P told → told.entry ≡ Some entry → P told
+made_unless : (o : Option Response) (P : Reply → Type 0) (told : Reply) (entry : Entry) → IsUnlessRefused o P told → told.entry ≡ Some entry → P told
 made_unless (Some response) P told entry h has = absurd (entry_unchanged told response entry h has)
 made_unless None P told entry h has = h
-
-patched_unless : (o : Option Response) (P : Reply → Type 0) (told : Reply) (entry : Entry) → IsPatchedUnless o P told → told.entry ≡ Some entry → P told
-patched_unless (Some response) P told entry h has = absurd (entry_unchanged told response entry h has)
-patched_unless None P told entry h has = h
 
 module _ (pod : Pod) (request : Request) (path : List ℕ) (origin : Origin) (bases : List Basis) (told : Reply) (entry : Entry) (has : told.entry ≡ Some entry) where
   abbrev when : Moment
@@ -178,9 +174,9 @@ module _ (pod : Pod) (request : Request) (path : List ℕ) (origin : Origin) (ba
         (entry_unless (guard_refusal pod path change) (changing_reply pod request path origin bases change (is_row pod.rows path)) entry (has_of _ h));
   }
 
-  patch_has : (body : RequestBody) → IsPatchedUnless (patch_refusal pod request origin.seq path) (IsApplied pod request path origin bases body) told → PatchEdits pod request path when body entry.edits.items
+  patch_has : (body : RequestBody) → IsUnlessRefused (patch_refusal pod request origin.seq path) (IsApplied pod request path origin bases body) told → PatchEdits pod request path when body entry.edits.items
   patch_has body h =
-      let applied = patched_unless (patch_refusal pod request origin.seq path) (IsApplied pod request path origin bases body) told entry h has in
+      let applied = made_unless (patch_refusal pod request origin.seq path) (IsApplied pod request path origin bases body) told entry h has in
       outcome_has body applied.outcome applied.is applied.graphs applied.follows
 
   -- ---- DELETE

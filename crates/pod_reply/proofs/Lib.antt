@@ -1,8 +1,7 @@
 pub mod EntryLemmas
-pub mod RefusedReplies
+pub mod RankLemmas
 pub mod MemberLemmas
 pub mod BodyLemmas
-pub mod RefusalLemmas
 pub mod DispatchLemmas
 pub mod OneName
 pub mod OneReply

@@ -2,19 +2,15 @@
 use Rattle.std.proofs.Common.{◌≡◌, ℕ, Bool, List, Result, Ok, Err, ◌⊎◌, inl, inr, sym, ◌∙◌, ap, subst}
 use Rattle.pod_base.specs.declared.response.Response.{Response}
 use Rattle.pod_path.specs.Norm.{norm}
-use Rattle.pod_path.specs.declared.fault.PathFault.{PathFault}
 use Rattle.pod_path.specs.declared.fault.PathFault.TheVariants.{TooLong, TooDeep}
 use Rattle.pod_rows.specs.Pod.{Pod}
 use Rattle.slug_naming.proofs.FirstName.{one_free_name}
 use Rattle.pod_reply.specs.MemberNames.{HasNoName, IsMemberPath, IsNamed}
 
-not_fault : (path : List ℕ) (fault : PathFault) → norm path ≡ Ok path → norm path ≡ Err fault → ⊥
-not_fault path fault e k = cc
-
 within_limits : (path : List ℕ) → norm path ≡ Ok path → (norm path ≡ Err TooLong) ⊎ (norm path ≡ Err TooDeep)
     → ⊥
-within_limits path e (inl k) = not_fault path TooLong e k
-within_limits path e (inr k) = not_fault path TooDeep e k
+within_limits path e (inl k) = cc
+within_limits path e (inr k) = cc
 
 -- the first free name isn't within the limits and past them
 no_other : (pod : Pod) (container stem : List ℕ) (folder : Bool) (path : List ℕ)

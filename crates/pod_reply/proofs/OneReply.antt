@@ -1,13 +1,12 @@
 -- A pod gives one reply to a request.
-use Rattle.std.proofs.Common.{◌≡◌, ℕ, Bool, false, List, Option, Some, None, Result, Ok, Err, refl, sym, ◌∙◌, ap, subst}
+use Rattle.std.proofs.Common.{◌≡◌, ℕ, Bool, false, List, Option, Some, None, Result, Ok, Err, sym, ◌∙◌, ap, subst}
 use Rattle.std.specs.List.{list_any}
 use Rattle.patch_outcome.specs.Outcomes.{HasGraphs}
 use Rattle.patch_outcome.specs.Updates.{IsUpdateOutcome}
 use Rattle.patch_outcome.specs.declared.refusal.PatchRefusal.{PatchRefusal}
 use Rattle.patch_outcome.proofs.OneOutcome.{one_patch_outcome, one_update_outcome}
-use Rattle.pod_base.specs.Listed.{Listed}
 use Rattle.pod_base.specs.declared.method.Method.{Method}
-use Rattle.pod_base.specs.declared.method.Method.TheVariants.{Get, Head, Options, Post, Put, Patch as PatchMethod, Delete, Other}
+use Rattle.pod_base.specs.declared.method.Method.TheVariants.{Post, Put, Patch as PatchMethod, Other}
 use Rattle.pod_base.specs.declared.request.Request.{Request}
 use Rattle.pod_base.specs.declared.response.Response.{Response}
 use Rattle.pod_command.specs.declared.basis.Basis.{Basis}
@@ -15,7 +14,6 @@ use Rattle.pod_command.specs.declared.row.Content.{Content as RowContent}
 use Rattle.pod_path.specs.Hierarchy.{is_container, uri_of}
 use Rattle.pod_rows.specs.Pod.{Pod}
 use Rattle.rdf_graph.specs.declared.change.Change.{Change}
-use Rattle.rdf_graph.specs.declared.patch.Patch.{Patch}
 use Rattle.rdf_graph.specs.declared.triple.Triple.{Triple}
 use Rattle.request_body.specs.Bodies.{Outcome}
 use Rattle.request_body.specs.Laws.{SameOutcome}
@@ -32,9 +30,9 @@ use Rattle.request_target.specs.declared.target.Target.TheVariants.{Server, Reso
 use Rattle.slug_naming.specs.Stems.{stem_of}
 use Rattle.sparql_patch.specs.declared.named.Named.{Named}
 use Rattle.pod_reply.specs.AccessRank.{access_of}
-use Rattle.pod_reply.specs.PatchReplies.{IsApplied, IsBodyOutcome, IsPatchedUnless, outcome_reply, patch_refusal}
-use Rattle.pod_reply.specs.PostReplies.{IsMade, IsMadeUnless, IsMemberReply, IsNamedReply, IsPosted, IsPostReply, judged_member, member_refusal}
-use Rattle.pod_reply.specs.PutReplies.{put_reply}
+use Rattle.pod_reply.specs.PatchReplies.{IsApplied, IsBodyOutcome, outcome_reply, patch_refusal}
+use Rattle.pod_reply.specs.PostReplies.{IsMade, IsMemberReply, IsNamedReply, IsPosted, IsPostReply, judged_member, member_refusal}
+use Rattle.pod_reply.specs.PutReplies.{IsUnlessRefused, put_reply}
 use Rattle.pod_reply.specs.Replies.{Reply, unchanged}
 use Rattle.pod_reply.specs.Reply.{IsAdmittedReply, IsGrantedReply, IsMemberPost, IsMethodReply, IsPutReply, IsReadReply, IsResourceReply, body_base, origin_of, sent}
 use Rattle.pod_reply.specs.Shapes.{shape_of, is_some_of, is_deletion, is_insertion}
@@ -45,36 +43,12 @@ use Rattle.pod_reply.proofs.OneName.{one_named}
 
 -- ---- bodies that are the same
 
--- a body is no fault
-apart : (x : RequestBody) (fault : BodyFault) → ◌≡◌ {A = Outcome} (Ok x) (Err fault) → ⊥
-apart x fault e = cc
-
-apart_back : (x : RequestBody) (fault : BodyFault) → ◌≡◌ {A = Outcome} (Err fault) (Ok x) → ⊥
-apart_back x fault e = cc
-
-no_fault : (x : RequestBody) (fault : BodyFault) → SameOutcome (Ok x) (Err fault) → ⊥
-no_fault body_of.Nothing fault h = apart body_of.Nothing fault h
-no_fault (body_of.Content c) fault h = apart (body_of.Content c) fault h
-no_fault (body_of.Patch p) fault h = apart (body_of.Patch p) fault h
-no_fault (body_of.Update u) fault h = apart (body_of.Update u) fault h
-
-one_fault : (f g : BodyFault) → ◌≡◌ {A = Outcome} (Err f) (Err g) → f ≡ g
-one_fault f g e = cc
-
 one_body : (x y : RequestBody) → ◌≡◌ {A = Outcome} (Ok x) (Ok y) → x ≡ y
 one_body x y e = cc
 
 one_content : (c d : RowContent) → SameOutcome (Ok (body_of.Content c)) (Ok (body_of.Content d)) → c ≡ d
-one_content c d e = inner c d e
-  where
-    inner : (c d : RowContent) → ◌≡◌ {A = Outcome} (Ok (body_of.Content c)) (Ok (body_of.Content d)) → c ≡ d
-    inner c d e = cc
-
-patch_or_update : (p : Patch) (u : Listed Named) → ◌≡◌ {A = Outcome} (Ok (body_of.Patch p)) (Ok (body_of.Update u)) → ⊥
-patch_or_update p u e = cc
-
-update_or_patch : (p : Patch) (u : Listed Named) → ◌≡◌ {A = Outcome} (Ok (body_of.Update u)) (Ok (body_of.Patch p)) → ⊥
-update_or_patch p u e = cc
+one_content c d h =
+    let e : body_of.Content c ≡ body_of.Content d = one_body (body_of.Content c) (body_of.Content d) h in cc
 
 -- ---- what a request needs
 
@@ -86,29 +60,13 @@ module _ (pod : Pod) (request : Request) (path : List ℕ) where
     insertions = insertions;
   }
 
-  shapes : (a b c d e f : Bool) → a ≡ b → c ≡ d → e ≡ f → shape_with a c e ≡ shape_with b d f
-  shapes a b c d e f x y z =
-      ap (λ (s : Bool). shape_with s c e) x ∙ ap (λ (s : Bool). shape_with b s e) y
-      ∙ ap (λ (s : Bool). shape_with b d s) z
-
-  equal_shape : (x y : RequestBody) → ◌≡◌ {A = Outcome} (Ok x) (Ok y)
-      → shape_of pod request path x ≡ shape_of pod request path y
-  equal_shape x y e = ap (shape_of pod request path) (one_body x y e)
-
   one_shape : (x y : RequestBody) → SameOutcome (Ok x) (Ok y)
       → shape_of pod request path x ≡ shape_of pod request path y
-  one_shape body_of.Nothing y h = equal_shape body_of.Nothing y h
-  one_shape (body_of.Content c) y h = equal_shape (body_of.Content c) y h
-  one_shape (body_of.Patch p) body_of.Nothing h = equal_shape (body_of.Patch p) body_of.Nothing h
-  one_shape (body_of.Patch p) (body_of.Content c) h = equal_shape (body_of.Patch p) (body_of.Content c) h
-  one_shape (body_of.Patch p) (body_of.Patch q) h = shapes _ _ _ _ _ _
-      (ap is_some_of h.conditions) (ap is_some_of h.deletions) (ap is_some_of h.insertions)
-  one_shape (body_of.Patch p) (body_of.Update v) h = equal_shape (body_of.Patch p) (body_of.Update v) h
-  one_shape (body_of.Update u) body_of.Nothing h = equal_shape (body_of.Update u) body_of.Nothing h
-  one_shape (body_of.Update u) (body_of.Content c) h = equal_shape (body_of.Update u) (body_of.Content c) h
-  one_shape (body_of.Update u) (body_of.Patch q) h = equal_shape (body_of.Update u) (body_of.Patch q) h
-  one_shape (body_of.Update u) (body_of.Update v) h = shapes false false _ _ _ _
-      refl (ap (list_any is_deletion) h) (ap (list_any is_insertion) h)
+  one_shape (body_of.Patch p) (body_of.Patch q) h = λ i.
+      shape_with (is_some_of (h.conditions i)) (is_some_of (h.deletions i)) (is_some_of (h.insertions i))
+  one_shape (body_of.Update u) (body_of.Update v) h = λ i.
+      shape_with false (list_any is_deletion (h i)) (list_any is_insertion (h i))
+  one_shape x y h = ap (shape_of pod request path) (one_body x y h)
 
 -- ---- the replies of the methods
 
@@ -116,55 +74,33 @@ module _ (pod : Pod) (request : Request) (path : List ℕ) (origin : Origin) (ba
   one_outcome : (x y : RequestBody) (g : List Triple) (a b : Result Change PatchRefusal)
       → SameOutcome (Ok x) (Ok y) → HasGraphs a → HasGraphs b
       → IsBodyOutcome x path g a → IsBodyOutcome y path g b → a ≡ b
-  one_outcome body_of.Nothing y g a b same graphs graphs' h k = absurd h
-  one_outcome (body_of.Content c) y g a b same graphs graphs' h k = absurd h
-  one_outcome (body_of.Patch p) body_of.Nothing g a b same graphs graphs' h k = absurd k
-  one_outcome (body_of.Patch p) (body_of.Content c) g a b same graphs graphs' h k = absurd k
   one_outcome (body_of.Patch p) (body_of.Patch q) g a b same graphs graphs' h k =
       one_patch_outcome (is_container path) g p q a b same.conditions same.deletions same.insertions graphs graphs' h k
-  one_outcome (body_of.Patch p) (body_of.Update v) g a b same graphs graphs' h k =
-      absurd (patch_or_update p v same)
-  one_outcome (body_of.Update u) body_of.Nothing g a b same graphs graphs' h k = absurd k
-  one_outcome (body_of.Update u) (body_of.Content c) g a b same graphs graphs' h k = absurd k
-  one_outcome (body_of.Update u) (body_of.Patch q) g a b same graphs graphs' h k =
-      absurd (update_or_patch q u same)
   one_outcome (body_of.Update u) (body_of.Update v) g a b same graphs graphs' h k =
       one_update_outcome (is_container path) g v.items a b graphs graphs'
       (subst (λ (named : List Named). IsUpdateOutcome (is_container path) g named a) same h) k
+  one_outcome (body_of.Patch p) (body_of.Update v) g a b same graphs graphs' h k = absurd cc
+  one_outcome (body_of.Update u) (body_of.Patch q) g a b same graphs graphs' h k = absurd cc
+  one_outcome (body_of.Patch p) _ g a b same graphs graphs' h k = absurd k
+  one_outcome (body_of.Update u) _ g a b same graphs graphs' h k = absurd k
+  one_outcome _ y g a b same graphs graphs' h k = absurd h
 
-  one_applied : (x y : RequestBody) (a b : Reply) → SameOutcome (Ok x) (Ok y)
-      → IsApplied pod request path origin bases x a → IsApplied pod request path origin bases y b → a ≡ b
-  one_applied x y a b same h k =
-      let outcome = one_outcome x y _ h.outcome k.outcome same h.graphs k.graphs h.is k.is in
-      h.follows ∙ ap (outcome_reply pod request path origin bases) outcome ∙ sym k.follows
-
-  one_patched : (o : Option Response) (x y : RequestBody) (a b : Reply) → SameOutcome (Ok x) (Ok y)
-      → IsPatchedUnless o (IsApplied pod request path origin bases x) a
-      → IsPatchedUnless o (IsApplied pod request path origin bases y) b → a ≡ b
-  one_patched (Some response) x y a b same h k = h ∙ sym k
-  one_patched None x y a b same h k = one_applied x y a b same h k
+  one_unless : (o : Option Response) (P Q : Reply → Type 0) (a b : Reply)
+      → ((a b : Reply) → P a → Q b → a ≡ b) → IsUnlessRefused o P a → IsUnlessRefused o Q b → a ≡ b
+  one_unless (Some response) P Q a b one h k = h ∙ sym k
+  one_unless None P Q a b one h k = one a b h k
 
   -- a reply to a POST
-  one_unless : (o : Option Response) (IsMadeReply : Reply → Type 0) (a b : Reply)
-      → ((a b : Reply) → IsMadeReply a → IsMadeReply b → a ≡ b)
-      → IsMadeUnless o IsMadeReply a → IsMadeUnless o IsMadeReply b → a ≡ b
-  one_unless (Some response) IsMadeReply a b one h k = h ∙ sym k
-  one_unless None IsMadeReply a b one h k = one a b h k
-
   one_member : (member : List ℕ) (x y : Outcome) (a b : Reply) → SameOutcome x y
       → IsMemberReply pod request path origin bases member x a
       → IsMemberReply pod request path origin bases member y b → a ≡ b
   one_member member (Err f) (Err g) a b same h k = h ∙ sym k
-  one_member member (Err f) (Ok y) a b same h k = absurd (apart_back y f same)
-  one_member member (Ok x) (Err g) a b same h k = absurd (no_fault x g same)
+  one_member member (Err f) (Ok y) a b same h k = absurd cc
+  one_member member (Ok (body_of.Content c)) (Err g) a b same h k = absurd cc
   one_member member (Ok (body_of.Content c)) (Ok (body_of.Content d)) a b same h k =
       h ∙ ap (judged_member pod request path origin bases member) (one_content c d same) ∙ sym k
-  one_member member (Ok (body_of.Content c)) (Ok body_of.Nothing) a b same h k = absurd k
-  one_member member (Ok (body_of.Content c)) (Ok (body_of.Patch q)) a b same h k = absurd k
-  one_member member (Ok (body_of.Content c)) (Ok (body_of.Update v)) a b same h k = absurd k
-  one_member member (Ok body_of.Nothing) y a b same h k = absurd h
-  one_member member (Ok (body_of.Patch p)) y a b same h k = absurd h
-  one_member member (Ok (body_of.Update u)) y a b same h k = absurd h
+  one_member member (Ok (body_of.Content c)) (Ok _) a b same h k = absurd k
+  one_member member (Ok _) y a b same h k = absurd h
 
   one_made : (member : List ℕ) (a b : Reply) → IsMade pod request path origin bases member a
       → IsMade pod request path origin bases member b → a ≡ b
@@ -176,8 +112,7 @@ module _ (pod : Pod) (request : Request) (path : List ℕ) (origin : Origin) (ba
       → IsNamedReply pod request path origin bases content named b → a ≡ b
   one_named_reply content (Err response) a b h k = h ∙ sym k
   one_named_reply content (Ok member) a b h k =
-      one_unless (member_refusal pod request origin.seq path member content)
-      (IsMade pod request path origin bases member) a b (one_made member) h k
+      one_unless (member_refusal pod request origin.seq path member content) _ _ a b (one_made member) h k
 
   one_posted : (content : RowContent) (a b : Reply) → IsPosted pod request path origin bases content a
       → IsPosted pod request path origin bases content b → a ≡ b
@@ -192,39 +127,31 @@ module _ (pod : Pod) (request : Request) (path : List ℕ) (origin : Origin) (ba
       → IsMemberPost pod request path origin bases x a → IsMemberPost pod request path origin bases y b
       → a ≡ b
   one_post (body_of.Content c) (body_of.Content d) a b same h k =
-      one_unless _ (IsPosted pod request path origin bases d) a b (one_posted d)
+      one_unless _ _ (IsPosted pod request path origin bases d) a b (one_posted d)
       (subst (λ (e : RowContent). IsPostReply pod request path origin bases e a) (one_content c d same) h) k
-  one_post (body_of.Content c) body_of.Nothing a b same h k = absurd k
-  one_post (body_of.Content c) (body_of.Patch q) a b same h k = absurd k
-  one_post (body_of.Content c) (body_of.Update v) a b same h k = absurd k
-  one_post body_of.Nothing y a b same h k = absurd h
-  one_post (body_of.Patch p) y a b same h k = absurd h
-  one_post (body_of.Update u) y a b same h k = absurd h
+  one_post (body_of.Content c) _ a b same h k = absurd k
+  one_post _ y a b same h k = absurd h
 
   one_put : (x y : RequestBody) (a b : Reply) → SameOutcome (Ok x) (Ok y)
       → IsPutReply pod request path origin bases x a → IsPutReply pod request path origin bases y b
       → a ≡ b
   one_put (body_of.Content c) (body_of.Content d) a b same h k =
       h ∙ ap (put_reply pod request path origin bases) (one_content c d same) ∙ sym k
-  one_put (body_of.Content c) body_of.Nothing a b same h k = absurd k
-  one_put (body_of.Content c) (body_of.Patch q) a b same h k = absurd k
-  one_put (body_of.Content c) (body_of.Update v) a b same h k = absurd k
-  one_put body_of.Nothing y a b same h k = absurd h
-  one_put (body_of.Patch p) y a b same h k = absurd h
-  one_put (body_of.Update u) y a b same h k = absurd h
+  one_put (body_of.Content c) _ a b same h k = absurd k
+  one_put _ y a b same h k = absurd h
 
   one_method : (method : Method) (x y : RequestBody) (a b : Reply) → SameOutcome (Ok x) (Ok y)
       → IsMethodReply method pod request path origin bases x a
       → IsMethodReply method pod request path origin bases y b → a ≡ b
-  one_method Get x y a b same h k = h ∙ sym k
-  one_method Head x y a b same h k = h ∙ sym k
-  one_method Options x y a b same h k = h ∙ sym k
   one_method Post x y a b same h k = one_post x y a b same h k
   one_method Put x y a b same h k = one_put x y a b same h k
   one_method PatchMethod x y a b same h k =
-      one_patched (patch_refusal pod request origin.seq path) x y a b same h k
-  one_method Delete x y a b same h k = h ∙ sym k
+      one_unless (patch_refusal pod request origin.seq path) (IsApplied pod request path origin bases x)
+      (IsApplied pod request path origin bases y) a b
+      (λ a b h k. h.follows ∙ ap (outcome_reply pod request path origin bases)
+      (one_outcome x y _ h.outcome k.outcome same h.graphs k.graphs h.is k.is) ∙ sym k.follows) h k
   one_method Other x y a b same h k = absurd h
+  one_method _ x y a b same h k = h ∙ sym k
 
 -- ---- the whole reply
 
@@ -239,9 +166,11 @@ module _ (pod : Pod) (request : Request) (path : List ℕ) (origin : Origin) whe
   one_read : (x y : Outcome) (a b : Reply) → SameOutcome x y → IsReadReply pod request path origin x a
       → IsReadReply pod request path origin y b → a ≡ b
   one_read (Err f) (Err g) a b same h k =
-      h ∙ ap (λ (fault : BodyFault). unchanged (refusal_of request.method path fault)) (one_fault f g same) ∙ sym k
-  one_read (Err f) (Ok y) a b same h k = absurd (apart_back y f same)
-  one_read (Ok x) (Err g) a b same h k = absurd (no_fault x g same)
+      let fault : f ≡ g = cc in
+      h ∙ ap (λ (e : BodyFault). unchanged (refusal_of request.method path e)) fault ∙ sym k
+  one_read (Err f) (Ok y) a b same h k = absurd cc
+  one_read (Ok (body_of.Patch p)) (Err g) a b same h k = absurd cc
+  one_read (Ok _) (Err g) a b same h k = absurd cc
   one_read (Ok x) (Ok y) a b same h k =
       let shape : shape_of pod request path x ≡ shape_of pod request path y = one_shape pod request path x y same in
       one_granted (access_of pod origin.agent (shape_of pod request path y)) x y a b same

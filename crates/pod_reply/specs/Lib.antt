@@ -7,6 +7,7 @@ pub mod PostReplies
 pub mod PatchReplies
 pub mod DeleteReplies
 pub mod Obstacles
+pub mod Ranks
 pub mod Shapes
 pub mod AccessRank
 pub mod MemberNames

@@ -21,10 +21,10 @@ use Rattle.rdf_graph.specs.Patch.{IsBound}
 use Rattle.rdf_graph.specs.declared.change.Change.{Change}
 use Rattle.rdf_graph.specs.declared.triple.Triple.{Triple}
 use Rattle.request_body.specs.declared.body.RequestBody.{RequestBody}
-use Rattle.request_body.specs.declared.body.RequestBody.TheVariants.{Nothing, Content}
 use Rattle.request_body.specs.declared.body.RequestBody.TheVariants.{Patch, Update}
 use Rattle.pod_reply.specs.Obstacles.{first_of, refuse_if, conflict, condition_refusal}
-use Rattle.pod_reply.specs.PutReplies.{place_refusal, row_of, make_reply, unless_refused}
+use Rattle.pod_reply.specs.PutReplies.{place_refusal, row_of, make_reply}
+use Rattle.pod_reply.specs.PutReplies.{unless_refused, IsUnlessRefused}
 use Rattle.pod_reply.specs.Replies.{Reply, unchanged, entry_of, change_reply}
 use Rattle.pod_reply.specs.declared.origin.Origin.{Origin}
 
@@ -47,12 +47,11 @@ patch_refusal pod request seq path =
 
 -- What the body does to the graph of a path.
 abbrev pub IsBodyOutcome : RequestBody → List ℕ → List Triple → Result Change PatchRefusal → Type 0
-IsBodyOutcome Nothing path graph outcome = ⊥
-IsBodyOutcome (Content content) path graph outcome = ⊥
 IsBodyOutcome (Patch patch) path graph outcome =
     IsOutcome (is_container path) graph patch outcome
 IsBodyOutcome (Update named) path graph outcome =
     IsUpdateOutcome (is_container path) graph named.items outcome
+IsBodyOutcome other path graph outcome = ⊥
 
 abbrev pub triples_after : List Triple → Change → List Triple
 triples_after graph change = changed_graph graph change.removed change.added
@@ -88,20 +87,15 @@ pub record IsApplied (pod : Pod) (request : Request) (path : List ℕ) (origin :
   pub graphs : HasGraphs outcome
   pub follows : reply ≡ outcome_reply pod request path origin bases outcome
 
-abbrev pub IsPatchedUnless : Option Response → (Reply → Type 0) → Reply → Type 0
-IsPatchedUnless (Some response) IsPatched reply = reply ≡ unchanged response
-IsPatchedUnless None IsPatched reply = IsPatched reply
-
 -- The reply to a granted PATCH of a path with this body.
 abbrev pub IsPatchReply : Pod → Request → List ℕ → Origin → List Basis → RequestBody → Reply
     → Type 0
 IsPatchReply pod request path origin bases body reply =
-    IsPatchedUnless (patch_refusal pod request origin.seq path)
+    IsUnlessRefused (patch_refusal pod request origin.seq path)
     (IsApplied pod request path origin bases body) reply
 
 -- A PATCH has a patch or an update.
 abbrev pub IsPatchBody : RequestBody → Type 0
-IsPatchBody Nothing = ⊥
-IsPatchBody (Content content) = ⊥
 IsPatchBody (Patch patch) = IsBound patch
 IsPatchBody (Update named) = Unit {0}
+IsPatchBody other = ⊥

@@ -13,8 +13,7 @@ use Rattle.pod_responses.specs.Responses.{refusal, created}
 use Rattle.pod_rows.specs.Pod.{Pod, is_row}
 use Rattle.request_body.specs.Bodies.{Outcome, Means}
 use Rattle.request_body.specs.declared.body.RequestBody.{RequestBody}
-use Rattle.request_body.specs.declared.body.RequestBody.TheVariants.{Nothing, Content}
-use Rattle.request_body.specs.declared.body.RequestBody.TheVariants.{Patch, Update}
+use Rattle.request_body.specs.declared.body.RequestBody.TheVariants.{Content}
 use Rattle.request_body.specs.declared.fault.BodyFault.{BodyFault}
 use Rattle.request_fields.specs.Links.{links_to_container}
 use Rattle.request_fields.specs.PartFields.{slug}
@@ -23,7 +22,7 @@ use Rattle.slug_naming.specs.Stems.{stem_of}
 use Rattle.pod_reply.specs.EntrySize.{size_refusal}
 use Rattle.pod_reply.specs.MemberNames.{IsNamed}
 use Rattle.pod_reply.specs.Obstacles.{first_of, refuse_if, conflict, no_room, condition_refusal}
-use Rattle.pod_reply.specs.PutReplies.{row_of, unless_refused}
+use Rattle.pod_reply.specs.PutReplies.{row_of, unless_refused, IsUnlessRefused}
 use Rattle.pod_reply.specs.Replies.{Reply, unchanged, entry_of, change_reply}
 use Rattle.pod_reply.specs.declared.origin.Origin.{Origin}
 
@@ -53,9 +52,7 @@ judged_member pod request path origin bases member content = unless_refused
 
 abbrev pub IsContentBody : RequestBody → Type 0
 IsContentBody (Content content) = Unit {0}
-IsContentBody Nothing = ⊥
-IsContentBody (Patch patch) = ⊥
-IsContentBody (Update named) = ⊥
+IsContentBody other = ⊥
 
 -- a body that is content, or its fault
 abbrev pub content_read : Result RowContent BodyFault → Outcome
@@ -82,15 +79,11 @@ member_refusal pod request seq path member content =
     first_of (no_room pod seq 1) (first_of (condition_refusal pod request path)
     (containment_refusal member content))
 
-abbrev pub IsMadeUnless : Option Response → (Reply → Type 0) → Reply → Type 0
-IsMadeUnless (Some response) IsMadeReply reply = reply ≡ unchanged response
-IsMadeUnless None IsMadeReply reply = IsMadeReply reply
-
 abbrev pub IsNamedReply : Pod → Request → List ℕ → Origin → List Basis → RowContent
     → Result (List ℕ) Response → Reply → Type 0
 IsNamedReply pod request path origin bases content (Err response) reply = reply ≡ unchanged response
 IsNamedReply pod request path origin bases content (Ok member) reply =
-    IsMadeUnless (member_refusal pod request origin.seq path member content)
+    IsUnlessRefused (member_refusal pod request origin.seq path member content)
     (IsMade pod request path origin bases member) reply
 
 pub record IsPosted (pod : Pod) (request : Request) (path : List ℕ) (origin : Origin)
@@ -103,5 +96,5 @@ pub record IsPosted (pod : Pod) (request : Request) (path : List ℕ) (origin : 
 -- The reply to a granted POST to a path with this content.
 abbrev pub IsPostReply : Pod → Request → List ℕ → Origin → List Basis → RowContent → Reply → Type 0
 IsPostReply pod request path origin bases content reply =
-    IsMadeUnless (refuse_if (not (is_row pod.rows path)) (refusal 404 (codes "missing")))
+    IsUnlessRefused (refuse_if (not (is_row pod.rows path)) (refusal 404 (codes "missing")))
     (IsPosted pod request path origin bases content) reply

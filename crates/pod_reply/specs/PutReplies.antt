@@ -1,5 +1,5 @@
 -- The reply to a PUT that is granted: the row at the path has the content that was sent.
-use Rattle.std.specs.Prelude.{ℕ, Bool, true, false, if◌then◌else◌, List, Option, Some, None}
+use Rattle.std.specs.Prelude.{◌≡◌, ℕ, Bool, true, false, if◌then◌else◌, List, Option, Some, None}
 use Rattle.pod_base.specs.declared.moment.Moment.{Moment}
 use Rattle.pod_base.specs.declared.request.Request.{Request}
 use Rattle.pod_base.specs.declared.response.Response.{Response}
@@ -51,6 +51,11 @@ make_reply pod request path origin bases row exists = change_reply (made_respons
 abbrev pub unless_refused : Option Response → Reply → Reply
 unless_refused (Some response) reply = unchanged response
 unless_refused None reply = reply
+
+-- where more than one reply meets what a success must
+abbrev pub IsUnlessRefused : Option Response → (Reply → Type 0) → Reply → Type 0
+IsUnlessRefused (Some response) IsSuccess reply = reply ≡ unchanged response
+IsUnlessRefused None IsSuccess reply = IsSuccess reply
 
 -- the first refusal of a PUT of a path with these triples
 abbrev pub put_refusal : Pod → Request → ℕ → List ℕ → List Triple → Option Response

@@ -28,15 +28,12 @@ judged_read pod request path agent shown Failed = refusal 412 (codes "condition"
 judged_read pod request path agent shown Go = read_response pod.base path shown
     (allow_field pod agent path) request.method request.fields
 
-abbrev pub shown_read : Pod → Request → List ℕ → Agent → Shown → Response
-shown_read pod request path agent shown = judged_read pod request path agent shown
-    (read_verdict (conditions request.fields) request.method shown)
-
 -- by the offer that is chosen
 abbrev pub chosen_read : Pod → Request → List ℕ → Agent → Row → Option Media → Response
 chosen_read pod request path agent row None = refusal 406 (codes "accept")
 chosen_read pod request path agent row (Some media) =
-    shown_read pod request path agent (represented pod row media)
+    let shown = represented pod row media in judged_read pod request path agent shown
+    (read_verdict (conditions request.fields) request.method shown)
 
 -- 101: the connection becomes a WebSocket
 abbrev pub upgraded_by : List ℕ → Response

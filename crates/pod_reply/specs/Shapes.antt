@@ -9,8 +9,7 @@ use Rattle.pod_edits.specs.Places.{nearest_of, IsPlaceOf}
 use Rattle.pod_edits.specs.declared.place.Place.{Place}
 use Rattle.pod_rows.specs.Pod.{Pod, is_row}
 use Rattle.request_body.specs.declared.body.RequestBody.{RequestBody}
-use Rattle.request_body.specs.declared.body.RequestBody.TheVariants.{Nothing, Content, Patch}
-use Rattle.request_body.specs.declared.body.RequestBody.TheVariants.{Update}
+use Rattle.request_body.specs.declared.body.RequestBody.TheVariants.{Patch, Update}
 use Rattle.sparql_patch.specs.declared.named.Named.{Named}
 use Rattle.wac_decide.specs.declared.request_needs.Shape.{Shape}
 
@@ -26,22 +25,18 @@ is_deletion naming = not naming.insert
 
 -- Whether a body has conditions, deletions, insertions. An update has those that it names.
 abbrev pub has_conditions : RequestBody → Bool
-has_conditions Nothing = false
-has_conditions (Content content) = false
 has_conditions (Patch patch) = is_some_of patch.conditions.items
-has_conditions (Update named) = false
+has_conditions other = false
 
 abbrev pub has_deletions : RequestBody → Bool
-has_deletions Nothing = false
-has_deletions (Content content) = false
 has_deletions (Patch patch) = is_some_of patch.deletions.items
 has_deletions (Update named) = list_any is_deletion named.items
+has_deletions other = false
 
 abbrev pub has_insertions : RequestBody → Bool
-has_insertions Nothing = false
-has_insertions (Content content) = false
 has_insertions (Patch patch) = is_some_of patch.insertions.items
 has_insertions (Update named) = list_any is_insertion named.items
+has_insertions other = false
 
 -- The nearest ancestor of a path that is no row. The needs of a row don't depend on it.
 abbrev pub above_of : Pod → List ℕ → List ℕ

@@ -1,15 +1,20 @@
 //! [`decide_access`]: whether what a request needs is granted.
 
-ghost use Rattle.std.specs.Prelude.{◌≡◌, IfOk};
+ghost use Rattle.std.specs.Prelude.{◌≡◌, IfOk, is_some, true};
+ghost use Rattle.std.specs.List.{list_all};
+ghost use Rattle.pod_access.specs.Bases.{basis_of};
 ghost use Rattle.pod_reply.specs.AccessRank as spec;
+ghost use Rattle.pod_reply.specs.Ranks.{IsGrant, Tells, reads};
 
-use pod_access::decide;
-use pod_base::{Agent, List, Mem, Response};
+use crate::context::Context;
+use crate::stop::{Rank, Stop};
+use pod_access::{decide, is_granted};
+use pod_base::{Agent, List, Mem, Method, Response};
 use pod_command::Basis;
 use pod_responses::{refusal, unauthorized};
 use pod_rows::PodState;
 use std::alloc::Global;
-use wac_decide::{Shape, needs};
+use wac_decide::{Need, Shape, needs};
 
 /// The refusal of a request of which a need isn't granted.
 fn refuse_access(alloc: Global, agent: &Agent) -> Mem<Response>
@@ -37,5 +42,53 @@ pub fn decide_access<S: PodState>(
     match decide(alloc, state, agent, &needs)? {
         Some(bases) => Ok(Ok(bases)),
         None => Ok(Err(refuse_access(alloc, agent)?)),
+    }
+}
+
+/// Whether each need is granted.
+fn are_granted<S: PodState>(state: &S, agent: &Agent, needs: &[Need]) -> bool
+    ensures { result ≡ list_all (λ need. is_some (basis_of (S.pod state.now) agent.now need))
+        needs.now }
+{
+    needs.iter().all(|need| is_granted(state, agent, need))
+}
+
+/// The decision on access without its bases.
+fn admit_reader<S: PodState>(
+    alloc: Global,
+    state: &S,
+    agent: &Agent,
+    shape: &Shape,
+) -> Rank<List<Basis>>
+    ensures { Tells result (IsGrant true (spec.access_of (S.pod state.now) agent.now shape.now)) }
+{
+    let needs = needs(alloc, shape)?;
+    if are_granted(state, agent, needs.as_slice()) {
+        Ok(List::new(alloc))
+    } else {
+        Err(Stop::Refused(refuse_access(alloc, agent)?))
+    }
+}
+
+/// Whether a request with this method makes no entry.
+fn is_reading(method: Method) -> bool
+    ensures { result ≡ reads method }
+{
+    matches!(method, Method::Get | Method::Head | Method::Options)
+}
+
+/// 401 or 403 `access`, unless all that a request of this shape needs is granted; else the bases,
+/// which only a change has.
+pub(crate) fn grant<S: PodState>(context: &Context<'_, S>, shape: &Shape) -> Rank<List<Basis>>
+    ensures { Tells result (IsGrant (reads context.now.request.method)
+        (spec.access_of context.now.pod context.now.origin.agent shape.now)) }
+{
+    let agent = &context.origin.agent;
+    if is_reading(context.request.method) {
+        return admit_reader(context.alloc, context.state, agent, shape);
+    }
+    match decide_access(context.alloc, context.state, agent, shape)? {
+        Ok(bases) => Ok(bases),
+        Err(response) => Err(Stop::Refused(response)),
     }
 }

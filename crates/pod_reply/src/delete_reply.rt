@@ -1,19 +1,18 @@
 //! The reply to a DELETE.
 
 ghost use Rattle.std.specs.Prelude.{◌≡◌, IfOk};
-ghost use Rattle.conditional_req.specs.Conditions.{conditions as conditions_of};
 ghost use Rattle.pod_reply.specs.DeleteReplies as spec;
-ghost use Rattle.pod_reply.specs.Replies.{reply_of};
+ghost use Rattle.pod_reply.specs.Ranks.{Ends};
 
-use crate::obstacles::{is_auxiliary, refuse_condition, refuse_room};
-use crate::origin::Origin;
-use crate::replied::{Replied, change_reply, unchanged};
-use conditional_req::Conditions;
-use pod_base::{List, Mem, Moment, Request, Response};
+use crate::context::Context;
+use crate::obstacles::{find_row, is_auxiliary, refuse_condition, refuse_room};
+use crate::replied::{Replied, change_reply};
+use crate::stop::{Rank, refuse_if};
+use pod_base::{List, Mem, Moment};
 use pod_command::{Basis, Edit};
 use pod_edits::{deletion, has_children, removal};
 use pod_path::Path;
-use pod_responses::{changed, refusal};
+use pod_responses::changed;
 use pod_rows::PodState;
 use std::alloc::Global;
 
@@ -34,74 +33,18 @@ fn delete_edits<S: PodState>(
     }
 }
 
-/// The first refusal of the removal of a row.
-fn refuse_removal<S: PodState>(
-    alloc: Global,
-    state: &S,
-    request: &Request,
-    seq: u64,
-    path: &Path,
-    conditions: &Conditions,
-) -> Mem<Option<Response>>
-    requires { conditions.now ≡ conditions_of request.now.fields }
-    ensures { IfOk result (λ found. found
-        ≡ spec.removal_refusal (S.pod state.now) request.now seq path.now) }
+/// The reply to a granted DELETE.
+#[tactic(auto, unfolding(crate::specs::DeleteReplies::delete_reply))]
+pub(crate) fn delete<S: PodState>(context: &Context<'_, S>, bases: List<Basis>) -> Rank<Replied>
+    ensures { Ends result (λ reply. reply ≡ spec.delete_reply context.now.pod context.now.request
+        context.now.path context.now.origin bases.items) }
 {
-    if has_children(alloc, state, path)? {
-        return Ok(Some(refusal(alloc, 409, b"not-empty")?));
-    }
-    match refuse_room(alloc, state, seq, 0)? {
-        Some(response) => Ok(Some(response)),
-        None => refuse_condition(alloc, state, request, path, conditions),
-    }
-}
-
-/// The first refusal of a DELETE of a path.
-fn refuse_delete<S: PodState>(
-    alloc: Global,
-    state: &S,
-    request: &Request,
-    seq: u64,
-    path: &Path,
-    conditions: &Conditions,
-) -> Mem<Option<Response>>
-    requires { conditions.now ≡ conditions_of request.now.fields }
-    ensures { IfOk result (λ found. found ≡ spec.delete_refusal (S.pod state.now) request.now seq
-        path.now) }
-{
-    if !state.taken(path) {
-        return Ok(Some(refusal(alloc, 404, b"missing")?));
-    }
-    refuse_removal(alloc, state, request, seq, path, conditions)
-}
-
-/// The reply to a granted DELETE of a path.
-pub(crate) fn delete<S: PodState>(
-    alloc: Global,
-    state: &S,
-    request: &Request,
-    path: &Path,
-    origin: &Origin,
-    conditions: &Conditions,
-    bases: List<Basis>,
-) -> Mem<Replied>
-    requires { conditions.now ≡ conditions_of request.now.fields }
-    ensures { IfOk result (λ replied. reply_of replied
-        ≡ spec.delete_reply (S.pod state.now) request.now path.now origin.now bases.items) }
-{
-    match refuse_delete(alloc, state, request, origin.seq, path, conditions)? {
-        Some(response) => Ok(unchanged(response)),
-        None => {
-            let edits = delete_edits(alloc, state, path, origin.stamp.moment)?;
-            change_reply(
-                alloc,
-                changed(alloc),
-                origin,
-                request.method,
-                path,
-                edits,
-                bases,
-            )
-        }
-    }
+    find_row(context)?;
+    let children = has_children(context.alloc, context.state, context.path)?;
+    refuse_if(context.alloc, children, 409, b"not-empty")?;
+    refuse_room(context, 0)?;
+    refuse_condition(context)?;
+    let modified = context.origin.stamp.moment;
+    let edits = delete_edits(context.alloc, context.state, context.path, modified)?;
+    change_reply(context, changed(context.alloc), edits, bases)
 }

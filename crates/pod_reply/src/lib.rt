@@ -15,6 +15,7 @@
 #![tactic(auto)]
 
 mod access_rank;
+mod context;
 mod delete_reply;
 mod dispatch;
 mod entry_size;
@@ -28,6 +29,7 @@ mod put_reply;
 mod read_reply;
 mod replied;
 mod shape;
+mod stop;
 
 pub use access_rank::decide_access;
 pub use dispatch::reply;

@@ -1,20 +1,22 @@
-//! The refusals of a change: by its place in the tree, by the number of rows, by the preconditions,
-//! and by what its new triples state.
+//! The ranks that several methods share: the place in the tree, the number of rows, the
+//! preconditions of a change, and what its new triples state.
 
-ghost use Rattle.std.specs.Prelude.{◌≡◌, List, IfOk};
-ghost use Rattle.conditional_req.specs.Conditions.{conditions as conditions_of};
+ghost use Rattle.std.specs.Prelude.{◌≡◌, List, Some, ⊤, codes, not};
 ghost use Rattle.pod_command.specs.declared.row.Row.{Row as TheRow};
 ghost use Rattle.pod_edits.specs.Places.{IsPlaceOf};
-ghost use Rattle.pod_edits.specs.Refusals.{added_rows, lacks_number};
+ghost use Rattle.pod_edits.specs.Refusals.{added_rows, states_containment};
 ghost use Rattle.pod_path.specs.Hierarchy.{is_auxiliary};
 ghost use Rattle.pod_reply.specs.Obstacles as spec;
-ghost use Rattle.pod_reply.specs.PutReplies as puts;
+ghost use Rattle.pod_reply.specs.PutReplies.{place_refusal};
+ghost use Rattle.pod_reply.specs.Ranks.{Passes};
 ghost use Rattle.pod_reply.specs.Shapes.{IsPlaced};
 ghost use Rattle.pod_responses.specs.Responses as responses;
-ghost use Rattle.pod_rows.specs.Pod.{is_row};
+ghost use Rattle.pod_rows.specs.Pod.{is_row, row_at};
 
-use conditional_req::{Conditions, Verdict};
-use pod_base::{Mem, Request, Response};
+use crate::context::Context;
+use crate::stop::{Rank, Stop, refuse_if};
+use conditional_req::Verdict;
+use pod_command::Row;
 use pod_edits::{Place, breaks_guard, exceeds_rows, lacks_subject, meets_twin, states_containment};
 use pod_path::Path;
 use pod_representations::change_verdict;
@@ -23,23 +25,6 @@ use pod_rows::PodState;
 use rdf_graph::Triple;
 use std::alloc::Global;
 
-/// A refusal, where the test holds.
-pub(crate) fn refuse_if(
-    alloc: Global,
-    holds: bool,
-    status: u16,
-    word: &[u8],
-) -> Mem<Option<Response>>
-    ensures { IfOk result (λ found. found
-        ≡ spec.refuse_if holds (responses.refusal status word.now)) }
-{
-    if holds {
-        Ok(Some(refusal(alloc, status, word)?))
-    } else {
-        Ok(None)
-    }
-}
-
 /// Whether a path is that of an access list or a description.
 pub(crate) fn is_auxiliary(path: &Path) -> bool
     ensures { result ≡ is_auxiliary path.now }
@@ -47,29 +32,25 @@ pub(crate) fn is_auxiliary(path: &Path) -> bool
     path.is_acl() || path.is_meta()
 }
 
-/// Whether there is no such number of a change.
-#[tactic(auto, unfolding(pod_edits::specs::Refusals::lacks_number))]
-fn lacks_number(seq: u64) -> bool
-    ensures { result ≡ lacks_number seq }
+/// 404 `missing`, where there is no row at the path; else the row.
+pub(crate) fn find_row<'a, S: PodState>(context: &'a Context<'_, S>) -> Rank<&'a Row>
+    ensures { Passes result (spec.refuse_if (not (is_row context.now.pod.rows context.now.path))
+        (responses.refusal 404 (codes "missing")))
+        (λ row. row_at context.now.pod.rows context.now.path ≡ Some row.now) }
 {
-    1 << 63 <= seq
+    match context.row {
+        Some(row) => Ok(row),
+        None => Err(Stop::Refused(refusal(context.alloc, 404, b"missing")?)),
+    }
 }
 
-/// 507, where there would be too many rows or changes.
-pub(crate) fn refuse_room<S: PodState>(
-    alloc: Global,
-    state: &S,
-    seq: u64,
-    added: usize,
-) -> Mem<Option<Response>>
-    ensures { IfOk result (λ found. found ≡ spec.no_room (S.pod state.now) seq added) }
+/// 507 `rows`, where there would be too many rows or changes.
+#[tactic(auto, unfolding(pod_edits::specs::Refusals::lacks_number))]
+pub(crate) fn refuse_room<S: PodState>(context: &Context<'_, S>, added: usize) -> Rank<()>
+    ensures { Passes result (spec.no_room context.now.pod context.now.origin.seq added) (λ _. ⊤) }
 {
-    refuse_if(
-        alloc,
-        exceeds_rows(state, added) || lacks_number(seq),
-        507,
-        b"rows",
-    )
+    let holds = exceeds_rows(context.state, added) || 1 << 63 <= context.origin.seq;
+    refuse_if(context.alloc, holds, 507, b"rows")
 }
 
 /// How many rows a new path adds.
@@ -84,88 +65,69 @@ fn added_rows(path: &Path, place: &Place) -> usize
     }
 }
 
-/// The first refusal of a path that is no row, by its place in the tree.
+/// 409 `twin`, 409 `subject` or 507 `rows`, of a path that is no row.
 #[tactic(auto, unfolding(crate::specs::Obstacles::new_path_refusal))]
-fn refuse_new_path<S: PodState>(
-    alloc: Global,
-    state: &S,
-    seq: u64,
-    path: &Path,
-    place: &Place,
-) -> Mem<Option<Response>>
-    requires { IsPlaceOf (S.pod state.now).rows path.now place.now }
-    ensures { IfOk result (λ found. found
-        ≡ spec.new_path_refusal (S.pod state.now) seq path.now) }
+fn refuse_new_path<S: PodState>(context: &Context<'_, S>, place: &Place) -> Rank<()>
+    requires { IsPlaceOf context.now.pod.rows context.now.path place.now }
+    ensures { Passes result (spec.new_path_refusal context.now.pod context.now.origin.seq
+        context.now.path) (λ _. ⊤) }
 {
-    if meets_twin(alloc, state, path, place)? {
-        return Ok(Some(refusal(alloc, 409, b"twin")?));
-    }
-    if lacks_subject(state, path) {
-        return Ok(Some(refusal(alloc, 409, b"subject")?));
-    }
-    refuse_room(alloc, state, seq, added_rows(path, place))
+    let twin = meets_twin(context.alloc, context.state, context.path, place)?;
+    refuse_if(context.alloc, twin, 409, b"twin")?;
+    let subject = lacks_subject(context.state, context.path);
+    refuse_if(context.alloc, subject, 409, b"subject")?;
+    refuse_room(context, added_rows(context.path, place))
 }
 
-/// The first refusal of a path by its place in the tree, whether or not it is a row.
-pub(crate) fn refuse_place<S: PodState>(
-    alloc: Global,
-    state: &S,
-    seq: u64,
-    path: &Path,
-    place: &Option<Place>,
-) -> Mem<Option<Response>>
-    requires { IsPlaced (S.pod state.now).rows path.now place.now }
-    ensures { IfOk result (λ found. found
-        ≡ puts.place_refusal (S.pod state.now) seq path.now
-        (is_row (S.pod state.now).rows path.now)) }
+/// The refusals of the place of a path that a PUT or PATCH changes, whether or not it is a row.
+pub(crate) fn refuse_place<S: PodState>(context: &Context<'_, S>, place: &Option<Place>) -> Rank<()>
+    requires { IsPlaced context.now.pod.rows context.now.path place.now }
+    ensures { Passes result (place_refusal context.now.pod context.now.origin.seq context.now.path
+        (is_row context.now.pod.rows context.now.path)) (λ _. ⊤) }
 {
     match place {
-        Some(place) => refuse_new_path(alloc, state, seq, path, place),
-        None => refuse_room(alloc, state, seq, 0),
+        Some(place) => refuse_new_path(context, place),
+        None => refuse_room(context, 0),
     }
 }
 
-/// The refusal of a verdict on a change.
-fn refuse_verdict(alloc: Global, verdict: Verdict) -> Mem<Option<Response>>
-    ensures { IfOk result (λ found. found ≡ spec.failed verdict) }
-{
-    match verdict {
-        Verdict::Go => Ok(None),
-        Verdict::NotModified | Verdict::Failed => Ok(Some(refusal(alloc, 412, b"condition")?)),
-    }
-}
-
-/// 412, where the preconditions of a change fail at the row of the path, or without one.
+/// 412 `condition`, where the preconditions of a change fail at the row of the path, or without one.
 #[tactic(auto, unfolding(crate::specs::Obstacles::condition_refusal))]
-pub(crate) fn refuse_condition<S: PodState>(
-    alloc: Global,
-    state: &S,
-    request: &Request,
-    path: &Path,
-    conditions: &Conditions,
-) -> Mem<Option<Response>>
-    requires { conditions.now ≡ conditions_of request.now.fields }
-    ensures { IfOk result (λ found. found
-        ≡ spec.condition_refusal (S.pod state.now) request.now path.now) }
+pub(crate) fn refuse_condition<S: PodState>(context: &Context<'_, S>) -> Rank<()>
+    ensures { Passes result (spec.condition_refusal context.now.pod context.now.request
+        context.now.path) (λ _. ⊤) }
 {
-    let row = state.find(path);
-    let verdict = change_verdict(alloc, state, row, conditions, request.method)?;
-    refuse_verdict(alloc, verdict)
+    let method = context.request.method;
+    let verdict = change_verdict(
+        context.alloc,
+        context.state,
+        context.row,
+        context.conditions,
+        method,
+    )?;
+    match verdict {
+        Verdict::Go => Ok(()),
+        Verdict::NotModified | Verdict::Failed => {
+            Err(Stop::Refused(refusal(context.alloc, 412, b"condition")?))
+        }
+    }
 }
 
-/// The first refusal of new triples of a path.
-#[tactic(auto, unfolding(crate::specs::Obstacles::content_refusal))]
-pub(crate) fn refuse_content<S: PodState>(
-    alloc: Global,
-    state: &S,
-    path: &Path,
-    triples: &[Triple],
-) -> Mem<Option<Response>>
-    ensures { IfOk result (λ found. found
-        ≡ spec.content_refusal (S.pod state.now) path.now triples.now) }
+/// 409 `contains`, where the triples of a container state what it contains.
+pub(crate) fn refuse_containment(alloc: Global, path: &Path, triples: &[Triple]) -> Rank<()>
+    ensures { Passes result (spec.refuse_if (states_containment path.now triples.now)
+        (spec.conflict (codes "contains"))) (λ _. ⊤) }
 {
-    if states_containment(path, triples) {
-        return Ok(Some(refusal(alloc, 409, b"contains")?));
-    }
-    refuse_if(alloc, breaks_guard(state, path, triples), 409, b"owner")
+    refuse_if(alloc, states_containment(path, triples), 409, b"contains")
+}
+
+/// 409 `contains` or 409 `owner`, by the new triples of the path.
+#[tactic(auto, unfolding(crate::specs::Obstacles::content_refusal))]
+pub(crate) fn refuse_content<S: PodState>(context: &Context<'_, S>, triples: &[Triple]) -> Rank<()>
+    ensures { Passes result (spec.content_refusal context.now.pod context.now.path triples.now)
+        (λ _. ⊤) }
+{
+    refuse_containment(context.alloc, context.path, triples)?;
+    let breaks = breaks_guard(context.state, context.path, triples);
+    refuse_if(context.alloc, breaks, 409, b"owner")
 }

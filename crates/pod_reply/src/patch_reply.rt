@@ -1,24 +1,24 @@
 //! The reply to a PATCH.
 
-ghost use Rattle.std.specs.Prelude.{◌≡◌, IfOk};
-ghost use Rattle.conditional_req.specs.Conditions.{conditions as conditions_of};
+ghost use Rattle.std.specs.Prelude.{◌≡◌, [], IfOk, ⊤, codes};
+ghost use Rattle.std.specs.Option.{option_copied};
 ghost use Rattle.patch_outcome.specs.Outcomes.{HasGraphs};
+ghost use Rattle.pod_edits.specs.Refusals.{breaks_guard};
+ghost use Rattle.pod_reply.specs.Obstacles.{conflict, refuse_if};
 ghost use Rattle.pod_reply.specs.PatchReplies as spec;
-ghost use Rattle.pod_reply.specs.Replies.{reply_of};
+ghost use Rattle.pod_reply.specs.Ranks.{Ends, Passes};
 ghost use Rattle.pod_reply.specs.Shapes.{IsPlaced};
-ghost use Rattle.pod_edits.specs.Allowed.{triples_of};
-ghost use Rattle.pod_edits.specs.Refusals.{breaks_guard, is_root_list};
 ghost use Rattle.pod_rows.specs.Pod.{is_row, row_at};
 
-use crate::obstacles::{refuse_condition, refuse_if, refuse_place};
-use crate::origin::Origin;
-use crate::put_reply::{make, row_of};
-use crate::replied::{Replied, change_reply, unchanged};
-use conditional_req::Conditions;
+use crate::context::Context;
+use crate::obstacles::{refuse_condition, refuse_place};
+use crate::put_reply::make;
+use crate::replied::{Replied, change_reply};
+use crate::stop::{Rank, Stop, refuse_if};
 use patch_outcome::{PatchRefusal, outcome, update_outcome};
-use pod_base::{List, Mem, Moment, Request, Response};
+use pod_base::{List, Mem};
 use pod_command::{Basis, Content, Row};
-use pod_edits::{Place, breaks_guard, change as change_edits, is_bytes};
+use pod_edits::{Place, breaks_guard, change as change_edits, is_bytes, is_root_list};
 use pod_path::Path;
 use pod_responses::{changed, refusal};
 use pod_rows::PodState;
@@ -26,37 +26,41 @@ use rdf_graph::{Change, Graph, changed as changed_graph};
 use request_body::RequestBody;
 use std::alloc::Global;
 
-/// Whether the row at a path holds bytes.
-fn holds_bytes<S: PodState>(state: &S, path: &Path) -> bool
-    ensures { result ≡ spec.is_bytes_row (row_at (S.pod state.now).rows path.now) }
+/// Whether a row holds bytes.
+fn holds_bytes(row: Option<&Row>) -> bool
+    ensures { result ≡ spec.is_bytes_row (option_copied row.entry) }
 {
-    match state.find(path) {
+    match row {
         Some(row) => is_bytes(row.kind),
         None => false,
     }
 }
 
-/// The first refusal of a PATCH of a path before its patch is applied.
-fn refuse_patch<S: PodState>(
-    alloc: Global,
-    state: &S,
-    request: &Request,
-    seq: u64,
-    path: &Path,
-    place: &Option<Place>,
-    conditions: &Conditions,
-) -> Mem<Option<Response>>
-    requires place { IsPlaced (S.pod state.now).rows path.now place.now }
-    requires conditions { conditions.now ≡ conditions_of request.now.fields }
-    ensures { IfOk result (λ found. found
-        ≡ spec.patch_refusal (S.pod state.now) request.now seq path.now) }
+/// The refusals of a PATCH before its patch is applied: 409 `not-graph`, those of its place, and
+/// 412 `condition`.
+#[tactic(auto, unfolding(crate::specs::PatchReplies::patch_refusal))]
+fn refuse_patch<S: PodState>(context: &Context<'_, S>, place: &Option<Place>) -> Rank<()>
+    requires { IsPlaced context.now.pod.rows context.now.path place.now }
+    ensures { Passes result (spec.patch_refusal context.now.pod context.now.request
+        context.now.origin.seq context.now.path) (λ _. ⊤) }
 {
-    if holds_bytes(state, path) {
-        return Ok(Some(refusal(alloc, 409, b"not-graph")?));
-    }
-    match refuse_place(alloc, state, seq, path, place)? {
-        Some(response) => Ok(Some(response)),
-        None => refuse_condition(alloc, state, request, path, conditions),
+    let bytes = holds_bytes(context.row);
+    refuse_if(context.alloc, bytes, 409, b"not-graph")?;
+    refuse_place(context, place)?;
+    refuse_condition(context)
+}
+
+/// The graph that is patched; this empty one where there is no row or it holds bytes.
+fn patched_graph<'a>(row: Option<&'a Row>, empty: &'a Graph) -> &'a Graph
+    requires { empty.now ≡ [] }
+    ensures { result.now ≡ spec.patched_triples (option_copied row.entry) }
+{
+    match row {
+        Some(row) => match &row.content {
+            Content::Graph(graph) => graph,
+            Content::Bytes { ctype: _, bytes: _ } => empty,
+        },
+        None => empty,
     }
 }
 
@@ -87,39 +91,6 @@ fn has_graphs(outcome: &Result<Change, PatchRefusal>)
     }
 }
 
-/// What the body of a PATCH does to the content of a row.
-fn apply_to_row(
-    alloc: Global,
-    path: &Path,
-    row: &Row,
-    body: &RequestBody,
-) -> Mem<Result<Change, PatchRefusal>>
-    requires { spec.IsPatchBody body.now }
-    ensures { IfOk result (spec.IsBodyOutcome body.now path.now (triples_of row.now)) }
-{
-    match &row.content {
-        Content::Graph(graph) => apply(alloc, path, graph, body),
-        Content::Bytes { ctype: _, bytes: _ } => apply(alloc, path, &Graph::new(alloc), body),
-    }
-}
-
-/// What the body of a PATCH does to the graph at a path, which is empty where there is no row.
-fn apply_at<S: PodState>(
-    alloc: Global,
-    state: &S,
-    path: &Path,
-    body: &RequestBody,
-) -> Mem<Result<Change, PatchRefusal>>
-    requires { spec.IsPatchBody body.now }
-    ensures { IfOk result (spec.IsBodyOutcome body.now path.now
-        (spec.patched_triples (row_at (S.pod state.now).rows path.now))) }
-{
-    match state.find(path) {
-        Some(row) => apply_to_row(alloc, path, row, body),
-        None => apply(alloc, path, &Graph::new(alloc), body),
-    }
-}
-
 /// The graph after a change.
 fn change_graph(alloc: Global, graph: &Graph, change: &Change) -> Mem<Graph>
     ensures { IfOk result (λ new. new ≡ spec.triples_after graph.now change.now) }
@@ -131,163 +102,87 @@ fn change_graph(alloc: Global, graph: &Graph, change: &Change) -> Mem<Graph>
     Ok(new)
 }
 
-/// Whether a path is that of the root's access list.
-fn is_root_list(path: &Path) -> bool
-    ensures { result ≡ is_root_list path.now }
+/// 409 `owner`, where the graph of the path after a change takes control from the owner.
+#[tactic(auto, unfolding(pod_edits::specs::Refusals::breaks_guard))]
+fn refuse_guard<S: PodState>(context: &Context<'_, S>, graph: &Graph, change: &Change) -> Rank<()>
+    ensures { Passes result (refuse_if (breaks_guard context.now.pod context.now.path
+        (spec.triples_after graph.now change.now)) (conflict (codes "owner"))) (λ _. ⊤) }
 {
-    path.as_str() == "/.acl"
-}
-
-/// Whether the graph after a change breaks the guard of the root's access list.
-fn breaks_guard_after<S: PodState>(
-    alloc: Global,
-    state: &S,
-    path: &Path,
-    graph: &Graph,
-    change: &Change,
-) -> Mem<bool>
-    ensures { IfOk result (λ breaks. breaks ≡ breaks_guard (S.pod state.now) path.now
-        (spec.triples_after graph.now change.now)) }
-{
-    if !is_root_list(path) {
-        return Ok(false);
+    if !is_root_list(context.path) {
+        return Ok(());
     }
-    let after = change_graph(alloc, graph, change)?;
-    Ok(breaks_guard(state, path, after.as_slice()))
+    let after = change_graph(context.alloc, graph, change)?;
+    let breaks = breaks_guard(context.state, context.path, after.as_slice());
+    refuse_if(context.alloc, breaks, 409, b"owner")
 }
 
-/// Whether the content of a row after a change breaks the guard of the root's access list.
-fn breaks_guard_of_row<S: PodState>(
-    alloc: Global,
-    state: &S,
-    path: &Path,
-    row: &Row,
-    change: &Change,
-) -> Mem<bool>
-    ensures { IfOk result (λ breaks. breaks ≡ breaks_guard (S.pod state.now) path.now
-        (spec.triples_after (triples_of row.now) change.now)) }
-{
-    match &row.content {
-        Content::Graph(graph) => breaks_guard_after(alloc, state, path, graph, change),
-        Content::Bytes { ctype: _, bytes: _ } => {
-            breaks_guard_after(alloc, state, path, &Graph::new(alloc), change)
-        }
-    }
-}
-
-/// 409 `owner`, where the graph at a path after a change takes control from the owner.
-fn refuse_guard<S: PodState>(
-    alloc: Global,
-    state: &S,
-    path: &Path,
-    change: &Change,
-) -> Mem<Option<Response>>
-    ensures { IfOk result (λ found. found
-        ≡ spec.guard_refusal (S.pod state.now) path.now change.now) }
-{
-    let breaks = match state.find(path) {
-        Some(row) => breaks_guard_of_row(alloc, state, path, row, change)?,
-        None => breaks_guard_after(alloc, state, path, &Graph::new(alloc), change)?,
-    };
-    refuse_if(alloc, breaks, 409, b"owner")
-}
-
-/// The row that a change makes where there is none.
-fn new_row(alloc: Global, path: &Path, change: &Change, modified: Moment) -> Mem<Row>
-    ensures { IfOk result (λ row. row ≡ spec.new_row path.now change.now modified) }
-{
-    let graph = change_graph(alloc, &Graph::new(alloc), change)?;
-    row_of(alloc, path, Content::Graph(graph), modified)
-}
-
-/// The reply where a change is made at a path.
+/// The success: a row is changed, or a new one is made.
 fn change_at<S: PodState>(
-    alloc: Global,
-    state: &S,
-    request: &Request,
-    path: &Path,
+    context: &Context<'_, S>,
     place: Option<Place>,
-    origin: &Origin,
     bases: List<Basis>,
     change: Change,
-) -> Mem<Replied>
-    requires { IsPlaced (S.pod state.now).rows path.now place }
-    ensures { IfOk result (λ replied. reply_of replied ≡ spec.changing_reply (S.pod state.now)
-        request.now path.now origin.now bases.items change
-        (is_row (S.pod state.now).rows path.now)) }
+) -> Rank<Replied>
+    requires { IsPlaced context.now.pod.rows context.now.path place }
+    ensures { Ends result (λ reply. reply ≡ spec.changing_reply context.now.pod context.now.request
+        context.now.path context.now.origin bases.items change
+        (is_row context.now.pod.rows context.now.path)) }
 {
-    let modified = origin.stamp.moment;
     match place {
         Some(place) => {
-            let row = new_row(alloc, path, &change, modified)?;
-            make(alloc, state, request, path, origin, bases, row, Some(place))
+            let graph = change_graph(context.alloc, &Graph::new(context.alloc), &change)?;
+            make(context, Some(place), bases, Content::Graph(graph))
         }
         None => {
-            let edits = change_edits(alloc, path.copy(alloc)?, change, modified)?;
-            change_reply(
-                alloc,
-                changed(alloc),
-                origin,
-                request.method,
-                path,
-                edits,
-                bases,
-            )
+            let path = context.path.copy(context.alloc)?;
+            let edits = change_edits(context.alloc, path, change, context.origin.stamp.moment)?;
+            change_reply(context, changed(context.alloc), edits, bases)
         }
     }
 }
 
-/// The reply by the change of a patch, or its refusal.
+/// What follows of the outcome of a patch: its refusal, 409 `owner`, or the change.
 fn reply_by<S: PodState>(
-    alloc: Global,
-    state: &S,
-    request: &Request,
-    path: &Path,
+    context: &Context<'_, S>,
     place: Option<Place>,
-    origin: &Origin,
     bases: List<Basis>,
+    graph: &Graph,
     outcome: Result<Change, PatchRefusal>,
-) -> Mem<Replied>
-    requires { IsPlaced (S.pod state.now).rows path.now place }
-    ensures { IfOk result (λ replied. reply_of replied ≡ spec.outcome_reply (S.pod state.now)
-        request.now path.now origin.now bases.items outcome) }
+) -> Rank<Replied>
+    requires place { IsPlaced context.now.pod.rows context.now.path place }
+    requires graph { graph.now
+        ≡ spec.patched_triples (row_at context.now.pod.rows context.now.path) }
+    ensures { Ends result (λ reply. reply ≡ spec.outcome_reply context.now.pod context.now.request
+        context.now.path context.now.origin bases.items outcome) }
 {
     match outcome {
         Err(refused) => {
-            let response = refusal(alloc, 409, refused.word().as_bytes())?;
-            Ok(unchanged(response))
+            let response = refusal(context.alloc, 409, refused.word().as_bytes())?;
+            Err(Stop::Refused(response))
         }
-        Ok(change) => match refuse_guard(alloc, state, path, &change)? {
-            Some(response) => Ok(unchanged(response)),
-            None => change_at(alloc, state, request, path, place, origin, bases, change),
-        },
+        Ok(change) => {
+            refuse_guard(context, graph, &change)?;
+            change_at(context, place, bases, change)
+        }
     }
 }
 
-/// The reply to a granted PATCH of a path with this body.
+/// The reply to a granted PATCH with this body.
 pub(crate) fn patch<S: PodState>(
-    alloc: Global,
-    state: &S,
-    request: &Request,
-    path: &Path,
+    context: &Context<'_, S>,
     place: Option<Place>,
-    origin: &Origin,
-    conditions: &Conditions,
     bases: List<Basis>,
     body: &RequestBody,
-) -> Mem<Replied>
-    requires place { IsPlaced (S.pod state.now).rows path.now place }
-    requires conditions { conditions.now ≡ conditions_of request.now.fields }
+) -> Rank<Replied>
+    requires place { IsPlaced context.now.pod.rows context.now.path place }
     requires body { spec.IsPatchBody body.now }
-    ensures { IfOk result (λ replied. spec.IsPatchReply (S.pod state.now) request.now path.now
-        origin.now bases.items body.now (reply_of replied)) }
+    ensures { Ends result (spec.IsPatchReply context.now.pod context.now.request context.now.path
+        context.now.origin bases.items body.now) }
 {
-    match refuse_patch(alloc, state, request, origin.seq, path, &place, conditions)? {
-        Some(response) => Ok(unchanged(response)),
-        None => {
-            let outcome = apply_at(alloc, state, path, body)?;
-            has_graphs(&outcome);
-            reply_by(alloc, state, request, path, place, origin, bases, outcome)
-        }
-    }
+    refuse_patch(context, &place)?;
+    let empty = Graph::new(context.alloc);
+    let graph = patched_graph(context.row, &empty);
+    let outcome = apply(context.alloc, context.path, graph, body)?;
+    has_graphs(&outcome);
+    reply_by(context, place, bases, graph, outcome)
 }

@@ -2,14 +2,15 @@
 
 ghost use Rattle.std.specs.Prelude.{◌≡◌, IfOk};
 ghost use Rattle.pod_command.specs.Bare.{bare_entry};
+ghost use Rattle.pod_reply.specs.Ranks.{Ends};
 ghost use Rattle.pod_reply.specs.Replies as spec;
 
+use crate::context::Context;
 use crate::entry_size::bound_entry;
-use crate::origin::Origin;
+use crate::stop::{Rank, Stop};
 use pod_base::{Body, List, Mem, Method, Response};
 use pod_command::{Basis, Edit, Entry};
-use pod_path::Path;
-use std::alloc::Global;
+use pod_rows::PodState;
 
 /// The reply to a request: a response, and an entry where the request changes the pod.
 #[derive(Debug, Drop)]
@@ -54,26 +55,24 @@ pub(crate) fn sent_to(method: Method, response: Response) -> Response
 }
 
 /// The entry of a change.
-fn entry_of(
-    alloc: Global,
-    origin: &Origin,
-    method: Method,
-    path: &Path,
+fn entry_of<S: PodState>(
+    context: &Context<'_, S>,
     edits: List<Edit>,
     bases: List<Basis>,
 ) -> Mem<Entry>
-    ensures { IfOk result (λ entry. bare_entry entry
-        ≡ spec.entry_of origin.now method path.now edits.items bases.items) }
+    ensures { IfOk result (λ entry. bare_entry entry ≡ spec.entry_of context.now.origin
+        context.now.request.method context.now.path edits.items bases.items) }
 {
-    let agent = origin.agent.copy(alloc)?;
-    let path = path.copy(alloc)?;
+    let origin = context.origin;
+    let agent = origin.agent.copy(context.alloc)?;
+    let path = context.path.copy(context.alloc)?;
     Ok(Entry {
         seq: origin.seq,
         conn: origin.stamp.conn,
         number: origin.stamp.number,
         agent,
         moment: origin.stamp.moment,
-        method,
+        method: context.request.method,
         path,
         edits,
         bases,
@@ -81,24 +80,21 @@ fn entry_of(
 }
 
 /// The reply to a change: this response, unless the entry is too large.
-pub(crate) fn change_reply(
-    alloc: Global,
+pub(crate) fn change_reply<S: PodState>(
+    context: &Context<'_, S>,
     response: Response,
-    origin: &Origin,
-    method: Method,
-    path: &Path,
     edits: List<Edit>,
     bases: List<Basis>,
-) -> Mem<Replied>
-    ensures { IfOk result (λ replied. spec.reply_of replied ≡ spec.change_reply response
-        (spec.entry_of origin.now method path.now edits.items bases.items)) }
+) -> Rank<Replied>
+    ensures { Ends result (λ reply. reply ≡ spec.change_reply response (spec.entry_of
+        context.now.origin context.now.request.method context.now.path edits.items bases.items)) }
 {
-    let entry = entry_of(alloc, origin, method, path, edits, bases)?;
-    match bound_entry(alloc, entry)? {
+    let entry = entry_of(context, edits, bases)?;
+    match bound_entry(context.alloc, entry)? {
         Ok(entry) => Ok(Replied {
             response,
             entry: Some(entry),
         }),
-        Err(refusal) => Ok(unchanged(refusal)),
+        Err(refusal) => Err(Stop::Refused(refusal)),
     }
 }

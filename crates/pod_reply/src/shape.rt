@@ -2,12 +2,11 @@
 
 ghost use Rattle.std.specs.Prelude.{◌≡◌, IfOk};
 ghost use Rattle.std.specs.List.{list_any};
-ghost use Rattle.conditional_req.specs.Conditions.{conditions as conditions_of};
 ghost use Rattle.pod_rows.specs.Pod.{Pod};
 ghost use Rattle.pod_reply.specs.Shapes as spec;
 
-use conditional_req::Conditions;
-use pod_base::{Mem, Request};
+use crate::context::Context;
+use pod_base::Mem;
 use pod_edits::{Place, find_place};
 use pod_path::Path;
 use pod_rows::PodState;
@@ -62,14 +61,14 @@ fn has_insertions(body: &RequestBody) -> bool
     }
 }
 
-/// Where a path would go in the tree, if it is no row.
-pub(crate) fn place_of<S: PodState>(alloc: Global, state: &S, path: &Path) -> Mem<Option<Place>>
-    ensures { IfOk result (spec.IsPlaced (S.pod state.now).rows path.now) }
+/// Where the path would go in the tree, if it is no row.
+pub(crate) fn place_of<S: PodState>(context: &Context<'_, S>) -> Mem<Option<Place>>
+    ensures { IfOk result (spec.IsPlaced context.now.pod.rows context.now.path) }
 {
-    if state.taken(path) {
-        return Ok(None);
+    match context.row {
+        Some(_) => Ok(None),
+        None => Ok(Some(find_place(context.alloc, context.state, context.path)?)),
     }
-    Ok(Some(find_place(alloc, state, path)?))
 }
 
 /// The nearest ancestor of a path that is no row; the path itself where it is one.
@@ -83,28 +82,25 @@ fn above_of(alloc: Global, path: &Path, place: &Option<Place>) -> Mem<Path>
     }
 }
 
-/// The shape of a request to a path with this body and these preconditions.
-pub(crate) fn shape_of(
-    alloc: Global,
-    request: &Request,
-    path: &Path,
+/// The shape of a request with this body.
+pub(crate) fn shape_of<S: PodState>(
+    context: &Context<'_, S>,
     place: &Option<Place>,
     body: &RequestBody,
-    conditions: &Conditions,
 ) -> Mem<Shape>
-    requires { conditions.now ≡ conditions_of request.now.fields }
-    ensures { IfOk result (λ shape. (pod : Pod) → spec.IsPlaced pod.rows path.now place.now
-        → shape ≡ spec.shape_of pod request.now path.now body.now) }
+    requires { spec.IsPlaced context.now.pod.rows context.now.path place.now }
+    ensures { IfOk result (λ shape. shape ≡ spec.shape_of context.now.pod context.now.request
+        context.now.path body.now) }
 {
-    let above = above_of(alloc, path, place)?;
+    let above = above_of(context.alloc, context.path, place)?;
     Ok(Shape {
-        method: request.method,
-        path: path.copy(alloc)?,
+        method: context.request.method,
+        path: context.path.copy(context.alloc)?,
         exists: place.is_none(),
         above,
         conditions: has_conditions(body),
         deletions: has_deletions(body),
         insertions: has_insertions(body),
-        tags: conditions.needs_read(),
+        tags: context.conditions.needs_read(),
     })
 }

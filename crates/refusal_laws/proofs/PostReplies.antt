@@ -11,12 +11,14 @@ use Rattle.pod_path.proofs.NormalPaths.{is_path, norm_parts}
 use Rattle.pod_path.specs.Hierarchy.{is_container, uri_of}
 use Rattle.pod_path.specs.Norm.{IsPath, norm}
 use Rattle.pod_path.specs.declared.fault.PathFault.{PathFault}
-use Rattle.pod_reply.proofs.BodyLemmas.{posted_content}
-use Rattle.pod_reply.proofs.DispatchLemmas.{admitted_allowed, posted}
+use Rattle.pod_reply.proofs.BodyLemmas.{has_content}
+use Rattle.pod_reply.proofs.DispatchLemmas.{admitted_allowed}
 use Rattle.pod_reply.specs.EntrySize.{size_refusal}
 use Rattle.pod_reply.specs.Obstacles.{refuse_if}
-use Rattle.pod_reply.specs.PostReplies.{IsMade, IsMadeUnless, IsMemberReply, IsNamedReply, IsPostReply, IsPosted, judged_member, member_refusal}
+use Rattle.pod_reply.specs.PostReplies.{IsMade, IsMemberReply, IsNamedReply, IsPostReply, IsPosted, judged_member, member_refusal}
+use Rattle.pod_reply.specs.PutReplies.{IsUnlessRefused}
 use Rattle.pod_reply.specs.Replies.{Reply, unchanged}
+use Rattle.pod_reply.specs.Reply.{HasContent}
 use Rattle.pod_reply.specs.declared.origin.Origin.{Origin}
 use Rattle.pod_responses.specs.Allow.{is_allowed}
 use Rattle.pod_responses.specs.Responses.{refusal}
@@ -24,7 +26,7 @@ use Rattle.pod_rows.specs.Pod.{Pod, is_row}
 use Rattle.pod_rows.specs.WellFormed.{WellFormed}
 use Rattle.request_body.specs.Bodies.{Means, Outcome}
 use Rattle.request_body.specs.declared.body.RequestBody.{RequestBody}
-use Rattle.request_body.specs.declared.body.RequestBody.TheVariants.{Content, Nothing, Patch, Update}
+use Rattle.request_body.specs.declared.body.RequestBody.TheVariants.{Content}
 use Rattle.request_fields.specs.Links.{links_to_container}
 use Rattle.request_fields.specs.PartFields.{slug}
 use Rattle.request_target.specs.Admission.{admitted, admitted_to, method_refusal, token_refusal, unless}
@@ -91,9 +93,7 @@ module _ (pod : Pod) (request : Request) (path : List ℕ) (origin : Origin) (ba
     (means : (base : List ℕ) → (outcome : Outcome) × Means base path request outcome) (content : RowContent) where
   by_body : (member : List ℕ) (body : RequestBody) → Means (uri_of pod.base member) path request (Ok body) → (reply : Reply) × IsMemberReply pod request path origin bases member (Ok body) reply
   by_body member (Content read) h = (judged_member pod request path origin bases member read, refl)
-  by_body member Nothing h = absurd (posted_content (uri_of pod.base member) path request Nothing is_post h)
-  by_body member (Patch patch) h = absurd (posted_content (uri_of pod.base member) path request (Patch patch) is_post h)
-  by_body member (Update named) h = absurd (posted_content (uri_of pod.base member) path request (Update named) is_post h)
+  by_body member body h = absurd (has_content (uri_of pod.base member) path request body (subst HasContent (sym is_post) tt) h)
 
   by_outcome : (member : List ℕ) (outcome : Outcome) → Means (uri_of pod.base member) path request outcome → (reply : Reply) × IsMade pod request path origin bases member reply
   by_outcome member (Err fault) h = (unchanged size_refusal, record { read = Err fault; means = h; follows = refl })
@@ -101,7 +101,7 @@ module _ (pod : Pod) (request : Request) (path : List ℕ) (origin : Origin) (ba
       let made = by_body member body h in
       (made.0, record { read = Ok body; means = h; follows = made.1 })
 
-  made_unless : (refused : Option Response) (member : List ℕ) → (reply : Reply) × IsMadeUnless refused (IsMade pod request path origin bases member) reply
+  made_unless : (refused : Option Response) (member : List ℕ) → (reply : Reply) × IsUnlessRefused refused (IsMade pod request path origin bases member) reply
   made_unless (Some response) member = (unchanged response, refl)
   made_unless None member =
       let read = means (uri_of pod.base member) in
@@ -117,10 +117,13 @@ module _ (pod : Pod) (request : Request) (path : List ℕ) (origin : Origin) (ba
       (follows.0, record { named = name.named; is = name.is; follows = follows.1 })
 
   by_row : (b : Bool) → is_row pod.rows path ≡ b → (reply : Reply) × IsPosted pod request path origin bases content reply → (reply : Reply) × IsPostReply pod request path origin bases content reply
-  by_row true e made = (made.0, posted pod request path origin bases content made.0 e made.1)
+  by_row true e made = (
+    made.0,
+    subst (λ (b : Bool). IsUnlessRefused (refuse_if (not b) (refusal 404 (codes "missing"))) (IsPosted pod request path origin bases content) made.0) (sym e) made.1,
+  )
   by_row false e made = (
     unchanged (refusal 404 (codes "missing")),
-    subst (λ (b : Bool). IsMadeUnless (refuse_if (not b) (refusal 404 (codes "missing"))) (IsPosted pod request path origin bases content) (unchanged (refusal 404 (codes "missing")))) (sym e) refl,
+    subst (λ (b : Bool). IsUnlessRefused (refuse_if (not b) (refusal 404 (codes "missing"))) (IsPosted pod request path origin bases content) (unchanged (refusal 404 (codes "missing")))) (sym e) refl,
   )
 
   pub post_reply : WellFormed pod → IfSome (slug request.fields) AreBytes → (asked : AskedAgent) → admitted pod.base request asked ≡ Ok (Resource path) → (reply : Reply) × IsPostReply pod request path origin bases content reply

@@ -22,9 +22,9 @@ use Rattle.pod_reply.specs.DeleteReplies.{delete_edits, delete_reply}
 use Rattle.pod_reply.specs.EntrySize.{is_too_large, size_refusal}
 use Rattle.pod_reply.specs.MemberNames.{IsNamed}
 use Rattle.pod_reply.specs.Obstacles.{condition_refusal, conflict, content_refusal, first_of, new_path_refusal, no_room, refuse_if}
-use Rattle.pod_reply.specs.PatchReplies.{IsApplied, IsPatchedUnless, changing_reply, guard_refusal, is_bytes_row, outcome_reply, patch_refusal}
-use Rattle.pod_reply.specs.PostReplies.{IsMade, IsMadeUnless, IsMemberReply, IsNamedReply, IsPosted, containment_refusal, member_refusal, member_reply}
-use Rattle.pod_reply.specs.PutReplies.{made_response, make_reply, making_edits, place_refusal, put_reply, row_of, unless_refused}
+use Rattle.pod_reply.specs.PatchReplies.{IsApplied, changing_reply, guard_refusal, is_bytes_row, outcome_reply, patch_refusal}
+use Rattle.pod_reply.specs.PostReplies.{IsMade, IsMemberReply, IsNamedReply, IsPosted, containment_refusal, member_refusal, member_reply}
+use Rattle.pod_reply.specs.PutReplies.{IsUnlessRefused, made_response, make_reply, making_edits, place_refusal, put_reply, row_of, unless_refused}
 use Rattle.pod_reply.specs.ReadReplies.{chosen_read, found_read, judged_read, read_reply, row_read}
 use Rattle.pod_reply.specs.Replies.{Reply, change_reply, entry_of, unchanged}
 use Rattle.pod_reply.specs.Reply.{IsMethodReply}
@@ -360,7 +360,7 @@ module _ (pod : Pod) (request : Request) (path : List ℕ) (origin : Origin) (ba
             ),
           )
 
-    patch_by : (o : Option Response) → patch_refusal pod request origin.seq path ≡ o → IsPatchedUnless o (IsApplied pod request path origin bases body) told → Walks methods.Patch body told
+    patch_by : (o : Option Response) → patch_refusal pod request origin.seq path ≡ o → IsUnlessRefused o (IsApplied pod request path origin bases body) told → Walks methods.Patch body told
     patch_by (Some r) e h = (nothing_found, patch_refused r e h)
     patch_by None e h = (record { named = Ok []; renamed = Ok bodies.Nothing; outcome = h.outcome }, applied_walk e h)
 
@@ -430,7 +430,7 @@ module _ (pod : Pod) (request : Request) (path : List ℕ) (origin : Origin) (ba
             let c = chain_nothing in
             skip (skip (tt, passed_at (no_room pod origin.seq 1) c.0 (skip (tt, passed_at (condition_refusal pod request path) c.1.0 (skip ((λ n. m.means), renames m.read m.follows))))))
 
-      member_by : (o : Option Response) → member_refusal pod request origin.seq path member content ≡ o → IsMadeUnless o (IsMade pod request path origin bases member) told → (found : Found) × (found.named ≡ Ok member) × Named found
+      member_by : (o : Option Response) → member_refusal pod request origin.seq path member content ≡ o → IsUnlessRefused o (IsMade pod request path origin bases member) told → (found : Found) × (found.named ≡ Ok member) × Named found
       member_by (Some r) e h = (with_name (Ok member), refl, member_refused r e h)
       member_by None e h = (named_again e h, refl, member_made_so e h)
 
@@ -453,7 +453,7 @@ module _ (pod : Pod) (request : Request) (path : List ℕ) (origin : Origin) (ba
     named_by (Err response) is h = (with_name (Err response), skip (skip (is, inl (response, refl, h))))
     named_by (Ok member) is h = named_so member is (member_by member is (member_refusal pod request origin.seq path member content) refl h)
 
-    post_by : (o : Option Response) → refuse_if (not there) missing_row ≡ o → IsMadeUnless o (IsPosted pod request path origin bases content) told → Walks methods.Post (bodies.Content content) told
+    post_by : (o : Option Response) → refuse_if (not there) missing_row ≡ o → IsUnlessRefused o (IsPosted pod request path origin bases content) told → Walks methods.Post (bodies.Content content) told
     post_by (Some r) e h = (nothing_found, (tt, refused_at (refuse_if (not there) missing_row) r e h))
     post_by None e h = let one = named_by h.named h.is h.follows in (one.0, (tt, passed_at (refuse_if (not there) missing_row) e one.1))
 

@@ -34,9 +34,9 @@ use Rattle.pod_reply.specs.DeleteReplies.{delete_edits, delete_refusal, delete_r
 use Rattle.pod_reply.specs.EntrySize.{size_refusal}
 use Rattle.pod_reply.specs.MemberNames.{IsMemberPath, IsNamed}
 use Rattle.pod_reply.specs.Obstacles.{conflict, refuse_if}
-use Rattle.pod_reply.specs.PatchReplies.{IsApplied, IsBodyOutcome, IsPatchReply, IsPatchedUnless, changing_reply, guard_refusal, new_row, outcome_reply, patch_refusal, patched_triples, triples_after}
-use Rattle.pod_reply.specs.PostReplies.{IsMade as IsMemberMade, IsMadeUnless, IsMemberReply, IsNamedReply, IsPostReply, IsPosted, containment_refusal, judged_member, member_refusal}
-use Rattle.pod_reply.specs.PutReplies.{made_response, make_reply, making_edits, place_refusal, put_refusal, put_reply, row_of}
+use Rattle.pod_reply.specs.PatchReplies.{IsApplied, IsBodyOutcome, IsPatchReply, changing_reply, guard_refusal, new_row, outcome_reply, patch_refusal, patched_triples, triples_after}
+use Rattle.pod_reply.specs.PostReplies.{IsMade as IsMemberMade, IsMemberReply, IsNamedReply, IsPostReply, IsPosted, containment_refusal, judged_member, member_refusal}
+use Rattle.pod_reply.specs.PutReplies.{IsUnlessRefused, made_response, make_reply, making_edits, place_refusal, put_refusal, put_reply, row_of}
 use Rattle.pod_reply.specs.Replies.{Reply, change_reply, entry_of}
 use Rattle.pod_reply.specs.Reply.{agent_of, body_base, origin_of}
 use Rattle.pod_reply.specs.Shapes.{shape_of}
@@ -199,7 +199,7 @@ module _ (pod : Pod) (request : Request) (asked : AskedAgent) (seq : ℕ) (stamp
       (λ guard. change_row_kind body change (is_row pod.rows path) a is none (right_change body (patched_triples (row_at pod.rows path)) change h) guard refl)
 
   patched_kind : (body : RequestBody) (told : Reply) (o : Option Response) → IsAsked pod request asked path body bases → request.method ≡ Patch
-      → patch_refusal pod request seq path ≡ o → IsPatchedUnless o (IsApplied pod request path (origin_of asked seq stamp) bases body) told
+      → patch_refusal pod request seq path ≡ o → IsUnlessRefused o (IsApplied pod request path (origin_of asked seq stamp) bases body) told
       → Kind pod request asked seq stamp told
   patched_kind body told (Some response) a is e h =
       (let plain : IsPlain response = subst AllPlain e (patch_plain pod request seq path) in
@@ -272,7 +272,7 @@ module _ (pod : Pod) (request : Request) (asked : AskedAgent) (seq : ℕ) (stamp
       → request.method ≡ Post → is_row pod.rows path ≡ true
       → IsMemberPath pod path (stem_of (slug request.fields)) (links_to_container request.fields) member
       → member_refusal pod request seq path member content ≡ o
-      → IsMadeUnless o (IsMemberMade pod request path (origin_of asked seq stamp) bases member) told → Kind pod request asked seq stamp told
+      → IsUnlessRefused o (IsMemberMade pod request path (origin_of asked seq stamp) bases member) told → Kind pod request asked seq stamp told
   unless_member_kind content member told (Some response) a is here named e h =
       (let plain : IsPlain response = subst AllPlain e (member_plain pod request seq path member content) in
       subst (Kind pod request asked seq stamp) (sym h) (refused response plain))
@@ -291,7 +291,7 @@ module _ (pod : Pod) (request : Request) (asked : AskedAgent) (seq : ℕ) (stamp
 
   posted_kind : (content : RowContent) (told : Reply) (exists : Bool) → IsAsked pod request asked path (Content content) bases → request.method ≡ Post
       → is_row pod.rows path ≡ exists
-      → IsMadeUnless (refuse_if (not exists) (refusal 404 (codes "missing"))) (IsPosted pod request path (origin_of asked seq stamp) bases content) told
+      → IsUnlessRefused (refuse_if (not exists) (refusal 404 (codes "missing"))) (IsPosted pod request path (origin_of asked seq stamp) bases content) told
       → Kind pod request asked seq stamp told
   posted_kind content told false a is here h =
       subst (Kind pod request asked seq stamp) (sym h) (refused (refusal 404 (codes "missing")) (record { status = refl; fields = refl }))

@@ -21,9 +21,9 @@ use Rattle.pod_path.specs.Hierarchy.{is_acl, is_auxiliary, uri_of}
 use Rattle.pod_reply.specs.DeleteReplies.{delete_edits, delete_refusal, delete_reply, removal_refusal}
 use Rattle.pod_reply.specs.MemberNames.{IsFreeIn, IsNamed}
 use Rattle.pod_reply.specs.Obstacles.{condition_refusal, conflict, first_of, refuse_if}
-use Rattle.pod_reply.specs.PatchReplies.{IsApplied, IsBodyOutcome, IsPatchReply, IsPatchedUnless, changing_reply, is_bytes_row, new_row, outcome_reply, patch_refusal, patched_triples, triples_after}
-use Rattle.pod_reply.specs.PostReplies.{IsMade, IsMadeUnless, IsMemberReply, IsNamedReply, IsPostReply, IsPosted, containment_refusal, member_refusal, member_reply}
-use Rattle.pod_reply.specs.PutReplies.{make_reply, made_response, making_edits, put_refusal, put_reply, put_row_reply, row_of, unless_refused}
+use Rattle.pod_reply.specs.PatchReplies.{IsApplied, IsBodyOutcome, IsPatchReply, changing_reply, is_bytes_row, new_row, outcome_reply, patch_refusal, patched_triples, triples_after}
+use Rattle.pod_reply.specs.PostReplies.{IsMade, IsMemberReply, IsNamedReply, IsPostReply, IsPosted, containment_refusal, member_refusal, member_reply}
+use Rattle.pod_reply.specs.PutReplies.{IsUnlessRefused, make_reply, made_response, making_edits, put_refusal, put_reply, put_row_reply, row_of, unless_refused}
 use Rattle.pod_reply.specs.Replies.{Reply, change_reply, entry_of}
 use Rattle.pod_reply.specs.Shapes.{has_conditions, has_deletions}
 use Rattle.pod_reply.specs.declared.origin.Origin.{Origin}
@@ -48,17 +48,10 @@ use Rattle.slug_naming.specs.Stems.{stem_of}
 
 -- ---- what is in the way, and what is made unless it is
 
-made_unless : (a b : Option Response) (P Q : Reply → Type 0) (reply : Reply) → a ≡ b → (P reply → Q reply) → IsMadeUnless a P reply → IsMadeUnless b Q reply
-made_unless a b P Q reply e f h = subst (λ (o : Option Response). IsMadeUnless o Q reply) e (by_refusal a h)
+made_unless : (a b : Option Response) (P Q : Reply → Type 0) (reply : Reply) → a ≡ b → (P reply → Q reply) → IsUnlessRefused a P reply → IsUnlessRefused b Q reply
+made_unless a b P Q reply e f h = subst (λ (o : Option Response). IsUnlessRefused o Q reply) e (by_refusal a h)
   where
-    by_refusal : (o : Option Response) → IsMadeUnless o P reply → IsMadeUnless o Q reply
-    by_refusal (Some response) h = h
-    by_refusal None h = f h
-
-patched_unless : (a b : Option Response) (P Q : Reply → Type 0) (reply : Reply) → a ≡ b → (P reply → Q reply) → IsPatchedUnless a P reply → IsPatchedUnless b Q reply
-patched_unless a b P Q reply e f h = subst (λ (o : Option Response). IsPatchedUnless o Q reply) e (by_refusal a h)
-  where
-    by_refusal : (o : Option Response) → IsPatchedUnless o P reply → IsPatchedUnless o Q reply
+    by_refusal : (o : Option Response) → IsUnlessRefused o P reply → IsUnlessRefused o Q reply
     by_refusal (Some response) h = h
     by_refusal None h = f h
 
@@ -257,6 +250,6 @@ module _ (agent : Agent) (p q : Pod) (alike : Alike agent p q) (request : Reques
       → (has_conditions body ≡ true → row_at p.rows path ≡ row_at q.rows path) → (has_deletions body ≡ true → row_at p.rows path ≡ row_at q.rows path)
       → IsPatchReply p request path origin bases body reply → IsPatchReply q request path origin bases body reply
   same_patch origin bases body reply c d h =
-      patched_unless (patch_refusal p request origin.seq path) (patch_refusal q request origin.seq path)
+      made_unless (patch_refusal p request origin.seq path) (patch_refusal q request origin.seq path)
       (IsApplied p request path origin bases body) (IsApplied q request path origin bases body) reply
       (patch_refused origin.seq) (applied_is origin bases body reply c d) h

@@ -7,8 +7,8 @@ use Rattle.pod_base.specs.declared.response.Response.{Response}
 use Rattle.pod_command.specs.declared.basis.Basis.{Basis}
 use Rattle.pod_reply.specs.AccessRank.{access_of}
 use Rattle.pod_reply.specs.DeleteReplies.{delete_reply}
-use Rattle.pod_reply.specs.PatchReplies.{IsApplied, IsPatchedUnless, outcome_reply, patch_refusal}
-use Rattle.pod_reply.specs.PutReplies.{put_reply}
+use Rattle.pod_reply.specs.PatchReplies.{IsApplied, outcome_reply, patch_refusal}
+use Rattle.pod_reply.specs.PutReplies.{IsUnlessRefused, put_reply}
 use Rattle.pod_reply.specs.ReadReplies.{read_reply}
 use Rattle.pod_reply.specs.Replies.{Reply, unchanged}
 use Rattle.pod_reply.specs.Reply.{HasContent, IsAdmittedReply, IsGrantedReply, IsMethodReply, body_base, origin_of, sent}
@@ -127,7 +127,7 @@ module _ (pod : Pod) (request : Request) (asked : AskedAgent) (seq : ℕ) (stamp
     post_outcome well_formed bytes is read (Ok body) means = granted body means (post_method well_formed bytes is read body means)
 
     -- a PATCH
-    patched_unless : (body : RequestBody) (bases : List Basis) → SomeChange pod path body → (refused : Option Response) → (reply : Reply) × IsPatchedUnless refused (IsApplied pod request path origin bases body) reply
+    patched_unless : (body : RequestBody) (bases : List Basis) → SomeChange pod path body → (refused : Option Response) → (reply : Reply) × IsUnlessRefused refused (IsApplied pod request path origin bases body) reply
     patched_unless body bases change (Some response) = (unchanged response, refl)
     patched_unless body bases change None = (
       outcome_reply pod request path origin bases change.outcome,

@@ -1,32 +1,22 @@
-use Rattle.std.proofs.Common.{Ok, Err, sym, ◌∙◌}
-use Rattle.std.specs.Option.{option_copied}
-use Rattle.std.proofs.lemmas.Result.{IfOk-weaker}
-use Rattle.pod_reply.specs.Replies.{reply_of}
-use Rattle.pod_reply.proofs.DispatchLemmas.{named_is, posted}
+use Rattle.std.proofs.Common.{rules, Ok, Err, refl}
+use Rattle.pod_reply.specs.declared.stop.Stop.TheVariants.{Refused}
+use Rattle.pod_reply.proofs.RankLemmas.{made_ends, posted, refused_ends, told_ends}
 use Rattle.pod_reply.proofs.post_reply.post.Goals as goal
 
-pub returns-in-Ok : goal.returns-in-Ok
-returns-in-Ok g c =
-    let pod = g.S.PodState.pod c.args.state.now in
-    IfOk-weaker c.post_named.result _ _
-    (λ replied h. posted pod c.args.request.now c.args.path.now c.args.origin.now c.args.bases.items c.args.content (reply_of replied)
-    (sym (c.taken.ensures ∙ g.met.S.PodState.rows_are c.args.state.now c.args.path.now) ∙ c.if-not-taken.false)
-    (record {
-      named = Ok c.in-Ok.member;
-      is = named_is pod c.args.request.now c.args.path.now (option_copied c.slug.result) c.links_to_container.result
-          c.in_ok-named.named (Ok c.in-Ok.member) c.slug.ensures c.links_to_container.ensures c.in-Ok.is c.in_ok-named.ensures.named;
-      follows = h;
-    }))
-    c.post_named.ensures
+pub returns-in_err-member : goal.returns-in_err-member
+returns-in_err-member g c =
+    told_ends c.from_residual-in_err-member.result c.in_err-member.field-0.0 _ _ (search rules)
+    (λ response named. posted c.args.context.now c.args.bases.items c.args.content (Err response) (Err (Refused response))
+    c.in_ok-find_row.ensures.0 named refl) c.in_err-member.ensures
 
-pub returns-in-Err : goal.returns-in-Err
-returns-in-Err g c =
-    let pod = g.S.PodState.pod c.args.state.now in
-    posted pod c.args.request.now c.args.path.now c.args.origin.now c.args.bases.items c.args.content (reply_of c.unchanged-in-Err.result)
-    (sym (c.taken.ensures ∙ g.met.S.PodState.rows_are c.args.state.now c.args.path.now) ∙ c.if-not-taken.false)
-    (record {
-      named = Err c.in-Err.response;
-      is = named_is pod c.args.request.now c.args.path.now (option_copied c.slug.result) c.links_to_container.result
-          c.in_ok-named.named (Err c.in-Err.response) c.slug.ensures c.links_to_container.ensures c.in-Err.is c.in_ok-named.ensures.named;
-      follows = c.unchanged-in-Err.ensures;
-    })
+pub returns-in_err-refuse_member : goal.returns-in_err-refuse_member
+returns-in_err-refuse_member g c =
+    posted c.args.context.now c.args.bases.items c.args.content (Ok c.in_ok-member.member)
+    c.from_residual-in_err-refuse_member.result c.in_ok-find_row.ensures.0 c.in_ok-member.ensures
+    (refused_ends _ c.in_err-refuse_member.field-0.0 _ _ (search rules) c.in_err-refuse_member.ensures)
+
+pub returns : goal.returns
+returns g c =
+    posted c.args.context.now c.args.bases.items c.args.content (Ok c.in_ok-member.member) c.post_read.result
+    c.in_ok-find_row.ensures.0 c.in_ok-member.ensures
+    (made_ends c.post_read.result _ _ c.in_ok-refuse_member.ensures.0 c.post_read.ensures)
