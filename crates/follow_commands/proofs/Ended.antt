@@ -1,10 +1,9 @@
 -- What was written and reported, by the end.
-use Rattle.std.proofs.Common.{◌≡◌, ◌⊎◌, inl, inr, ℕ, List, Option, Result, Ok, Err, refl, sym, subst, rules}
+use Rattle.std.proofs.Common.{◌≡◌, inl, ℕ, List, Option, Result, Ok, Err, refl, sym, subst, rules}
 use Rattle.std.specs.Prelude.{IsErr}
 use Rattle.journal_log.specs.declared.fault.OpenFault.{OpenFault}
 use Rattle.journal_log.specs.declared.fault.OpenFault.TheVariants as opening
 use Rattle.line_sink.specs.Writing.{ExtendsBy, ExtendsByPart, Writes}
-use Rattle.pod_base.specs.Counts.{CountIncreased}
 use Rattle.pod_command.specs.declared.entry.Entry.{Entry}
 use Rattle.pod_command.specs.declared.snapshot.Snapshot.{Snapshot}
 use Rattle.pod_follow.specs.Frames.{frames_of}
@@ -12,20 +11,15 @@ use Rattle.pod_io.specs.declared.source.Failed.{Failed}
 use Rattle.pod_keeper.specs.KeeperState.{KeeperState}
 use Rattle.pod_keeper.specs.OpenedPods.{IsOpened}
 use Rattle.pod_records.specs.OpenedStores.{HasPodCause}
-use Rattle.store_lines.specs.Refusals.{TellsRefusal}
-use Rattle.store_commands.specs.Prints.{IsStoreOf, Prints, Tells}
+use Rattle.store_commands.specs.Ends.{refused_end}
+use Rattle.store_commands.specs.Prints.{Prints, Tells}
 use Rattle.store_commands.specs.declared.ends.StoreEnd.{StoreEnd}
 use Rattle.store_commands.specs.declared.ends.StoreEnd.TheVariants as ends
-use Rattle.follow_commands.specs.Endings.{AreStored, IsReportedSo, refused_end, written_end}
+use Rattle.store_commands.proofs.Refused.{store_of}
+use Rattle.follow_commands.specs.Endings.{AreStored, IsReportedSo, written_end}
 use Rattle.follow_commands.specs.Ships.{Ships}
 
 -- ---- a store that wasn't opened
-
-pub refused_tells : (fault : OpenFault) (old new : Option (List ℕ)) (before after : ℕ) → TellsRefusal fault old new before after → Tells (refused_end fault) old new before after
-refused_tells opening.Empty old new before after told = told
-refused_tells (opening.Damaged side at) old new before after told = told
-refused_tells opening.DiskFault old new before after told = told
-refused_tells opening.NoMemory old new before after told = told
 
 module _ (first second : Option (List ℕ)) (a a_new b b_new : ℕ) (old : Option (List ℕ)) where
   pub refused_ships : (fault : OpenFault) → HasPodCause first second a a_new b b_new fault → Ships first second old old (refused_end fault)
@@ -34,35 +28,7 @@ module _ (first second : Option (List ℕ)) (a a_new b b_new : ℕ) (old : Optio
   refused_ships opening.DiskFault cause = refl
   refused_ships opening.NoMemory cause = refl
 
-  pub refused_prints : (text : Snapshot → List Entry → List ℕ) (fault : OpenFault) → HasPodCause first second a a_new b b_new fault → Prints text first second old old (refused_end fault)
-  refused_prints text opening.Empty cause = (cause, refl)
-  refused_prints text (opening.Damaged side at) cause = (cause, refl)
-  refused_prints text opening.DiskFault cause = refl
-  refused_prints text opening.NoMemory cause = inl refl
-
-pub refused_disk : (first second : Option (List ℕ)) (a a_new b b_new : ℕ) (fault : OpenFault) → HasPodCause first second a a_new b b_new fault → refused_end fault ≡ ends.DiskFault → CountIncreased a a_new ⊎ CountIncreased b b_new
-refused_disk first second a a_new b b_new opening.Empty cause e = search (rules, e)
-refused_disk first second a a_new b b_new (opening.Damaged side at) cause e = search (rules, e)
-refused_disk first second a a_new b b_new opening.DiskFault cause e = cause
-refused_disk first second a a_new b b_new opening.NoMemory cause e = search (rules, e)
-
-pub refused_write : (fault : OpenFault) → refused_end fault ≡ ends.WriteFault → ⊥
-refused_write opening.Empty e = search (rules, e)
-refused_write (opening.Damaged side at) e = search (rules, e)
-refused_write opening.DiskFault e = search (rules, e)
-refused_write opening.NoMemory e = search (rules, e)
-
 -- ---- a store that was opened
-
-pub store_of : {D : Type 0} (image : D → List ℕ → Type 0) (first second : Option (List ℕ)) (bodies : List (List ℕ)) (keeper : KeeperState D) (h : IsOpened image first second bodies keeper) → IsStoreOf first second h.snapshot h.entries
-store_of image first second bodies keeper h = record {
-  side = keeper.pair.active;
-  format = keeper.pair.journal.format;
-  epoch = keeper.pair.journal.epoch;
-  bodies = bodies;
-  holds = h.holds;
-  stands = h.stands;
-}
 
 pub are_stored : {D : Type 0} (image : D → List ℕ → Type 0) (first second : Option (List ℕ)) (bodies : List (List ℕ)) (keeper : KeeperState D) → IsOpened image first second bodies keeper → AreStored first second bodies
 unfolding store_of

@@ -1,8 +1,5 @@
--- How a command ends whose store wasn't opened, or whose output was written, and what was read of
--- one that was opened.
+-- How a command ends whose output was written, and what was read of a store that was opened.
 use Rattle.std.specs.Prelude.{◌≡◌, ℕ, List, Option, Result, Ok, Err}
-use Rattle.journal_log.specs.declared.fault.OpenFault.{OpenFault}
-use Rattle.journal_log.specs.declared.fault.OpenFault.TheVariants as opening
 use Rattle.line_sink.specs.Writing.{ExtendsBy, ExtendsByPart}
 use Rattle.pod_command.specs.declared.entry.Entry.{Entry}
 use Rattle.pod_command.specs.declared.snapshot.Snapshot.{Snapshot}
@@ -14,12 +11,6 @@ use Rattle.store_commands.specs.declared.ends.StoreEnd.TheVariants as ends
 abbrev pub written_end : Result (Unit {0}) Failed → StoreEnd
 written_end (Ok done) = ends.Done
 written_end (Err failed) = ends.WriteFault
-
-abbrev pub refused_end : OpenFault → StoreEnd
-refused_end opening.Empty = ends.Empty
-refused_end (opening.Damaged side at) = ends.Damaged side at
-refused_end opening.DiskFault = ends.DiskFault
-refused_end opening.NoMemory = ends.NoMemory
 
 -- What an output has of a report, by the end: all of it, a part of it where a write failed, or
 -- nothing, out of memory.

@@ -6,7 +6,7 @@ ghost use Rattle.follow_commands.specs.Endings.{IsReportedSo};
 ghost use Rattle.follow_commands.specs.Lines.{pod_text, report_text};
 ghost use Rattle.store_commands.specs.Prints.{Prints, Tells};
 
-use crate::ends::{refuse, written_end};
+use crate::ends::written_end;
 use crate::lines::report_text;
 use line_sink::write_all;
 use pod_base::Agent;
@@ -14,7 +14,7 @@ use pod_disk::{Disk, Disks};
 use pod_io::Sink;
 use pod_keeper::Keeper;
 use std::alloc::Global;
-use store_commands::{Ended, StoreEnd};
+use store_commands::{Ended, StoreEnd, refuse};
 
 /// Prints what an agent may do in the pod of a store, and returns how that ended.
 fn print_report<D: Disk, K: Sink>(

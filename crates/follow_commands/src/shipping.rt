@@ -10,7 +10,7 @@ ghost use Rattle.follow_commands.specs.Endings.{AreStored};
 ghost use Rattle.follow_commands.specs.Ships.{Ships};
 ghost use Rattle.store_commands.specs.Prints.{Tells};
 
-use crate::ends::{refuse, written_end};
+use crate::ends::written_end;
 use line_sink::write_all;
 use pod_base::{Bytes, List};
 use pod_disk::{Disk, Disks};
@@ -18,7 +18,7 @@ use pod_follow::frame_head;
 use pod_io::{Failed, Sink};
 use pod_keeper::{Keeper, NotOpened};
 use std::alloc::Global;
-use store_commands::{Ended, StoreEnd};
+use store_commands::{Ended, StoreEnd, refuse};
 
 /// Writes the frame of a record.
 fn write_frame<K: Sink>(output: &mut K, body: &[u8]) -> Result<(), Failed>

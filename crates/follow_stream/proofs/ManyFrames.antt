@@ -81,24 +81,6 @@ stopped_in fault old mid new bytes rest body more out out_mid out_now f is stopp
   leaves = leaves_of fault mid.follower rest body more out_mid out_now is stopped;
 }
 
--- out of memory after frames
-pub stopped_after : (old new : Following) (bytes rest : List ℕ) (out out_now : Option (List ℕ)) → FollowedTo old bytes rest new out out_now → Stopped faults.NoMemory old bytes new out out_now
-stopped_after old new bytes rest out out_now f = record {
-  bodies = f.bodies;
-  rest = rest;
-  text = f.text;
-  state = new.follower;
-  mid = out_now;
-  parts = f.parts;
-  follows = f.follows;
-  frames = f.frames;
-  written = f.written;
-  leaves = refl;
-}
-
-pub stopped_before : (old : Following) (bytes : List ℕ) (out : Option (List ℕ)) → Stopped faults.NoMemory old bytes old out out
-stopped_before old bytes out = stopped_after old old bytes bytes out out (followed_none old bytes out)
-
 -- before a frame that is too long
 pub stopped_too_long : (old new : Following) (bytes rest : List ℕ) (out out_now : Option (List ℕ)) → FollowedTo old bytes rest new out out_now → NeverEnds rest → Stopped faults.TooLong old bytes new out out_now
 stopped_too_long old new bytes rest out out_now f never = record {

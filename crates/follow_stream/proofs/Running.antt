@@ -10,7 +10,7 @@ use Rattle.pod_follow.specs.Frames.{HasNoFrame, frame_of, frames_of}
 use Rattle.pod_io.specs.Counts.{next_count}
 use Rattle.pod_pipe.specs.Streams.{AddsReads, AtEnd, Reads}
 use Rattle.pod_rows.specs.State.{NumberedPod}
-use Rattle.follow_stream.specs.Ends.{BreaksAt, ComesOf, CountsInput, CutsResponse, EndsInside, EndsWhole, FollowsInput, IsUnfinished, MeetsEnd}
+use Rattle.follow_stream.specs.Ends.{ComesOf, CountsInput, EndsSo, FollowsInput, IsUnfinished, MeetsEnd}
 use Rattle.follow_stream.specs.Following.{Follows, FollowsAll, IsRefused}
 use Rattle.follow_stream.specs.Steps.{FollowedTo, Leaves, Stopped, end_at, end_of, fault_end}
 use Rattle.follow_stream.specs.declared.end.FollowEnd.{FollowEnd}
@@ -74,67 +74,35 @@ no_bodies (body ∷ bodies) text (mid, first, rest, one, others, is) =
 module _ (first last : Option (List ℕ)) (following : Following) (kept : List ℕ) (out out_now : Option (List ℕ)) (count : ℕ) (r : Running first last following kept out out_now count) where
   -- ---- ends between frames
 
-  pub read_fault : (end_last : Option (List ℕ)) → end_last ≡ last → FollowsInput ends.ReadFault first end_last out out_now
-  read_fault end_last same = record {
+  -- nothing was written after the responses
+  between : (end : FollowEnd) (end_last : Option (List ℕ)) → Reads r.read first end_last → EndsSo r.read r.followed.bodies kept following.follower [] end_last end → FollowsInput end first end_last out out_now
+  between end end_last reads so = record {
     read = r.read;
     bodies = r.followed.bodies;
     rest = kept;
     text = r.followed.text;
     state = following.follower;
     part = [];
-    reads = subst (Reads r.read first) (sym same) r.reads;
+    reads = reads;
     parts = r.followed.parts;
     follows = r.followed.follows;
     writes = nothing_more r.followed.text out out_now r.followed.written;
-    ends = (r.unfinished, refl);
+    ends = so;
   }
 
+  pub read_fault : (end_last : Option (List ℕ)) → end_last ≡ last → FollowsInput ends.ReadFault first end_last out out_now
+  read_fault end_last same = between ends.ReadFault end_last (subst (Reads r.read first) (sym same) r.reads) (r.unfinished, refl)
+
   pub read_limit : 2 ^ 40 ≤ count → FollowsInput ends.ReadLimit first last out out_now
-  read_limit many = record {
-    read = r.read;
-    bodies = r.followed.bodies;
-    rest = kept;
-    text = r.followed.text;
-    state = following.follower;
-    part = [];
-    reads = r.reads;
-    parts = r.followed.parts;
-    follows = r.followed.follows;
-    writes = nothing_more r.followed.text out out_now r.followed.written;
-    ends = (r.unfinished, refl, omega (arith, many, r.long));
-  }
+  read_limit many = between ends.ReadLimit last r.reads (r.unfinished, refl, omega (arith, many, r.long))
 
   -- the input ended
   module _ (end_last : Option (List ℕ)) (reads : Reads r.read first end_last) (at_end : AtEnd end_last) where
     whole_end : (state : NumberedPod) → following.follower ≡ Some state → kept ≡ [] → FollowsInput (ends.Done state.next) first end_last out out_now
-    whole_end state is none = record {
-      read = r.read;
-      bodies = r.followed.bodies;
-      rest = kept;
-      text = r.followed.text;
-      state = following.follower;
-      part = [];
-      reads = reads;
-      parts = r.followed.parts;
-      follows = r.followed.follows;
-      writes = nothing_more r.followed.text out out_now r.followed.written;
-      ends = (record { last = state; state_is = is; next_is = refl; nothing_left = none; at_end = at_end }, refl);
-    }
+    whole_end state is none = between (ends.Done state.next) end_last reads (record { last = state; state_is = is; next_is = refl; nothing_left = none; at_end = at_end }, refl)
 
     cut_end : ((kept ≡ [] → ⊥) ⊎ (r.followed.bodies ≡ [])) → FollowsInput (ends.BadFrame following.frames) first end_last out out_now
-    cut_end cut = record {
-      read = r.read;
-      bodies = r.followed.bodies;
-      rest = kept;
-      text = r.followed.text;
-      state = following.follower;
-      part = [];
-      reads = reads;
-      parts = r.followed.parts;
-      follows = r.followed.follows;
-      writes = nothing_more r.followed.text out out_now r.followed.written;
-      ends = (omega (arith, r.followed.frames), refl, inr (inr (record { unfinished = r.unfinished; cut = cut; at_end = at_end })));
-    }
+    cut_end cut = between (ends.BadFrame following.frames) end_last reads (omega (arith, r.followed.frames), refl, inr (inr (record { unfinished = r.unfinished; cut = cut; at_end = at_end })))
 
     by_state : (state : Option NumberedPod) (whole : Bool) → following.follower ≡ state → (whole ≡ true → kept ≡ []) → (whole ≡ false → kept ≡ [] → ⊥) → FollowsInput (end_of state following.frames whole) first end_last out out_now
     by_state (Some state) true is none some = whole_end state is (none refl)
@@ -156,64 +124,36 @@ module _ (first last : Option (List ℕ)) (following : Following) (kept : List �
       long = omega (arith, r.long, some, length-append r.read piece);
     }
 
-    -- frames were no longer taken
-    ended : (fault : FrameFault) (s : Stopped fault begun (r.read ++ piece) new out out_new) → Leaves fault s.state s.rest s.mid out_new → FollowsInput (fault_end fault new.frames) first piece_last out out_new
-    ended faults.Refused s (body, more, whole, refused, same) = record {
+    -- frames were no longer taken, and this was written after the responses
+    stopped : (fault : FrameFault) (s : Stopped fault begun (r.read ++ piece) new out out_new) (part : List ℕ) (end : FollowEnd) → ExtendsBy (s.text ++ part) out out_new → EndsSo (r.read ++ piece) s.bodies s.rest s.state part piece_last end → FollowsInput end first piece_last out out_new
+    stopped fault s part end writes so = record {
       read = r.read ++ piece;
       bodies = s.bodies;
       rest = s.rest;
       text = s.text;
       state = s.state;
-      part = [];
+      part = part;
       reads = reads;
       parts = s.parts;
       follows = s.follows;
-      writes = nothing_more s.text out out_new (subst (ExtendsBy s.text out) (sym same) s.written);
-      ends = (omega (arith, s.frames), refl, inl (record { body = body; more = more; whole = whole; refused = refused }));
-    }
-    ended faults.TooLong s (never, same) = record {
-      read = r.read ++ piece;
-      bodies = s.bodies;
-      rest = s.rest;
-      text = s.text;
-      state = s.state;
-      part = [];
-      reads = reads;
-      parts = s.parts;
-      follows = s.follows;
-      writes = nothing_more s.text out out_new (subst (ExtendsBy s.text out) (sym same) s.written);
-      ends = (omega (arith, s.frames), refl, inr (inl never));
-    }
-    ended faults.WriteFault s (body, more, whole, text, after, follows, part) = record {
-      read = r.read ++ piece;
-      bodies = s.bodies;
-      rest = s.rest;
-      text = s.text;
-      state = s.state;
-      part = take part.0 text;
-      reads = reads;
-      parts = s.parts;
-      follows = s.follows;
-      writes = extends_more out s.mid out_new s.text (take part.0 text) s.written part.2;
-      ends = inl (record { body = body; more = more; text = text; after = after; whole = whole; follows = follows; count = part.0; less = part.1; part_is = refl });
-    }
-    ended faults.NoMemory s same = record {
-      read = r.read ++ piece;
-      bodies = s.bodies;
-      rest = s.rest;
-      text = s.text;
-      state = s.state;
-      part = [];
-      reads = reads;
-      parts = s.parts;
-      follows = s.follows;
-      writes = nothing_more s.text out out_new (subst (ExtendsBy s.text out) (sym same) s.written);
-      ends = refl;
+      writes = writes;
+      ends = so;
     }
 
+    ended : (fault : FrameFault) (s : Stopped fault begun (r.read ++ piece) new out out_new) → Leaves fault s.state s.rest s.mid out_new → FollowsInput (fault_end fault new.frames) first piece_last out out_new
+    ended faults.Refused s (body, more, whole, refused, same) =
+        stopped faults.Refused s [] (fault_end faults.Refused new.frames) (nothing_more s.text out out_new (subst (ExtendsBy s.text out) (sym same) s.written))
+        (omega (arith, s.frames), refl, inl (record { body = body; more = more; whole = whole; refused = refused }))
+    ended faults.TooLong s (never, same) =
+        stopped faults.TooLong s [] (fault_end faults.TooLong new.frames) (nothing_more s.text out out_new (subst (ExtendsBy s.text out) (sym same) s.written)) (omega (arith, s.frames), refl, inr (inl never))
+    ended faults.WriteFault s (body, more, whole, text, after, follows, part) =
+        stopped faults.WriteFault s (take part.0 text) (fault_end faults.WriteFault new.frames) (extends_more out s.mid out_new s.text (take part.0 text) s.written part.2)
+        (inl (record { body = body; more = more; text = text; after = after; whole = whole; follows = follows; count = part.0; less = part.1; part_is = refl }))
+    ended faults.NoMemory s same = stopped faults.NoMemory s [] (fault_end faults.NoMemory new.frames) (nothing_more s.text out out_new (subst (ExtendsBy s.text out) (sym same) s.written)) refl
+
     pub faulted : (fault : FrameFault) → Stopped fault following (kept ++ piece) new out_now out_new → FollowsInput (fault_end fault new.frames) first piece_last out out_new
-    faulted fault stopped =
-        let s = stopped_join fault begun following new r.read piece kept out out_now out_new r.followed stopped in
+    faulted fault stop =
+        let s = stopped_join fault begun following new r.read piece kept out out_now out_new r.followed stop in
         ended fault s s.leaves
 
 -- ---- the last line

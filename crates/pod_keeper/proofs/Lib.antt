@@ -1,5 +1,5 @@
--- kept for the crates above: the moment of a change at the end of a history, histories and
--- versions with more entries, and what a commit is as an item of a run
+-- kept for the crates above: the moment of a change at the end of a history, the versions at the
+-- ends of histories, and what a commit is as an item of a run
 pub mod Stamps
 pub mod HistoryLaws
 pub mod TakenItems

@@ -1,5 +1,6 @@
 -- What a keeper stands for when it was opened.
 use Rattle.std.proofs.Common.{◌≡◌, inl, inr, ℕ, ◌≤◌, List, Option, Result, Ok, Err, IfOk, IfErr, refl, sym, ap, ◌∙◌, subst}
+use Rattle.journal_log.specs.Opening.{IsNormalizing}
 use Rattle.journal_log.specs.declared.fault.Side.TheVariants.{First, Second}
 use Rattle.journal_pair.specs.Causes.{IfBothVisible}
 use Rattle.journal_pair.specs.PairJournal.{IsPairClean}
@@ -48,39 +49,30 @@ module _ {D : Type 0} (image : D → List ℕ → Type 0) (first second : D) (pa
         };
       }
 
+-- a torn gate of one of these images is one of that image alone
+of_itself : (images : List ℕ → Type 0) (c : List ℕ) (torn : IsNormalizing images c) → IsNormalizing (λ image. image ≡ torn.from) c
+of_itself images c torn = record {
+  from = torn.from;
+  was = refl;
+  format = torn.format;
+  epoch = torn.epoch;
+  bodies = torn.bodies;
+  body = torn.body;
+  gate = torn.gate;
+  torn = torn.torn;
+  gated = torn.gated;
+  stood = torn.stood;
+  changed = torn.changed;
+  stands = torn.stands;
+}
+
 module _ {D : Type 0} (image : D → List ℕ → Type 0) (moment : D → ℕ) (left_since : D → ℕ → List ℕ → Type 0) (faults : D → ℕ) (first second first_new second_new : D) where
   -- what was so of each pair of images stays so while torn gates are written
   mended : (P : List ℕ → List ℕ → Type 0) → EachPair (image first) (image second) (ThoughMended P) → (c d : List ℕ) → IsWhileStoreOpened image first second c d → P c d
   mended P each c d (First, inl was, other) = (each c d was other).now
-  mended P each c d (First, inr torn, other) = (each torn.from d torn.was other).mended_first c (record {
-    from = torn.from;
-    was = refl;
-    format = torn.format;
-    epoch = torn.epoch;
-    bodies = torn.bodies;
-    body = torn.body;
-    gate = torn.gate;
-    torn = torn.torn;
-    gated = torn.gated;
-    stood = torn.stood;
-    changed = torn.changed;
-    stands = torn.stands;
-  })
+  mended P each c d (First, inr torn, other) = (each torn.from d torn.was other).mended_first c (of_itself (image first) c torn)
   mended P each c d (Second, inl was, other) = (each c d other was).now
-  mended P each c d (Second, inr torn, other) = (each c torn.from other torn.was).mended_second d (record {
-    from = torn.from;
-    was = refl;
-    format = torn.format;
-    epoch = torn.epoch;
-    bodies = torn.bodies;
-    body = torn.body;
-    gate = torn.gate;
-    torn = torn.torn;
-    gated = torn.gated;
-    stood = torn.stood;
-    changed = torn.changed;
-    stands = torn.stands;
-  })
+  mended P each c d (Second, inr torn, other) = (each c torn.from other torn.was).mended_second d (of_itself (image second) d torn)
 
   pub opens_disks : LeavesPairs moment left_since first second first_new second_new (IsWhileStoreOpened image first second) → moment first ≤ moment first_new → moment second ≤ moment second_new → faults first ≤ faults first_new → faults second ≤ faults second_new
       → OpensDisks image moment left_since faults first second first_new second_new

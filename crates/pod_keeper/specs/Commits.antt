@@ -4,7 +4,6 @@ use Rattle.std.specs.Prelude.{None}
 use Rattle.journal_pair.specs.PairMoments.{ThroughOpenings}
 use Rattle.journal_pair.specs.PairState.{PairState}
 use Rattle.journal_pair.specs.Sides.{opposite_of}
-use Rattle.pair_writes.specs.Doubts.{IsSure, IsLong}
 use Rattle.pair_writes.specs.Together.{LeavesTogether}
 use Rattle.pod_base.specs.declared.moment.Moment.{Moment}
 use Rattle.pod_base.specs.declared.moment.Stamp.{Stamp}
@@ -14,6 +13,7 @@ use Rattle.pod_command.specs.declared.entry.Entry.{Entry}
 use Rattle.pod_core.specs.History.{History, end_of, longer}
 use Rattle.pod_core.specs.KeeperSteps.{IsReplyAtEnd}
 use Rattle.pod_keeper.specs.CrashedPods.{StandsForOneOf}
+use Rattle.pod_keeper.specs.KeeperDisks.{HasLongDisks, HasSureDisks}
 use Rattle.pod_keeper.specs.Kept.{Doubt, certain, entered, checkpointed, entries_in, IsKept}
 use Rattle.pod_keeper.specs.KeeperState.{KeeperState, IsCheckpointDue}
 use Rattle.pod_reply.specs.Replies.{Reply}
@@ -68,8 +68,7 @@ module _ {D : Type 0} (image : D → List ℕ → Type 0) (old new : KeeperState
   -- A checkpoint succeeded: the disk that was active is passed over, and has the place of a first
   -- gate.
   abbrev pub IsRenewed : Type 0
-  IsRenewed = IsSure image new.first new.second new.pair
-      × IsLong image new.first new.second new.pair
+  IsRenewed = HasSureDisks image new × HasLongDisks image new
 
   -- After an entry: the history with it, and nothing in doubt.
   pub record IsGrown (entry : Entry) : Type 0 where

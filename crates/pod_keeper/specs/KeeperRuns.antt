@@ -2,7 +2,6 @@
 -- of it, and whose the entry in doubt is.
 use Rattle.std.specs.Prelude.{◌≡◌, ◌⊎◌, ℕ, List, [], ◌∷◌, ◌++◌, Option, Some, None}
 use Rattle.std.specs.Option.{option_to_list}
-use Rattle.pair_writes.specs.Doubts.{IsSure, IsLong}
 use Rattle.pod_base.specs.declared.moment.Stamp.{Stamp}
 use Rattle.pod_command.specs.declared.entry.Entry.{Entry}
 use Rattle.pod_core.specs.History.{History, longer}
@@ -10,8 +9,9 @@ use Rattle.pod_core.specs.Session.{IsClockMoment, Item, Outcome, answered, no_me
 use Rattle.pod_core.specs.Session.{entries_of}
 use Rattle.pod_keeper.specs.CommitEvents.{entry_in_doubt}
 use Rattle.pod_keeper.specs.Commits.{IsEntryAtEnd, LeavesPodsOf}
+use Rattle.pod_keeper.specs.KeeperDisks.{HasLongWhereDue, HasSureDisks, StaysLong, StaysSure}
 use Rattle.pod_keeper.specs.Kept.{Doubt, IsKept}
-use Rattle.pod_keeper.specs.KeeperState.{KeeperState, IsCheckpointDue}
+use Rattle.pod_keeper.specs.KeeperState.{KeeperState}
 
 -- The keeper represents the history, with that entry in doubt: a crash may leave it after the end.
 pub record StandsWith {D : Type 0} (image : D → List ℕ → Type 0) (keeper : KeeperState D)
@@ -74,16 +74,11 @@ module _ {D : Type 0} (image : D → List ℕ → Type 0) (moment : D → ℕ)
     pub stands : StandsWith image new (longer history (entries_of item)) doubt_new
     pub in_doubt : IsDoubtAfter item.outcome doubt under_way doubt_new
     pub same : under_way ≡ None → new ≡ old
-    pub leaves : IsSure image old.first old.second old.pair
-        → (IsCheckpointDue old.pair → IsLong image old.first old.second old.pair)
+    pub leaves : HasSureDisks image old → HasLongWhereDue image old
         → LeavesPodsOf moment left_since old new history
         (option_to_list doubt ++ option_to_list under_way)
-    pub sure : IsSure image old.first old.second old.pair
-        → (IsCheckpointDue old.pair → IsLong image old.first old.second old.pair)
-        → IsSure image new.first new.second new.pair
-    pub long : IsSure image old.first old.second old.pair
-        → IsLong image old.first old.second old.pair
-        → IsLong image new.first new.second new.pair
+    pub sure : StaysSure image old new
+    pub long : StaysLong image old new
 
   -- Items one after the other, by the keepers between them and what is in doubt there.
   abbrev pub TakesItems : (ℕ → Type 0) → KeeperState D → History → Option Entry → List ConnItem

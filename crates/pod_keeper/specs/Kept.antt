@@ -66,6 +66,12 @@ pub record IsKept {D : Type 0} (image : D → List ℕ → Type 0) (keeper : Kee
   pub stored : IsStored history keeper.pair.journal.format place bodies
   pub disks : HasOnDisks image keeper.first keeper.second keeper.pair history bodies doubt
 
+-- for each history that the keeper represents
+abbrev pub ForEachHistory : {D : Type 0} → (D → List ℕ → Type 0) → KeeperState D
+    → (History → ℕ → Doubt → Type 0) → Type 0
+ForEachHistory image keeper P = (history : History) (place : ℕ) (doubt : Doubt)
+    → IsKept image keeper history place doubt → P history place doubt
+
 -- it represents some history
 abbrev pub StandsForSome : {D : Type 0} → (D → List ℕ → Type 0) → KeeperState D → Type 0
 StandsForSome image keeper = (history : History) × (place : ℕ) × (doubt : Doubt)

@@ -4,6 +4,7 @@ pub mod CrashedPods
 -- what a keeper represents, and what its calls do to it
 pub mod KeeperState
 pub mod Kept
+pub mod KeeperDisks
 pub mod Commits
 pub mod Plans
 pub mod CommitEvents

@@ -2,11 +2,11 @@
 use Rattle.std.specs.Prelude.{◌⊎◌, ◌≤◌, ℕ, List, [], ◌∷◌, ◌++◌, Option}
 use Rattle.std.specs.Option.{option_to_list}
 use Rattle.journal_pair.specs.PairMoments.{ThroughOpenings}
-use Rattle.pair_writes.specs.Doubts.{IsSure, IsLong}
 use Rattle.pod_command.specs.declared.entry.Entry.{Entry}
 use Rattle.pod_core.specs.History.{History, longer}
 use Rattle.pod_core.specs.Session.{entries_of}
 use Rattle.pod_keeper.specs.CrashedPods.{StandsForOneOf}
+use Rattle.pod_keeper.specs.KeeperDisks.{HasLongDisks, HasSureDisks}
 use Rattle.pod_keeper.specs.KeeperRuns.{ConnItem, TakesItems}
 use Rattle.pod_keeper.specs.KeeperState.{KeeperState}
 
@@ -61,5 +61,5 @@ module _ {D : Type 0} (image : D → List ℕ → Type 0) (moment : D → ℕ)
   MomentsAreOfSteps = (old : KeeperState D) (history : History) (doubt : Option Entry)
       (items : List ConnItem) (new : KeeperState D) (doubt_new : Option Entry)
       (steps : TakesItems image moment left_since may_give old history doubt items new doubt_new)
-      → IsSure image old.first old.second old.pair → IsLong image old.first old.second old.pair
+      → HasSureDisks image old → HasLongDisks image old
       → AreOfSteps old history doubt items new doubt_new steps

@@ -1,14 +1,13 @@
 //! A planned entry is written to the disks, and applied.
 
-ghost use Rattle.std.specs.Prelude.{◌≡◌, ◌⊎◌, ◌≤◌, ◌++◌, ◌∷◌, [], ℕ, Some, IfOk, OnOk, OnErr};
+ghost use Rattle.std.specs.Prelude.{◌≡◌, ◌≤◌, ◌++◌, ◌∷◌, [], Some, IfOk, OnOk, OnErr};
 ghost use Rattle.std.specs.Arc.{arc_value};
-ghost use Rattle.pair_writes.specs.Doubts.{IsSure, IsLong};
-ghost use Rattle.pod_base.specs.Counts.{CountIncreased};
 ghost use Rattle.pod_command.specs.Bare.{bare_entry};
-ghost use Rattle.pod_core.specs.History.{History};
 ghost use Rattle.pod_keeper.specs.Commits.{IsGrown, IsLeftFaulted, LeavesPodsOf};
-ghost use Rattle.pod_keeper.specs.Kept.{Doubt, entries_in, IsKept, StandsForSome};
-ghost use Rattle.pod_keeper.specs.KeeperState.{version_in, IsCheckpointDue};
+ghost use Rattle.pod_keeper.specs.KeeperDisks.{ForEachWhereSure, IncreasesFaults};
+ghost use Rattle.pod_keeper.specs.KeeperDisks.{StaysLong, StaysSure};
+ghost use Rattle.pod_keeper.specs.Kept.{entries_in, ForEachHistory, StandsForSome};
+ghost use Rattle.pod_keeper.specs.KeeperState.{version_in};
 ghost use Rattle.pod_keeper.specs.Plans.{IsPlannedAt};
 
 use crate::keeper::Keeper;
@@ -32,12 +31,10 @@ impl<D: Disk> Keeper<D> {
         ensures entry { IfOk result (λ entry. entry ≡ planned.entry) }
 
         // For each history that the keeper represented.
-        ensures grown { OnOk result ((history : History) (place : ℕ) (doubt : Doubt)
-            → IsKept D.image self.old history place doubt
-            → IsGrown D.image self.old self.new history place (bare_entry planned.entry)) }
-        ensures fault { OnErr result ((history : History) (place : ℕ) (doubt : Doubt)
-            → IsKept D.image self.old history place doubt
-            → IsLeftFaulted D.image self.new history place doubt (bare_entry planned.entry)) }
+        ensures grown { OnOk result (ForEachHistory D.image self.old (λ history place doubt.
+            IsGrown D.image self.old self.new history place (bare_entry planned.entry))) }
+        ensures fault { OnErr result (ForEachHistory D.image self.old (λ history place doubt.
+            IsLeftFaulted D.image self.new history place doubt (bare_entry planned.entry))) }
         ensures stands { StandsForSome D.image self.new }
 
         // The version and the last moment.
@@ -47,25 +44,14 @@ impl<D: Disk> Keeper<D> {
         ensures last_stays { OnErr result (self.new.last ≡ self.old.last) }
 
         // At each moment.
-        ensures pairs { (history : History) (place : ℕ) (doubt : Doubt)
-            → IsKept D.image self.old history place doubt
-            → IsSure D.image self.old.first self.old.second self.old.pair
-            → (IsCheckpointDue self.old.pair
-            → IsLong D.image self.old.first self.old.second self.old.pair)
-            → LeavesPodsOf D.moment D.left_since self.old self.new history
-            (entries_in doubt ++ bare_entry planned.entry ∷ []) }
-        ensures sure { IsSure D.image self.old.first self.old.second self.old.pair
-            → (IsCheckpointDue self.old.pair
-            → IsLong D.image self.old.first self.old.second self.old.pair)
-            → IsSure D.image self.new.first self.new.second self.new.pair }
-        ensures long { IsSure D.image self.old.first self.old.second self.old.pair
-            → IsLong D.image self.old.first self.old.second self.old.pair
-            → IsLong D.image self.new.first self.new.second self.new.pair }
+        ensures pairs { ForEachWhereSure D.image self.old (λ history doubt.
+            LeavesPodsOf D.moment D.left_since self.old self.new history
+            (entries_in doubt ++ bare_entry planned.entry ∷ [])) }
+        ensures sure { StaysSure D.image self.old self.new }
+        ensures long { StaysLong D.image self.old self.new }
         ensures no_fewer_first { D.faults self.old.first ≤ D.faults self.new.first }
         ensures no_fewer_second { D.faults self.old.second ≤ D.faults self.new.second }
-        ensures counted { OnErr result
-            (CountIncreased (D.faults self.old.first) (D.faults self.new.first)
-            ⊎ CountIncreased (D.faults self.old.second) (D.faults self.new.second)) }
+        ensures counted { OnErr result (IncreasesFaults D.faults self.old self.new) }
     {
         let Planned {
             entry,

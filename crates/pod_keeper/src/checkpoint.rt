@@ -1,11 +1,10 @@
 //! Checkpoints of a keeper.
 
-ghost use Rattle.std.specs.Prelude.{◌≡◌, ◌⊎◌, ◌≤◌, ◌<◌, ◌^◌, ℕ, IsOk, OnOk, IsErrOf};
-ghost use Rattle.pair_writes.specs.Doubts.{IsSure, IsLong};
-ghost use Rattle.pod_base.specs.Counts.{CountIncreased};
-ghost use Rattle.pod_core.specs.History.{History};
+ghost use Rattle.std.specs.Prelude.{◌≡◌, ◌≤◌, ◌<◌, ◌^◌, IsOk, OnOk, IsErrOf};
 ghost use Rattle.pod_keeper.specs.Commits.{IsCheckpointed, IsCheckpointFaulted, LeavesPodsOf};
-ghost use Rattle.pod_keeper.specs.Kept.{Doubt, entries_in, IsKept, StandsForSome};
+ghost use Rattle.pod_keeper.specs.KeeperDisks.{HasLongDisks, HasSureDisks, IncreasesFaults};
+ghost use Rattle.pod_keeper.specs.KeeperDisks.{StaysLong};
+ghost use Rattle.pod_keeper.specs.Kept.{entries_in, ForEachHistory, StandsForSome};
 
 use crate::fault::CommitFault;
 use crate::keeper::Keeper;
@@ -30,34 +29,26 @@ impl<D: Disk> Keeper<D> {
 
         // For each history that the keeper represented.
         ensures done { OnOk result (self.old.pair.journal.epoch < 2 ^ 63
-            → (history : History) (place : ℕ) (doubt : Doubt)
-            → IsKept D.image self.old history place doubt
-            → IsCheckpointed D.image self.old self.new history place) }
+            → ForEachHistory D.image self.old (λ history place doubt.
+            IsCheckpointed D.image self.old self.new history place)) }
         ensures last { self.old.pair.journal.epoch ≡ 2 ^ 63 → IsOk result × (self.new ≡ self.old) }
         ensures fault { IsErrOf result CommitFault.DiskFault
-            → (history : History) (place : ℕ) (doubt : Doubt)
-            → IsKept D.image self.old history place doubt
-            → IsCheckpointFaulted D.image self.old self.new history place doubt }
+            → ForEachHistory D.image self.old (λ history place doubt.
+            IsCheckpointFaulted D.image self.old self.new history place doubt) }
         ensures memory { IsErrOf result CommitFault.NoMemory → self.new ≡ self.old }
         ensures stands { StandsForSome D.image self.new }
 
         // At each moment.
-        ensures pairs { (history : History) (place : ℕ) (doubt : Doubt)
-            → IsKept D.image self.old history place doubt
-            → IsSure D.image self.old.first self.old.second self.old.pair
-            → IsLong D.image self.old.first self.old.second self.old.pair
-            → LeavesPodsOf D.moment D.left_since self.old self.new history (entries_in doubt) }
-        ensures sure { IsSure D.image self.old.first self.old.second self.old.pair
-            → IsLong D.image self.old.first self.old.second self.old.pair
-            → IsSure D.image self.new.first self.new.second self.new.pair }
-        ensures long { IsSure D.image self.old.first self.old.second self.old.pair
-            → IsLong D.image self.old.first self.old.second self.old.pair
-            → IsLong D.image self.new.first self.new.second self.new.pair }
+        ensures pairs { ForEachHistory D.image self.old (λ history place doubt.
+            HasSureDisks D.image self.old → HasLongDisks D.image self.old
+            → LeavesPodsOf D.moment D.left_since self.old self.new history (entries_in doubt)) }
+        ensures sure { HasSureDisks D.image self.old → HasLongDisks D.image self.old
+            → HasSureDisks D.image self.new }
+        ensures long { StaysLong D.image self.old self.new }
         ensures no_fewer_first { D.faults self.old.first ≤ D.faults self.new.first }
         ensures no_fewer_second { D.faults self.old.second ≤ D.faults self.new.second }
         ensures counted { IsErrOf result CommitFault.DiskFault
-            → CountIncreased (D.faults self.old.first) (D.faults self.new.first)
-            ⊎ CountIncreased (D.faults self.old.second) (D.faults self.new.second) }
+            → IncreasesFaults D.faults self.old self.new }
     {
         if self.pair.epoch() < EPOCH_LIMIT {
             self.renew(alloc)
@@ -70,31 +61,23 @@ impl<D: Disk> Keeper<D> {
     fn renew(&mut self, alloc: Global) -> Result<(), CommitFault>
         requires below { self.old.pair.journal.epoch < 2 ^ 63 }
         requires stands { StandsForSome D.image self.old }
-        ensures done { OnOk result ((history : History) (place : ℕ) (doubt : Doubt)
-            → IsKept D.image self.old history place doubt
-            → IsCheckpointed D.image self.old self.new history place) }
+        ensures done { OnOk result (ForEachHistory D.image self.old (λ history place doubt.
+            IsCheckpointed D.image self.old self.new history place)) }
         ensures fault { IsErrOf result CommitFault.DiskFault
-            → (history : History) (place : ℕ) (doubt : Doubt)
-            → IsKept D.image self.old history place doubt
-            → IsCheckpointFaulted D.image self.old self.new history place doubt }
+            → ForEachHistory D.image self.old (λ history place doubt.
+            IsCheckpointFaulted D.image self.old self.new history place doubt) }
         ensures memory { IsErrOf result CommitFault.NoMemory → self.new ≡ self.old }
         ensures stands { StandsForSome D.image self.new }
-        ensures pairs { (history : History) (place : ℕ) (doubt : Doubt)
-            → IsKept D.image self.old history place doubt
-            → IsSure D.image self.old.first self.old.second self.old.pair
-            → IsLong D.image self.old.first self.old.second self.old.pair
-            → LeavesPodsOf D.moment D.left_since self.old self.new history (entries_in doubt) }
-        ensures sure { IsSure D.image self.old.first self.old.second self.old.pair
-            → IsLong D.image self.old.first self.old.second self.old.pair
-            → IsSure D.image self.new.first self.new.second self.new.pair }
-        ensures long { IsSure D.image self.old.first self.old.second self.old.pair
-            → IsLong D.image self.old.first self.old.second self.old.pair
-            → IsLong D.image self.new.first self.new.second self.new.pair }
+        ensures pairs { ForEachHistory D.image self.old (λ history place doubt.
+            HasSureDisks D.image self.old → HasLongDisks D.image self.old
+            → LeavesPodsOf D.moment D.left_since self.old self.new history (entries_in doubt)) }
+        ensures sure { HasSureDisks D.image self.old → HasLongDisks D.image self.old
+            → HasSureDisks D.image self.new }
+        ensures long { StaysLong D.image self.old self.new }
         ensures no_fewer_first { D.faults self.old.first ≤ D.faults self.new.first }
         ensures no_fewer_second { D.faults self.old.second ≤ D.faults self.new.second }
         ensures counted { IsErrOf result CommitFault.DiskFault
-            → CountIncreased (D.faults self.old.first) (D.faults self.new.first)
-            ⊎ CountIncreased (D.faults self.old.second) (D.faults self.new.second) }
+            → IncreasesFaults D.faults self.old self.new }
     {
         match snapshot_record(alloc, &*self.version) {
             Ok(snapshot) => match checkpoint(&mut self.pair, &mut self.disks, &snapshot) {

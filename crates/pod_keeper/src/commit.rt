@@ -1,16 +1,14 @@
 //! Commits: a change is answered, made durable, and applied.
 
-ghost use Rattle.std.specs.Prelude.{◌≡◌, ◌⊎◌, ◌≤◌, ◌++◌, ℕ};
+ghost use Rattle.std.specs.Prelude.{◌≡◌, ◌≤◌, ◌++◌};
 ghost use Rattle.std.specs.Prelude.{IfOk, OnOk, OnErr, IfSome, IsErrOf, IsTrue};
 ghost use Rattle.std.specs.Option.{option_to_list};
-ghost use Rattle.pair_writes.specs.Doubts.{IsSure, IsLong};
-ghost use Rattle.pod_base.specs.Counts.{CountIncreased};
-ghost use Rattle.pod_core.specs.History.{History};
 ghost use Rattle.pod_keeper.specs.Commits.{LeavesPods, LeavesPodsOf, FollowsReply};
 ghost use Rattle.pod_keeper.specs.Commits.{IsCommitted, IsCommitFaulted, IsLeftByEntry};
 ghost use Rattle.pod_keeper.specs.CommitEvents.{IsDoneByEvents, IsFailedByEvents};
-ghost use Rattle.pod_keeper.specs.Kept.{Doubt, entries_in, IsKept, StandsForSome};
-ghost use Rattle.pod_keeper.specs.KeeperState.{IsCheckpointDue};
+ghost use Rattle.pod_keeper.specs.KeeperDisks.{ForEachWhereSure, IncreasesFaults};
+ghost use Rattle.pod_keeper.specs.KeeperDisks.{StaysLong, StaysSure};
+ghost use Rattle.pod_keeper.specs.Kept.{entries_in, ForEachHistory, StandsForSome};
 ghost use Rattle.pod_keeper.specs.Plans.{planned_entry, IsPlannedAt};
 ghost use Rattle.reply_laws.specs.Granted.{is_change};
 ghost use Rattle.reply_laws.specs.Laws.{IsNoFailure};
@@ -48,53 +46,38 @@ impl<D: Disk> Keeper<D> {
         requires stands { StandsForSome D.image self.old }
 
         // For each history that the keeper represented.
-        ensures done { IfOk result (λ done. (history : History) (place : ℕ) (doubt : Doubt)
-            → IsKept D.image self.old history place doubt
-            → IsCommitted D.image self.old self.new history place request.now
-            (asked_view asked.now) stamp done.response done.place) }
+        ensures done { IfOk result (λ done. ForEachHistory D.image self.old (λ history place doubt.
+            IsCommitted D.image self.old self.new history place request.now
+            (asked_view asked.now) stamp done.response done.place)) }
         ensures fault { IsErrOf result CommitFault.DiskFault
-            → (history : History) (place : ℕ) (doubt : Doubt)
-            → IsKept D.image self.old history place doubt
-            → IsCommitFaulted D.image self.old self.new history place doubt request.now
-            (asked_view asked.now) stamp }
+            → ForEachHistory D.image self.old (λ history place doubt.
+            IsCommitFaulted D.image self.old self.new history place doubt request.now
+            (asked_view asked.now) stamp) }
         ensures memory { IsErrOf result CommitFault.NoMemory → self.new ≡ self.old }
         ensures stands { StandsForSome D.image self.new }
 
         // For each of them, by the events of a world: the change is taken, an entry in doubt is
         // repaired, the entry's record is written, and its gate is opened, each with the outcome
         // that the disks returned.
-        ensures world_done { IfOk result (λ done. (history : History) (place : ℕ) (doubt : Doubt)
-            → IsKept D.image self.old history place doubt
-            → IsDoneByEvents D.image self.new history doubt request.now
-            (asked_view asked.now) stamp done.response) }
+        ensures world_done { IfOk result (λ done. ForEachHistory D.image self.old
+            (λ history place doubt. IsDoneByEvents D.image self.new history doubt request.now
+            (asked_view asked.now) stamp done.response)) }
         ensures world_fault { IsErrOf result CommitFault.DiskFault
-            → (history : History) (place : ℕ) (doubt : Doubt)
-            → IsKept D.image self.old history place doubt
-            → IsFailedByEvents D.image self.new history doubt request.now
-            (asked_view asked.now) stamp }
+            → ForEachHistory D.image self.old (λ history place doubt.
+            IsFailedByEvents D.image self.new history doubt request.now
+            (asked_view asked.now) stamp) }
         ensures sent { IfOk result (λ done. IsSent done.response) }
         ensures status { IfOk result (λ done. IsNoFailure done.response.status) }
 
         // At each moment.
-        ensures pairs { (history : History) (place : ℕ) (doubt : Doubt)
-            → IsKept D.image self.old history place doubt
-            → IsSure D.image self.old.first self.old.second self.old.pair
-            → (IsCheckpointDue self.old.pair
-            → IsLong D.image self.old.first self.old.second self.old.pair)
-            → LeavesPods D.moment D.left_since self.old self.new history doubt request.now
-            (asked_view asked.now) stamp }
-        ensures sure { IsSure D.image self.old.first self.old.second self.old.pair
-            → (IsCheckpointDue self.old.pair
-            → IsLong D.image self.old.first self.old.second self.old.pair)
-            → IsSure D.image self.new.first self.new.second self.new.pair }
-        ensures long { IsSure D.image self.old.first self.old.second self.old.pair
-            → IsLong D.image self.old.first self.old.second self.old.pair
-            → IsLong D.image self.new.first self.new.second self.new.pair }
+        ensures pairs { ForEachWhereSure D.image self.old (λ history doubt. LeavesPods D.moment
+            D.left_since self.old self.new history doubt request.now (asked_view asked.now) stamp) }
+        ensures sure { StaysSure D.image self.old self.new }
+        ensures long { StaysLong D.image self.old self.new }
         ensures no_fewer_first { D.faults self.old.first ≤ D.faults self.new.first }
         ensures no_fewer_second { D.faults self.old.second ≤ D.faults self.new.second }
         ensures counted { IsErrOf result CommitFault.DiskFault
-            → CountIncreased (D.faults self.old.first) (D.faults self.new.first)
-            ⊎ CountIncreased (D.faults self.old.second) (D.faults self.new.second) }
+            → IncreasesFaults D.faults self.old self.new }
     {
         match self.plan(alloc, request, asked, stamp) {
             Ok(plan) => {
@@ -116,34 +99,19 @@ impl<D: Disk> Keeper<D> {
     fn carry_out(&mut self, next: Option<Planned>) -> Result<(), DiskFault>
         requires planned { IfSome next (IsPlannedAt self.old) }
         requires stands { StandsForSome D.image self.old }
-        ensures follows { OnOk result ((history : History) (place : ℕ) (doubt : Doubt)
-            → IsKept D.image self.old history place doubt
-            → FollowsReply D.image self.old self.new history place
-            (planned_entry next)) }
-        ensures fault { OnErr result ((history : History) (place : ℕ) (doubt : Doubt)
-            → IsKept D.image self.old history place doubt
-            → IsLeftByEntry D.image self.new history place doubt
-            (planned_entry next)) }
+        ensures follows { OnOk result (ForEachHistory D.image self.old (λ history place doubt.
+            FollowsReply D.image self.old self.new history place (planned_entry next))) }
+        ensures fault { OnErr result (ForEachHistory D.image self.old (λ history place doubt.
+            IsLeftByEntry D.image self.new history place doubt (planned_entry next))) }
         ensures stands { StandsForSome D.image self.new }
-        ensures pairs { (history : History) (place : ℕ) (doubt : Doubt)
-            → IsKept D.image self.old history place doubt
-            → IsSure D.image self.old.first self.old.second self.old.pair
-            → (IsCheckpointDue self.old.pair
-            → IsLong D.image self.old.first self.old.second self.old.pair)
-            → LeavesPodsOf D.moment D.left_since self.old self.new history
-            (entries_in doubt ++ option_to_list (planned_entry next)) }
-        ensures sure { IsSure D.image self.old.first self.old.second self.old.pair
-            → (IsCheckpointDue self.old.pair
-            → IsLong D.image self.old.first self.old.second self.old.pair)
-            → IsSure D.image self.new.first self.new.second self.new.pair }
-        ensures long { IsSure D.image self.old.first self.old.second self.old.pair
-            → IsLong D.image self.old.first self.old.second self.old.pair
-            → IsLong D.image self.new.first self.new.second self.new.pair }
+        ensures pairs { ForEachWhereSure D.image self.old (λ history doubt.
+            LeavesPodsOf D.moment D.left_since self.old self.new history
+            (entries_in doubt ++ option_to_list (planned_entry next))) }
+        ensures sure { StaysSure D.image self.old self.new }
+        ensures long { StaysLong D.image self.old self.new }
         ensures no_fewer_first { D.faults self.old.first ≤ D.faults self.new.first }
         ensures no_fewer_second { D.faults self.old.second ≤ D.faults self.new.second }
-        ensures counted { OnErr result
-            (CountIncreased (D.faults self.old.first) (D.faults self.new.first)
-            ⊎ CountIncreased (D.faults self.old.second) (D.faults self.new.second)) }
+        ensures counted { OnErr result (IncreasesFaults D.faults self.old self.new) }
     {
         match next {
             Some(planned) => match self.carry(planned) {

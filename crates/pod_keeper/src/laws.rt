@@ -2,10 +2,9 @@
 //! contract of each of these functions is a law, and it does nothing.
 ghost use Rattle.std.specs.Prelude.{ℕ, List};
 ghost use Rattle.journal_pair.specs.PairMoments.{EachPair, ThroughOpenings};
-ghost use Rattle.pair_writes.specs.Doubts.{IsSure};
-ghost use Rattle.pod_core.specs.History.{History};
 ghost use Rattle.pod_keeper.specs.CrashedPods.{StandsForOneOf};
-ghost use Rattle.pod_keeper.specs.Kept.{Doubt, entries_in, IsKept};
+ghost use Rattle.pod_keeper.specs.KeeperDisks.{HasSureDisks};
+ghost use Rattle.pod_keeper.specs.Kept.{entries_in, ForEachHistory};
 ghost use Rattle.pod_keeper.specs.RunMoments.{MomentsAreOfSteps};
 
 use crate::keeper::Keeper;
@@ -26,11 +25,10 @@ impl<D: Disk> Keeper<D> {
     /// Every pair of crash images of a keeper's disks represents its history, or it with the entry
     /// in doubt, and so do those that crashes leave of it while it is opened, however often.
     pub fn crash_images_stand(&self)
-        ensures { (history : History) (place : ℕ) (doubt : Doubt)
-            → IsKept D.image self.now history place doubt
-            → IsSure D.image self.now.first self.now.second self.now.pair
+        ensures { ForEachHistory D.image self.now (λ history place doubt.
+            HasSureDisks D.image self.now
             → EachPair (D.image self.now.first) (D.image self.now.second)
-            (ThroughOpenings (StandsForOneOf history (entries_in doubt))) }
+            (ThroughOpenings (StandsForOneOf history (entries_in doubt)))) }
     {
         let _disks = &self.disks;
     }

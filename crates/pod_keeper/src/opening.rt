@@ -1,7 +1,7 @@
 //! Opening a store.
 
 ghost use Rattle.std.specs.Prelude.{◌≡◌, ◌+◌, ◌<◌, ◌^◌, ℕ, List as ListOf, ◌∷◌, IfOk, IfErr, OnOk};
-ghost use Rattle.pair_writes.specs.Doubts.{IsSure};
+ghost use Rattle.pod_keeper.specs.KeeperDisks.{HasSureDisks};
 ghost use Rattle.pod_keeper.specs.Kept.{StandsForSome};
 ghost use Rattle.pod_keeper.specs.OpenedPods.{IsOpened, OpensDisks};
 ghost use Rattle.pod_records.specs.OpenedStores.{HasPodCause};
@@ -70,8 +70,7 @@ impl<D: Disk> Keeper<D> {
         ensures opened { IfOk result (λ keeper. (bodies : ListOf (ListOf ℕ))
             × IsOpened D.image (D.content disks.first) (D.content disks.second) bodies keeper) }
         ensures stands { IfOk result (λ keeper. StandsForSome D.image keeper) }
-        ensures sure { IfOk result
-            (λ keeper. IsSure D.image keeper.first keeper.second keeper.pair) }
+        ensures sure { IfOk result (λ keeper. HasSureDisks D.image keeper) }
         ensures cause { IfErr result (λ refused.
             HasPodCause (D.content disks.first) (D.content disks.second)
             (D.faults disks.first) (D.faults refused.disks.first)
@@ -96,8 +95,7 @@ impl<D: Disk> Keeper<D> {
         ensures opened { IfOk result (λ opened. IsOpened D.image (D.content disks.first)
             (D.content disks.second) opened.1.items opened.0) }
         ensures stands { IfOk result (λ opened. StandsForSome D.image opened.0) }
-        ensures sure { IfOk result
-            (λ opened. IsSure D.image opened.0.first opened.0.second opened.0.pair) }
+        ensures sure { IfOk result (λ opened. HasSureDisks D.image opened.0) }
         ensures cause { IfErr result (λ refused.
             HasPodCause (D.content disks.first) (D.content disks.second)
             (D.faults disks.first) (D.faults refused.disks.first)

@@ -20,5 +20,5 @@ mod reading;
 mod texts;
 
 pub use opening::{OpenedStore, open_store};
-pub use reading::{Reading, RecordFault, read_records};
+pub use reading::{Reading, RecordFault, read_entry, read_records};
 pub use texts::{entry_record, record_of, snapshot_record};

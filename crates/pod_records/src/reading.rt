@@ -119,7 +119,7 @@ fn read_new(alloc: Global, text: &[u8]) -> Mem<Option<Entry>>
 }
 
 /// The entry of a record in this format. None where the record isn't the text of one.
-fn read_entry(alloc: Global, format: u8, text: &[u8]) -> Mem<Option<Entry>>
+pub fn read_entry(alloc: Global, format: u8, text: &[u8]) -> Mem<Option<Entry>>
     requires { (format ≡ 1) ⊎ (format ≡ 2) }
     ensures some { IfOk result (λ found. IfSome found (IsEntryRead format text.now)) }
     ensures none { IfOk result (λ found. found ≡ None

@@ -1,3 +1,5 @@
+-- for the crates above too
+pub mod Refused
 -- internal
 mod Excluded
 mod Lines

@@ -1,52 +1,20 @@
 -- What was printed, by the end.
 use Rattle.std.proofs.Common.{◌≡◌, ◌⊎◌, inl, inr, ℕ, List, map, length, Option, Result, Ok, Err, IsErrOf, refl, ◌∙◌, ap, subst, rules}
 use Rattle.std.proofs.lemmas.List.{length-map}
-use Rattle.journal_log.specs.declared.fault.OpenFault.{OpenFault}
-use Rattle.journal_log.specs.declared.fault.OpenFault.TheVariants as opening
 use Rattle.line_sink.specs.Writing.{Writes}
-use Rattle.pod_base.specs.Counts.{CountIncreased}
 use Rattle.pod_command.specs.declared.entry.Entry.{Entry}
 use Rattle.pod_command.specs.declared.snapshot.Snapshot.{Snapshot}
 use Rattle.pod_keeper.specs.KeeperState.{KeeperState}
 use Rattle.pod_keeper.specs.OpenedPods.{IsOpened}
-use Rattle.pod_records.specs.OpenedStores.{HasPodCause}
 use Rattle.pod_records.specs.Records.{entry_text}
-use Rattle.store_lines.specs.Refusals.{TellsRefusal}
 use Rattle.store_commands.specs.Prints.{IsStoreOf, Prints, Tells}
-use Rattle.store_commands.specs.Records.{printed_end, refused_end}
+use Rattle.store_commands.specs.Records.{printed_end}
 use Rattle.store_commands.specs.Ends.{IsMadeEnd}
 use Rattle.store_commands.specs.Texts.{check_text, counts_line}
 use Rattle.store_commands.specs.declared.ends.StoreEnd.{StoreEnd}
 use Rattle.store_commands.specs.declared.ends.StoreEnd.TheVariants as ends
 use Rattle.store_commands.specs.declared.printing.PrintFault.{PrintFault}
 use Rattle.store_commands.specs.declared.printing.PrintFault.TheVariants as printing
-
--- what is told of it is what the command tells by its end
-pub refused_tells : (fault : OpenFault) (old new : Option (List ℕ)) (before after : ℕ) → TellsRefusal fault old new before after → Tells (refused_end fault) old new before after
-refused_tells opening.Empty old new before after told = told
-refused_tells (opening.Damaged side at) old new before after told = told
-refused_tells opening.DiskFault old new before after told = told
-refused_tells opening.NoMemory old new before after told = told
-
--- a store that wasn't opened
-module _ (text : Snapshot → List Entry → List ℕ) (first second : Option (List ℕ)) (a a_new b b_new : ℕ) where
-  pub refused_prints : (old : Option (List ℕ)) (fault : OpenFault) → HasPodCause first second a a_new b b_new fault → Prints text first second old old (refused_end fault)
-  refused_prints old opening.Empty cause = (cause, refl)
-  refused_prints old (opening.Damaged side at) cause = (cause, refl)
-  refused_prints old opening.DiskFault cause = refl
-  refused_prints old opening.NoMemory cause = inl refl
-
-pub refused_disk : (first second : Option (List ℕ)) (a a_new b b_new : ℕ) (fault : OpenFault) → HasPodCause first second a a_new b b_new fault → refused_end fault ≡ ends.DiskFault → CountIncreased a a_new ⊎ CountIncreased b b_new
-refused_disk first second a a_new b b_new opening.Empty cause e = search (rules, e)
-refused_disk first second a a_new b b_new (opening.Damaged side at) cause e = search (rules, e)
-refused_disk first second a a_new b b_new opening.DiskFault cause e = cause
-refused_disk first second a a_new b b_new opening.NoMemory cause e = search (rules, e)
-
-pub refused_write : (fault : OpenFault) → refused_end fault ≡ ends.WriteFault → ⊥
-refused_write opening.Empty e = search (rules, e)
-refused_write (opening.Damaged side at) e = search (rules, e)
-refused_write opening.DiskFault e = search (rules, e)
-refused_write opening.NoMemory e = search (rules, e)
 
 -- a store that was opened
 module _ (text : Snapshot → List Entry → List ℕ) (first second old new : Option (List ℕ)) (snapshot : Snapshot) (entries : List Entry) (opened : IsStoreOf first second snapshot entries) where
@@ -69,17 +37,6 @@ pub printed_disk : (printed : Result (Unit {0}) PrintFault) → printed_end prin
 printed_disk (Ok done) e = search (rules, e)
 printed_disk (Err printing.WriteFault) e = search (rules, e)
 printed_disk (Err printing.NoMemory) e = search (rules, e)
-
--- what an opening gives
-pub store_of : {D : Type 0} (image : D → List ℕ → Type 0) (first second : Option (List ℕ)) (bodies : List (List ℕ)) (keeper : KeeperState D) (h : IsOpened image first second bodies keeper) → IsStoreOf first second h.snapshot h.entries
-store_of image first second bodies keeper h = record {
-  side = keeper.pair.active;
-  format = keeper.pair.journal.format;
-  epoch = keeper.pair.journal.epoch;
-  bodies = bodies;
-  holds = h.holds;
-  stands = h.stands;
-}
 
 -- the counts of that store
 counts_same : (rows rows_2 entries entries_2 next next_2 : ℕ) → rows ≡ rows_2 → entries ≡ entries_2 → next ≡ next_2 → counts_line rows entries next ≡ counts_line rows_2 entries_2 next_2

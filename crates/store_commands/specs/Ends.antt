@@ -1,5 +1,6 @@
 -- How a command of a store ends.
 use Rattle.std.specs.Prelude.{ℕ}
+use Rattle.journal_log.specs.declared.fault.OpenFault.{OpenFault}
 use Rattle.journal_log.specs.declared.fault.OpenFault.TheVariants as faulty
 use Rattle.store_lines.specs.Refusals.{open_status}
 use Rattle.store_commands.specs.declared.ends.StoreEnd.{StoreEnd}
@@ -29,6 +30,13 @@ IsInitEnd _ = ⊥
 abbrev pub IsPrintEnd : StoreEnd → Type 0
 IsPrintEnd NotEmpty = ⊥
 IsPrintEnd _ = Unit {0}
+
+-- the end of a command whose store wasn't opened
+abbrev pub refused_end : OpenFault → StoreEnd
+refused_end faulty.Empty = Empty
+refused_end (faulty.Damaged side at) = Damaged side at
+refused_end faulty.DiskFault = DiskFault
+refused_end faulty.NoMemory = NoMemory
 
 -- internal: the ends of making a store on two empty disks
 abbrev pub IsMadeEnd : StoreEnd → Type 0

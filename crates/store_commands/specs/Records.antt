@@ -1,8 +1,6 @@
 -- The lines of records, and how printing ends.
 use Rattle.std.specs.Prelude.{◌≡◌, ℕ, List, [], ◌∷◌, ◌++◌, Result, Ok, Err}
 use Rattle.audit_trail.specs.Lines.{entry_line}
-use Rattle.journal_log.specs.declared.fault.OpenFault.{OpenFault}
-use Rattle.journal_log.specs.declared.fault.OpenFault.TheVariants as opening
 use Rattle.pod_command.specs.declared.entry.Entry.{Entry}
 use Rattle.pod_records.specs.Readings.{IsEntryOf}
 use Rattle.store_commands.specs.declared.ends.StoreEnd.{StoreEnd}
@@ -29,10 +27,3 @@ abbrev pub printed_end : Result (Unit {0}) PrintFault → StoreEnd
 printed_end (Ok _) = ends.Done
 printed_end (Err printing.WriteFault) = ends.WriteFault
 printed_end (Err printing.NoMemory) = ends.NoMemory
-
--- the end of a command whose store wasn't opened
-abbrev pub refused_end : OpenFault → StoreEnd
-refused_end opening.Empty = ends.Empty
-refused_end (opening.Damaged side at) = ends.Damaged side at
-refused_end opening.DiskFault = ends.DiskFault
-refused_end opening.NoMemory = ends.NoMemory

@@ -26,3 +26,4 @@ pub use auditing::audit;
 pub use checking::check;
 pub use ends::{Ended, StoreEnd};
 pub use making::init;
+pub use printing::refuse;

@@ -1,7 +1,8 @@
 //! What the commands that print of a store share: their ends, and the entries among its records.
 ghost use Rattle.std.specs.Prelude.{◌≡◌, ◌≤◌, ◌∷◌, List as ListOf, ℕ};
+ghost use Rattle.store_commands.specs.Ends.{refused_end};
 ghost use Rattle.store_commands.specs.Prints.{Tells};
-ghost use Rattle.store_commands.specs.Records.{printed_end, refused_end};
+ghost use Rattle.store_commands.specs.Records.{printed_end};
 ghost use Rattle.store_commands.specs.declared.printing.PrintFault.TheVariants as faults;
 
 use crate::ends::{Ended, StoreEnd};
@@ -93,8 +94,8 @@ fn tell_fault<E: Sink>(errors: &mut E, fault: OpenFault) -> StoreEnd
     refused_end(fault)
 }
 
-/// Ends a command whose store wasn't opened.
-pub(crate) fn refuse<D: Disk, E: Sink>(refused: NotOpened<D>, errors: &mut E) -> Ended<D>
+/// Ends a command whose store wasn't opened, with its line where it is damaged.
+pub fn refuse<D: Disk, E: Sink>(refused: NotOpened<D>, errors: &mut E) -> Ended<D>
     ensures end { result.end ≡ refused_end refused.fault }
     ensures first { result.disks.first ≡ refused.disks.first }
     ensures second { result.disks.second ≡ refused.disks.second }

@@ -2,7 +2,8 @@ use Rattle.std.proofs.Common.{subst, sym, ◌∙◌}
 use Rattle.follow_commands.specs.Endings.{IsReportedSo}
 use Rattle.follow_commands.specs.Lines.{pod_text, report_text}
 use Rattle.store_commands.specs.Prints.{Prints, Tells}
-use Rattle.follow_commands.proofs.Ended.{prints, refused_disk, refused_prints, refused_write, reported_disk, reported_told}
+use Rattle.store_commands.proofs.Refused.{refused_disk, refused_prints, refused_write}
+use Rattle.follow_commands.proofs.Ended.{prints, reported_disk, reported_told}
 use Rattle.follow_commands.proofs.reporting.report.Goals as goal
 
 pub returns-in-Ok-clause-printed : goal.returns-in-Ok-clause-printed
@@ -22,4 +23,4 @@ returns-in-Err-clause-printed g c =
     let second = g.D.Disk.content c.args.disks.second in
     let old = g.K.Sink.taken c.args.output.now in
     subst (λ end. Prints (report_text c.args.agent.now) first second old old end) (sym c.refuse.ensures.end)
-    (refused_prints first second _ _ _ _ old (report_text c.args.agent.now) c.in-Err.refused.fault c.in-Err.ensures.cause)
+    (refused_prints (report_text c.args.agent.now) first second _ _ _ _ old c.in-Err.refused.fault c.in-Err.ensures.cause)

@@ -3,7 +3,8 @@ use Rattle.line_sink.specs.Writing.{Writes}
 use Rattle.pod_follow.specs.Frames.{frames_of}
 use Rattle.follow_commands.specs.Ships.{Ships}
 use Rattle.store_commands.specs.Prints.{Tells}
-use Rattle.follow_commands.proofs.Ended.{refused_disk, refused_ships, refused_write, ships, written_disk, written_fails, written_told}
+use Rattle.store_commands.proofs.Refused.{refused_disk, refused_write}
+use Rattle.follow_commands.proofs.Ended.{refused_ships, ships, written_disk, written_fails, written_told}
 use Rattle.follow_commands.proofs.shipping.ship.Goals as goal
 
 pub returns-in-Ok-clause-ships : goal.returns-in-Ok-clause-ships

@@ -5,7 +5,8 @@ use Rattle.store_commands.specs.Prints.{Prints}
 use Rattle.store_commands.specs.Records.{HaveLines}
 use Rattle.store_commands.specs.Texts.{audit_text}
 use Rattle.store_commands.proofs.Lines.{have_lines}
-use Rattle.store_commands.proofs.Printed.{prints, refused_prints, store_of}
+use Rattle.store_commands.proofs.Printed.{prints}
+use Rattle.store_commands.proofs.Refused.{refused_prints, store_of}
 use Rattle.store_commands.proofs.auditing.audit.Goals as goal
 
 pub print_entries-printed-requires : goal.print_entries-printed-requires

@@ -3,7 +3,8 @@ use Rattle.pod_command.specs.StoredForms.{snapshot_bytes}
 use Rattle.pod_records.specs.Records.{entry_text}
 use Rattle.store_commands.specs.Prints.{Prints}
 use Rattle.store_commands.specs.Texts.{check_text}
-use Rattle.store_commands.proofs.Printed.{checked, prints, refused_prints, store_of}
+use Rattle.store_commands.proofs.Printed.{checked, prints}
+use Rattle.store_commands.proofs.Refused.{refused_prints, store_of}
 use Rattle.store_commands.proofs.checking.check.Goals as goal
 
 pub returns-in-Ok-clause-printed : goal.returns-in-Ok-clause-printed

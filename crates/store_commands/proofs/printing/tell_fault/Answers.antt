@@ -1,6 +1,6 @@
 use Rattle.std.proofs.Common.{subst, sym}
 use Rattle.store_commands.specs.Prints.{Tells}
-use Rattle.store_commands.proofs.Printed.{refused_tells}
+use Rattle.store_commands.proofs.Refused.{refused_tells}
 use Rattle.store_commands.proofs.printing.tell_fault.Goals as goal
 
 pub returns-clause-told : goal.returns-clause-told
