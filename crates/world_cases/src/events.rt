@@ -1,21 +1,12 @@
 //! The events of a case's fields.
 
+use case_words::{bytes, first_word, number_of};
 use pod_base::{Bytes, Mem, Moment};
 use request_history::Event;
 use std::alloc::Global;
 
 /// The moment of events that name none.
 pub(crate) const MOMENT: u64 = 784_111_777;
-
-/// The number of a word: 0 where it has none.
-pub(crate) fn number(word: &str) -> u64 {
-    word.parse::<u64>().unwrap_or(0)
-}
-
-/// The first word of a field, and what follows it.
-pub(crate) fn first_word(field: &str) -> (&str, &str) {
-    field.split_once(' ').unwrap_or((field, ""))
-}
 
 /// The bytes that arrive.
 fn arrive(alloc: Global, conn: usize, piece: &[u8]) -> Mem<Event> {
@@ -45,7 +36,7 @@ fn moment(word: &str) -> Moment {
     if word.is_empty() {
         Moment(MOMENT)
     } else {
-        Moment(number(word))
+        Moment(number_of(word))
     }
 }
 
@@ -54,14 +45,14 @@ fn event_at(alloc: Global, word: &str, conn: usize, rest: &str) -> Mem<Option<Ev
     let (first, more) = first_word(rest);
     match word {
         "arrive" => {
-            let piece = case_lines::bytes(alloc, rest)?;
+            let piece = bytes(alloc, rest)?;
             Ok(Some(arrive(alloc, conn, piece.as_slice())?))
         }
         "get" => Ok(Some(get(alloc, conn, first)?)),
         "put" => Ok(Some(put(alloc, conn, first, more)?)),
         "look" => Ok(Some(Event::Look {
             conn,
-            place: number(first),
+            place: number_of(first),
             moment: moment(more),
         })),
         "take" => Ok(Some(Event::Take {
@@ -83,7 +74,7 @@ pub(crate) fn event(alloc: Global, field: &str) -> Mem<Option<Event>> {
         "publish" => Ok(Some(Event::Publish)),
         _ => {
             let (conn, more) = first_word(rest);
-            event_at(alloc, word, number(conn) as usize, more)
+            event_at(alloc, word, number_of(conn) as usize, more)
         }
     }
 }

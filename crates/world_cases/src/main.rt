@@ -27,7 +27,8 @@ mod events;
 mod runs;
 mod shown;
 
-use pod_base::{Mem, NoMemory};
+use case_words::known;
+use pod_base::Mem;
 use std::alloc::{AllocError, Global};
 use std::io;
 
@@ -40,12 +41,9 @@ fn case(alloc: Global, fields: &[&str]) -> Mem<String> {
 }
 
 fn answer(alloc: Global, fields: &[&str]) -> Result<String, AllocError> {
-    match case(alloc, fields) {
-        Ok(text) => Ok(text),
-        Err(NoMemory) => Err(AllocError),
-    }
+    known(case(alloc, fields))
 }
 
 fn main(rt: HostRuntime) -> io::Result<()> {
-    case_lines::run(&rt, answer)
+    case_words::run(&rt, answer)
 }

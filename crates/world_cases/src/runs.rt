@@ -2,13 +2,13 @@
 ghost use Rattle.std.specs.Prelude.{IfOk};
 ghost use Rattle.pod_rows.specs.WellFormed.{IsWellFormedSnapshot};
 
-use crate::events::{MOMENT, event, first_word, number};
+use crate::events::{MOMENT, event};
 use crate::shown::push_responses;
+use case_words::{first_word, iri_or_bad, number_of};
 use first_rows::first_snapshot;
-use iri_ref::Iri;
 use pod_base::{Bytes, Mem, Moment, NoMemory};
 use pod_command::Snapshot;
-use pod_rows::{StateFault, is_snapshot_well_formed};
+use pod_rows::is_snapshot_well_formed;
 use request_history::{Event, StepFault, World};
 use std::alloc::Global;
 use token_table::Tokens;
@@ -25,20 +25,12 @@ struct Run {
     noted: Vec<u8>,
 }
 
-/// The IRI of a text.
-fn iri(alloc: Global, text: &str) -> Mem<Iri> {
-    match Iri::read(alloc, text) {
-        Ok(iri) => Ok(iri),
-        Err(_) => Err(NoMemory),
-    }
-}
-
 /// The first pod.
 fn first(alloc: Global) -> Mem<Snapshot>
     ensures { IfOk result IsWellFormedSnapshot }
 {
-    let base = iri(alloc, "http://127.0.0.1:8080/")?;
-    let owner = iri(alloc, "https://alice.example/#me")?;
+    let base = iri_or_bad(alloc, "http://127.0.0.1:8080/")?;
+    let owner = iri_or_bad(alloc, "https://alice.example/#me")?;
     let snapshot = first_snapshot(alloc, &base, &owner, Moment(MOMENT))?;
     if !is_snapshot_well_formed(alloc, &snapshot)? {
         return Err(NoMemory);
@@ -65,25 +57,53 @@ fn name(outcome: Result<(), StepFault>) -> &'static str {
     }
 }
 
-/// A world that took these fields' events, as far as it could.
-fn replayed(alloc: Global, conns: usize, fields: &[&str]) -> Mem<World> {
-    let mut world = new_world(alloc, conns)?;
-    for field in fields {
-        if let Some(event) = event(alloc, field)? {
-            let _outcome = world.step(alloc, &event);
-        }
-    }
-    Ok(world)
+/// Takes an event.
+fn take(world: &mut World, alloc: Global, event: &Event) -> Result<(), StepFault> {
+    world.step(alloc, event)
 }
 
-/// What an open gate would add to the journal after these fields' events.
-fn record_after(alloc: Global, conns: usize, fields: &[&str]) -> Mem<Vec<u8>> {
-    let mut world = replayed(alloc, conns, fields)?;
+/// Takes these fields' events, as far as the world can.
+fn replay(world: &mut World, alloc: Global, fields: &[&str]) -> Mem<()> {
+    for field in fields {
+        if let Some(event) = event(alloc, field)? {
+            let _outcome = take(world, alloc, &event);
+        }
+    }
+    Ok(())
+}
+
+/// What an open gate adds to the journal of a world after these fields' events.
+fn record_of(world: &mut World, alloc: Global, fields: &[&str]) -> Mem<Vec<u8>> {
+    replay(world, alloc, fields)?;
     let before = world.journal().len();
-    let _outcome = world.step(alloc, &Event::Body { ok: true });
-    let _outcome = world.step(alloc, &Event::Gate { ok: true });
+    let _outcome = take(world, alloc, &Event::Body { ok: true });
+    let _outcome = take(world, alloc, &Event::Gate { ok: true });
     let journal = world.journal().as_slice();
     Ok(Vec::from_slice(alloc, &journal[before.min(journal.len())..])?)
+}
+
+/// What an open gate adds to the journal after these fields' events.
+fn record_after(alloc: Global, conns: usize, fields: &[&str]) -> Mem<Vec<u8>> {
+    let mut world = new_world(alloc, conns)?;
+    record_of(&mut world, alloc, fields)
+}
+
+/// What a connection wrote.
+fn output(world: &World, conn: usize) -> &[u8] {
+    if conn < world.conns() {
+        world.output(conn).as_slice()
+    } else {
+        &[]
+    }
+}
+
+/// Appends what a connection wrote now, if anything.
+fn push_output(told: &mut String, alloc: Global, conn: usize, new: &[u8]) -> Mem<()> {
+    if new.is_empty() {
+        return Ok(());
+    }
+    told.push_str(&format!(in alloc; "; {conn}:")?)?;
+    push_responses(told, new)
 }
 
 impl Run {
@@ -103,62 +123,62 @@ impl Run {
         Bytes::of(alloc, image.as_slice())
     }
 
+    /// The event of a field, if it is one.
+    fn event(&self, alloc: Global, field: &str) -> Mem<Option<Event>> {
+        let (word, rest) = first_word(field);
+        if word == "stop" {
+            let image = self.image(alloc, rest)?;
+            return Ok(Some(Event::Stop { image }));
+        }
+        event(alloc, field)
+    }
+
+    /// The outcome of a field, after others.
+    fn step(&mut self, alloc: Global, before: &[&str], field: &str) -> Mem<&'static str> {
+        if field == "note" {
+            self.noted = record_after(alloc, self.shown.len(), before)?;
+            return Ok("noted");
+        }
+        match self.event(alloc, field)? {
+            Some(event) => Ok(name(take(&mut self.world, alloc, &event))),
+            None => Ok("no event"),
+        }
+    }
+
     /// Appends what the connections have written since.
     fn push_written(&mut self, alloc: Global, told: &mut String) -> Mem<()> {
         for (conn, shown) in self.shown.iter_mut().enumerate() {
-            if conn < self.world.conns() {
-                let output = self.world.output(conn).as_slice();
-                let new = &output[(*shown).min(output.len())..];
-                if !new.is_empty() {
-                    told.push_str(&format!(in alloc; "; {conn}:")?)?;
-                    push_responses(told, new)?;
-                }
-                *shown = output.len();
-            }
+            let output = output(&self.world, conn);
+            push_output(told, alloc, conn, &output[(*shown).min(output.len())..])?;
+            *shown = output.len();
         }
         Ok(())
     }
 
-    /// The outcome of a field, after others.
-    fn step(
-        &mut self,
-        alloc: Global,
-        conns: usize,
-        before: &[&str],
-        field: &str,
-    ) -> Mem<&'static str> {
-        if field == "note" {
-            self.noted = record_after(alloc, conns, before)?;
-            return Ok("noted");
+    /// The outcomes of the fields.
+    fn outcomes(&mut self, alloc: Global, fields: &[&str]) -> Mem<String> {
+        let mut told = String::new(alloc);
+        for (at, field) in fields.iter().enumerate() {
+            if at > 0 {
+                told.push_str(" | ")?;
+            }
+            told.push_str(self.step(alloc, &fields[..at], field)?)?;
+            self.push_written(alloc, &mut told)?;
         }
-        if let Some(event) = event(alloc, field)? {
-            return Ok(name(self.world.step(alloc, &event)));
-        }
-        let (word, rest) = first_word(field);
-        if word == "stop" {
-            let image = self.image(alloc, rest)?;
-            return Ok(name(self.world.step(alloc, &Event::Stop { image })));
-        }
-        Ok("no event")
+        let entries = self.world.entries().len();
+        told.push_str(&format!(in alloc; " | entries={entries}")?)?;
+        Ok(told)
     }
 }
 
-/// The outcomes of the fields.
+/// The outcomes of the fields, over a new world.
 pub(crate) fn outcomes(alloc: Global, conns: &str, fields: &[&str]) -> Mem<String> {
-    let conns = number(conns).min(8) as usize;
+    let conns = number_of(conns).min(8) as usize;
+    let shown = vec![in alloc; 0usize; conns]?;
     let mut run = Run {
         world: new_world(alloc, conns)?,
-        shown: vec![in alloc; 0usize; conns]?,
+        shown,
         noted: Vec::new(alloc),
     };
-    let mut told = String::new(alloc);
-    for (at, field) in fields.iter().enumerate() {
-        if at > 0 {
-            told.push_str(" | ")?;
-        }
-        told.push_str(run.step(alloc, conns, &fields[..at], field)?)?;
-        run.push_written(alloc, &mut told)?;
-    }
-    told.push_str(&format!(in alloc; " | entries={}", run.world.entries().len())?)?;
-    Ok(told)
+    run.outcomes(alloc, fields)
 }

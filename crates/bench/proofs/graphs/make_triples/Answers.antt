@@ -2,7 +2,7 @@ use Rattle.std.proofs.Common.{subst, sym}
 use Rattle.std.specs.List.{All}
 use Rattle.std.proofs.lemmas.List.Elements.{All-push}
 use Rattle.rdf_graph.specs.Triple.{IsRdf}
-use Rattle.bench.proofs.building.make_triples.Goals as goal
+use Rattle.bench.proofs.graphs.make_triples.Goals as goal
 
 pub loop-step-preserved : goal.loop-step-preserved
 loop-step-preserved c =

@@ -9,7 +9,7 @@ use rdf_graph::{Graph, Term, Triple};
 use std::alloc::Global;
 
 /// The triple of these IRIs.
-pub fn make_triple(alloc: Global, s: &str, p: &str, o: &str) -> anyhow::Result<Triple>
+fn make_triple(alloc: Global, s: &str, p: &str, o: &str) -> anyhow::Result<Triple>
     ensures { IfOk result IsRdf }
 {
     let s = Iri::read(alloc, s)?;
@@ -29,7 +29,7 @@ fn shuffled_number(step: usize, count: usize) -> usize {
 }
 
 /// The triples of all numbers below the count, out of order.
-pub fn make_triples(alloc: Global, count: usize) -> anyhow::Result<List<Triple>>
+fn make_triples(alloc: Global, count: usize) -> anyhow::Result<List<Triple>>
     ensures { IfOk result (λ triples. All IsRdf triples.items) }
 {
     let mut triples = Vec::new(alloc);
