@@ -12,10 +12,10 @@ use Rattle.pod_base.specs.declared.agent.Mode.{Mode}
 use Rattle.pod_rows.specs.Access.{Governs, effective_of, rules_at}
 use Rattle.pod_rows.specs.Pod.{Pod}
 use Rattle.pod_rows.specs.WellFormed.{WellFormed}
-use Rattle.wac_decide.specs.Decision.{first_ground}
-use Rattle.wac_decide.specs.declared.request_needs.Need.{Need}
-use Rattle.wac_decide.proofs.Granting.{some_is_granted}
-use Rattle.wac_decide.proofs.Grounds.{if_rule_within, if_subject_within}
+use Rattle.pod_access.specs.Decision.{first_ground}
+use Rattle.pod_access.specs.declared.request_needs.Need.{Need}
+use Rattle.pod_access.proofs.Granting.{some_is_granted}
+use Rattle.pod_access.proofs.Grounds.{if_rule_within, if_subject_within}
 
 -- by the list that governs
 pub by_list : (pod : Pod) (agent : Agent) (path : List ℕ) (mode : Mode) (list : Governs) → WellFormed pod → effective_of pod.rows path ≡ Some list

@@ -27,8 +27,8 @@ use Rattle.rdf_graph.specs.declared.term.Term.{Term}
 use Rattle.rdf_graph.specs.declared.term.Term.TheVariants.{Iri}
 use Rattle.rdf_graph.specs.declared.triple.Triple.{Triple}
 use Rattle.rdf_graph.proofs.Members.{contains_cases, contains_filter, contains_none}
-use Rattle.wac_decide.specs.Grants.{Covers, Grants, GrantsMode, place_property}
-use Rattle.wac_decide.proofs.Positions.{slice_get_member}
+use Rattle.pod_access.specs.Grants.{Covers, Grants, GrantsMode, place_property}
+use Rattle.pod_access.proofs.Positions.{slice_get_member}
 
 module _ (base owner : List ℕ) (modified : Moment) where
   abbrev pod : Pod

@@ -28,11 +28,11 @@ use Rattle.rdf_graph.specs.Term.{term_eq}
 use Rattle.rdf_graph.specs.TermLaws.{term_eq_decides}
 use Rattle.rdf_graph.specs.declared.term.Term.TheVariants.{Iri}
 use Rattle.rdf_graph.specs.declared.triple.Triple.{Triple}
-use Rattle.wac_decide.specs.Grants.{Grants}
-use Rattle.wac_decide.specs.Needs.{all_needs, description_needs, each_once, is_options, needs_of, on, tag_modes}
-use Rattle.wac_decide.specs.declared.request_needs.Need.{Need}
-use Rattle.wac_decide.specs.declared.request_needs.Shape.{Shape}
-use Rattle.wac_decide.proofs.Positions.{any_passes}
+use Rattle.pod_access.specs.Grants.{Grants}
+use Rattle.pod_access.specs.Needs.{all_needs, description_needs, each_once, is_options, needs_of, on, tag_modes}
+use Rattle.pod_access.specs.declared.request_needs.Need.{Need}
+use Rattle.pod_access.specs.declared.request_needs.Shape.{Shape}
+use Rattle.pod_access.proofs.Positions.{any_passes}
 use Rattle.access_laws.proofs.Granted.{bases}
 
 -- ---- Control of the root

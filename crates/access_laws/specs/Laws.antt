@@ -17,10 +17,10 @@ use Rattle.pod_rows.specs.Access.{Governs, effective_of}
 use Rattle.pod_rows.specs.Base.{is_base}
 use Rattle.pod_rows.specs.Pod.{Pod}
 use Rattle.pod_rows.specs.WellFormed.{WellFormed}
-use Rattle.wac_decide.specs.Allow.{words}
-use Rattle.wac_decide.specs.Needs.{needs_of}
-use Rattle.wac_decide.specs.declared.request_needs.Need.{Need}
-use Rattle.wac_decide.specs.declared.request_needs.Shape.{Shape}
+use Rattle.pod_access.specs.Allow.{words}
+use Rattle.pod_access.specs.Needs.{needs_of}
+use Rattle.pod_access.specs.declared.request_needs.Need.{Need}
+use Rattle.pod_access.specs.declared.request_needs.Shape.{Shape}
 
 -- ---- the owner
 

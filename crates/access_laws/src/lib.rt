@@ -11,8 +11,8 @@
 //! is granted ([`bases_are_grants`]); and the words of `WAC-Allow` are exactly the modes that are
 //! granted, those of an access list all four or none ([`words_are_grants`]).
 //!
-//! The functions do nothing: their contracts are the laws. They depend on `pod_access` and
-//! `wac_decide` for the definitions, and on `first_rows` for a new pod.
+//! The functions do nothing: their contracts are the laws. They depend on `pod_access` for the
+//! definitions, and on `first_rows` for a new pod.
 #![tactic(auto)]
 
 ghost use Rattle.access_laws.specs.Laws.{BasesAreGrants, GroundsAreGrants};

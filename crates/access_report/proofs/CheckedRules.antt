@@ -30,11 +30,11 @@ use Rattle.rdf_graph.proofs.Members.{contains_filter}
 use Rattle.rdf_graph.specs.TermLaws.{term_eq_decides}
 use Rattle.rdf_graph.specs.declared.term.Term.{Term}
 use Rattle.rdf_graph.specs.declared.triple.Triple.{Triple}
-use Rattle.wac_decide.specs.Decision.{covers, is_about, has_mode, first_ground, has_subject, rule_grants, who_of}
-use Rattle.wac_decide.specs.Grants.{Membership, Covers, NodeGrants}
-use Rattle.wac_decide.proofs.Grounds.{some_grants}
-use Rattle.wac_decide.proofs.Granting.{rule_node, node_rule}
-use Rattle.wac_decide.proofs.Positions.{any_passes, passes_any}
+use Rattle.pod_access.specs.Decision.{covers, is_about, has_mode, first_ground, has_subject, rule_grants, who_of}
+use Rattle.pod_access.specs.Grants.{Membership, Covers, NodeGrants}
+use Rattle.pod_access.proofs.Grounds.{some_grants}
+use Rattle.pod_access.proofs.Granting.{rule_node, node_rule}
+use Rattle.pod_access.proofs.Positions.{any_passes, passes_any}
 use Rattle.access_report.specs.Checked.{CoversAsMember, CoversAs, ChecksBy, ChecksIn, Checks}
 use Rattle.access_report.specs.Reports.{IsReported}
 use Rattle.access_report.specs.Subjects.{is_named, is_node, is_path_if, rule_as, grants_if}

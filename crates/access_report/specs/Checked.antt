@@ -11,7 +11,7 @@ use Rattle.pod_command.specs.declared.basis.Who.TheVariants as whos
 use Rattle.pod_path.specs.Hierarchy.{uri_of, IsUriOf}
 use Rattle.rdf_graph.specs.declared.term.Term.{Term}
 use Rattle.rdf_graph.specs.declared.triple.Triple.{Triple}
-use Rattle.wac_decide.specs.Grants.{Membership, GrantsMode, place_property}
+use Rattle.pod_access.specs.Grants.{Membership, GrantsMode, place_property}
 use Rattle.pod_access.specs.PodGrants.{list_graph, membership}
 use Rattle.pod_rows.specs.Access.{Governs, effective_of, list_path}
 use Rattle.pod_rows.specs.Pod.{Pod}

@@ -7,8 +7,8 @@ use Rattle.pod_base.specs.declared.agent.Mode.{Mode}
 use Rattle.pod_command.specs.declared.basis.Basis.{Basis}
 use Rattle.pod_command.specs.declared.row.Row.{Row}
 use Rattle.pod_path.specs.Hierarchy.{is_acl}
-use Rattle.wac_decide.specs.Decision.{allow_modes}
-use Rattle.wac_decide.specs.declared.request_needs.Need.{Need}
+use Rattle.pod_access.specs.Decision.{allow_modes}
+use Rattle.pod_access.specs.declared.request_needs.Need.{Need}
 use Rattle.pod_access.specs.Bases.{basis_of}
 use Rattle.pod_rows.specs.Pod.{Pod, is_row}
 use Rattle.access_report.specs.declared.line.Line.{Line}

@@ -9,8 +9,8 @@ use Rattle.pod_command.specs.declared.basis.Who.{Who}
 use Rattle.pod_command.specs.declared.basis.Who.TheVariants as whos
 use Rattle.rdf_graph.specs.Term.{term_eq}
 use Rattle.rdf_graph.specs.declared.term.Term.{Term}
-use Rattle.wac_decide.specs.Decision.{rule_grants}
-use Rattle.wac_decide.specs.Grants.{Membership}
+use Rattle.pod_access.specs.Decision.{rule_grants}
+use Rattle.pod_access.specs.Grants.{Membership}
 use Rattle.access_report.specs.declared.line.Line.{Line}
 
 -- Is the subject of this kind? Of groups, is it this one?

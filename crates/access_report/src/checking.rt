@@ -6,19 +6,19 @@ ghost use Rattle.pod_access.specs.PodGrants.{membership};
 ghost use Rattle.pod_path.specs.Hierarchy.{acl_of};
 ghost use Rattle.pod_rows.specs.Access.{effective_of};
 ghost use Rattle.pod_rows.specs.Pod.{is_row};
-ghost use Rattle.wac_decide.specs.Decision.{rule_grants};
+ghost use Rattle.pod_access.specs.Decision.{rule_grants};
 ghost use Rattle.access_report.specs.Checked.{Checks, ChecksIn};
 ghost use Rattle.access_report.specs.Subjects.{grants_if, is_named, is_node, is_path_if, rule_as};
 
 use crate::line::Line;
 use acl_rules::{How, Items, Rule, Rules, Subject};
+use pod_access::granted;
 use pod_base::{Agent, Mem};
 use pod_command::Who;
 use pod_path::Path;
 use pod_rows::PodState;
 use rdf_graph::Term;
 use std::alloc::Global;
-use wac_decide::granted;
 
 /// Whether the subject is of this kind; of groups, whether it is this one.
 fn is_named(subject: &Subject, who: &Who) -> bool

@@ -8,12 +8,12 @@ ghost use Rattle.access_report.specs.Reports.{line_at};
 
 use crate::line::Line;
 use acl_rules::{How, Rules};
+use pod_access::{basis_of, granted};
 use pod_base::{Agent, Mem, Mode};
 use pod_command::Basis;
 use pod_path::Path;
 use pod_rows::PodState;
 use std::alloc::Global;
-use wac_decide::{basis_of, granted};
 
 /// Why an agent is granted each mode where one access list governs: the path whose list it is, how
 /// it applies, and the basis of each mode that is granted.

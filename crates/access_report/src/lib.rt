@@ -13,8 +13,8 @@
 //! the rule that it names is in the access list that governs the path, and grants the mode to the
 //! agent by a subject of the kind that it names (`checks`, clause `exact`).
 //!
-//! It depends on `pod_rows` for the states of a pod, on `pod_access` for what a pod grants, and on
-//! `wac_decide` for one access list.
+//! It depends on `pod_rows` for the states of a pod, and on `pod_access` for what a pod grants and
+//! for one access list.
 #![tactic(auto)]
 
 mod checking;

@@ -8,7 +8,7 @@ use crate::lengths::total;
 use pod_base::Mem;
 use pod_command::{Basis, Who};
 use std::alloc::Global;
-use turtle_write::term_len;
+use turtle_text::term_len;
 
 /// How many bytes [`append_who`] appends.
 fn who_len(who: &Who) -> usize {

@@ -11,7 +11,7 @@
 //! [`append_basis`] appends `basis_text`. A line is written once, into memory that is allocated at
 //! once.
 //!
-//! It depends on `pod_command`, on `rdf_graph` and `turtle_write` for the text of a rule, on
+//! It depends on `pod_command`, on `rdf_graph` and `turtle_text` for the text of a rule, on
 //! `percent_encoding` and on `itoa`.
 #![tactic(auto)]
 

@@ -5,9 +5,9 @@ ghost use Rattle.pod_rows.specs.Apply.{Applies};
 
 use crate::used::{memory, used_micros};
 use anyhow::bail;
-use entry_fits::fits;
 use pod_command::{Entry, Row, decode_entry, decode_snapshot};
 use pod_pages::Version;
+use pod_records::fits;
 use pod_rows::PodState;
 use std::alloc::Global;
 use std::fs;

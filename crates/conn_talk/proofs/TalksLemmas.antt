@@ -8,8 +8,8 @@ use mathlib.Core.List.{IsPrefix}
 use Rattle.http_conn.specs.Messages.{IsLastRequest, NothingAfterEnd, StaysOpen, closes_connection}
 use Rattle.http_conn.specs.declared.events.TheConstants.{REQUEST_LIMIT}
 use Rattle.http_out.specs.Text.{interim_text}
-use Rattle.line_sink.specs.Writing.{ExtendsBy, Writes}
-use Rattle.line_sink.proofs.Extending.{nothing_added}
+use Rattle.pod_io.specs.Writing.{ExtendsBy, Writes}
+use Rattle.pod_io.proofs.Extending.{nothing_added}
 use Rattle.pod_base.specs.Counts.{CountIncreased}
 use Rattle.pod_base.specs.declared.request.Request.{Request}
 use Rattle.pod_base.specs.declared.heard.Heard.{Heard}

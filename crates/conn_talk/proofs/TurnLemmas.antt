@@ -2,8 +2,8 @@
 use Rattle.std.proofs.Common.{◌≡◌, ℕ, ◌==◌, Bool, true, false, if◌then◌else◌, List, [], Option, Result, Ok, Err, IfErr, IfOk, refl, sym, ap, subst, ◌∙◌}
 use Rattle.http_out.specs.Dates.{IsDateOf}
 use Rattle.http_out.specs.Text.{response_text, memory_text, disk_text}
-use Rattle.moment_date.specs.Dates.{date_text}
-use Rattle.moment_date.proofs.Calendar.{date_is}
+use Rattle.http_out.specs.Calendar.{date_text}
+use Rattle.http_out.proofs.CalendarLemmas.{date_is}
 use Rattle.pod_base.specs.declared.moment.Moment.{Moment}
 use Rattle.pod_base.specs.declared.moment.Stamp.{Stamp}
 use Rattle.pod_base.specs.declared.request.Request.{Request}

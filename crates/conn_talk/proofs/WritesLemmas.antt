@@ -2,8 +2,8 @@
 use Rattle.std.proofs.Common.{◌≡◌, ℕ, ◌<◌, ◌≤◌, min, List, [], ◌++◌, length, take, drop, Option, Result, Ok, Err, length-append, sym, ap, subst, append_assoc, ◌∙◌, arith}
 use Rattle.std.proofs.Math.Seq.{take-length, take-append_seam, length-take-le}
 use Rattle.std.proofs.lemmas.List.{take-append-drop}
-use Rattle.line_sink.specs.Writing.{ExtendsBy, Writes}
-use Rattle.line_sink.proofs.Extending.{nothing_added}
+use Rattle.pod_io.specs.Writing.{ExtendsBy, Writes}
+use Rattle.pod_io.proofs.Extending.{nothing_added}
 use Rattle.conn_talk.specs.Steps.{WritesBoth}
 
 -- the piece that was given, and what is left behind it

@@ -4,8 +4,8 @@ use Rattle.std.specs.Prelude.{Option}
 use Rattle.audit_trail.specs.Lines.{session_line}
 use Rattle.http_conn.specs.Messages.{IsLastRequest}
 use Rattle.http_out.specs.Text.{response_text}
-use Rattle.line_sink.specs.Writing.{ExtendsBy}
-use Rattle.moment_date.specs.Dates.{date_text}
+use Rattle.pod_io.specs.Writing.{ExtendsBy}
+use Rattle.http_out.specs.Calendar.{date_text}
 use Rattle.pod_base.specs.declared.heard.Heard.{Heard}
 use Rattle.pod_base.specs.declared.heard.Heard.TheVariants as heard
 use Rattle.pod_base.specs.declared.moment.Stamp.{Stamp}

@@ -2,8 +2,8 @@
 ghost use Rattle.std.specs.Prelude.{◌≡◌, ◌==◌, ℕ, Bool, List, [], if◌then◌else◌, false};
 ghost use Rattle.std.specs.Prelude.{IfOk, IfErr};
 ghost use Rattle.http_out.specs.Text.{response_text};
-ghost use Rattle.line_sink.specs.Writing.{Writes};
-ghost use Rattle.moment_date.specs.Dates.{date_text};
+ghost use Rattle.pod_io.specs.Writing.{Writes};
+ghost use Rattle.http_out.specs.Calendar.{date_text};
 ghost use Rattle.pod_core.specs.Output as spec;
 ghost use Rattle.pod_core.specs.Session.{IsClockMoment};
 ghost use Rattle.reply_laws.specs.Sent.{IsSent};
@@ -20,10 +20,9 @@ use crate::talk_end::TalkEnd;
 use crate::trail::{TrailEntry, line_of};
 use crate::write::{write_out, write_text};
 use http_out::{Out, disk_text, memory_text};
-use line_sink::write_all;
 use pod_base::{Moment, Request, Stamp, moment_of};
 use pod_core::{closes_after, is_change};
-use pod_io::{Clock, Sink};
+use pod_io::{Clock, Sink, write_all};
 use std::alloc::Global;
 use token_table::Asked;
 

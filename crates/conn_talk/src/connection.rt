@@ -4,7 +4,7 @@ ghost use Rattle.std.specs.Prelude.{IfOk, IfErr, OnOk, if◌then◌else◌};
 ghost use Rattle.std.specs.List.{AllByRecursion};
 ghost use Rattle.http_conn.specs.Messages.{NothingAfterEnd};
 ghost use Rattle.http_out.specs.Text.{interim_text};
-ghost use Rattle.line_sink.specs.Writing.{ExtendsBy, Writes};
+ghost use Rattle.pod_io.specs.Writing.{ExtendsBy, Writes};
 ghost use Rattle.pod_base.specs.declared.heard.Heard.TheVariants as hears;
 ghost use Rattle.pod_base.specs.Counts.{CountIncreased};
 ghost use Rattle.pod_core.specs.Session.{IsClockMoment, requests_of};

@@ -18,7 +18,7 @@
 //! (`faults`). `specs/Walks.antt` says what such a chain is over a pod that others change too.
 //!
 //! It depends on `pod_core` for sessions and their output, on `http_conn` for events, on `http_out`
-//! for bytes, on `token_table` for agents, and on `audit_trail` and `line_sink` for lines.
+//! for bytes, on `token_table` for agents, and on `audit_trail` and `pod_io` for lines.
 #![tactic(auto)]
 
 mod agents;

@@ -1,5 +1,5 @@
 //! Writes whole responses to an output.
-ghost use Rattle.line_sink.specs.Writing.{Writes};
+ghost use Rattle.pod_io.specs.Writing.{Writes};
 ghost use Rattle.pod_io.specs.Counts.{CountsFaults};
 
 use crate::output::Output;

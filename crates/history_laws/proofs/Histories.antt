@@ -15,7 +15,7 @@ use Rattle.pod_rows.specs.Apply.{AllApply, Applies}
 use Rattle.pod_rows.specs.Pod.{Pod}
 use Rattle.pod_rows.specs.WellFormed.{WellFormed}
 use Rattle.reply_laws.specs.Laws.{EntriesApply}
-use Rattle.session_laws.proofs.PodsAtEnd.{first_apply, well_formed_at_end}
+use Rattle.history_laws.proofs.PodsAtEnd.{first_apply, well_formed_at_end}
 use Rattle.token_table.specs.Credentials.{AskedAgent}
 
 -- ---- the pods of a history

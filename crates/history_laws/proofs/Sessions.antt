@@ -8,10 +8,10 @@ use Rattle.pod_core.specs.History.{History, IsHistory, end_of, pod_at}
 use Rattle.pod_core.specs.Output.{output_of}
 use Rattle.pod_core.specs.Session.{IsItem, NeverFalls, Session, entries_of, places_of}
 use Rattle.pod_reply.specs.Laws.{HasOneReply}
-use Rattle.session_laws.specs.Isolated.{AreAlikeAtEnd, AreItemsFrom, AreRequestsOf, IsolatesItems, KeepsHidden}
+use Rattle.history_laws.specs.Isolated.{AreAlikeAtEnd, AreItemsFrom, AreRequestsOf, IsolatesItems, KeepsHidden}
 use Rattle.token_table.specs.Credentials.{AskedAgent}
-use Rattle.session_laws.specs.SameRequests.{AreItemsAfter}
-use Rattle.session_laws.proofs.SameItems.{one_list}
+use Rattle.history_laws.specs.SameItems.{AreItemsAfter}
+use Rattle.history_laws.proofs.SameItems.{one_list}
 use Rattle.history_laws.specs.SameRequests.{AreSameSessions, AskSameInAll, IsSessionAfter}
 
 module _ (may_give : ℕ → Type 0) (asking : Request → AskedAgent) (events : List Heard) where

@@ -8,8 +8,8 @@ use Rattle.pod_base.specs.declared.request.Request.{Request}
 use Rattle.pod_core.specs.History.{History, IsHistory, end_of, pod_at}
 use Rattle.pod_core.specs.Output.{output}
 use Rattle.pod_core.specs.Session.{IsSession, Session, entries_of}
-use Rattle.session_laws.specs.Isolated.{AreAlikeAtEnd, AreRequestsOf, KeepsHidden, grown}
-use Rattle.session_laws.specs.SameRequests.{AreAnswered, AskSame}
+use Rattle.history_laws.specs.Isolated.{AreAlikeAtEnd, AreRequestsOf, KeepsHidden, grown}
+use Rattle.history_laws.specs.SameItems.{AreAnswered, AskSame}
 use Rattle.token_table.specs.Credentials.{AskedAgent}
 
 -- A session from the end of a history on, whose entries are added to it and no others. Nothing

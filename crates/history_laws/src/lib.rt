@@ -19,8 +19,16 @@
 //! ([`events_may_come`]).
 //!
 //! The functions do nothing: their contracts are the laws. They depend on `pod_core` for the
-//! definitions, on `session_laws` and `reply_laws` for what follows of one agent and of one reply.
+//! definitions and on `reply_laws` for what follows of one reply.
+//!
+//! Where the pods at the ends of two histories are alike for an agent, a session of that agent over
+//! one is a session over the other, with the same items, and each other session of the same events
+//! at the same moments writes the same bytes, where neither memory nor a disk failed
+//! ([`sessions_are_isolated`]). In each pod passed, what differs is to stay hidden from the agent,
+//! who could otherwise open it by a change of an access list.
 #![tactic(auto)]
+
+mod isolation;
 
 ghost use Rattle.history_laws.specs.Acknowledged.{EntriesAreAcknowledged, EntriesArePublishedOnce};
 ghost use Rattle.history_laws.specs.Entries.{EachPodIsWellFormed, EntryHasOneItem};
@@ -29,8 +37,9 @@ ghost use Rattle.history_laws.specs.Progress.{BytesMayArrive, ChangesMayComplete
 ghost use Rattle.history_laws.specs.Progress.{MessagesMayBeRefused, ReadsMayBeAnswered};
 ghost use Rattle.history_laws.specs.Progress.{RepairsMayComplete, WorldsMayStop};
 ghost use Rattle.history_laws.specs.SameRequests.{SameSessions, SameSessionsOverAlike};
-ghost use Rattle.session_laws.specs.SameRequests.{SameItems};
+ghost use Rattle.history_laws.specs.SameItems.{SameItems};
 
+pub use isolation::sessions_are_isolated;
 use pod_io::Clock;
 
 /// What the same requests of the same agents are answered at the same moments is the same, byte for
@@ -45,7 +54,7 @@ pub fn one_session<C: Clock>(clock: &C)
 {
     let _clock = clock;
     pod_reply::laws::one_reply();
-    session_laws::sessions_are_isolated(clock);
+    crate::sessions_are_isolated(clock);
 }
 
 /// No entry of a history belongs to two items.

@@ -1,2 +1,3 @@
+pub mod CalendarLemmas
 -- internal
 pub mod SegmentLemmas

@@ -11,6 +11,8 @@ pub mod Classes
 pub mod Causes
 pub mod Sides
 pub mod Laws
+-- what is reported of a store that isn't opened
+pub mod Refusals
 -- internal: cited by private clauses alone
 pub mod Reading
 pub mod Scanning

@@ -4,6 +4,10 @@
 //! A crash at any moment leaves a disk that stands for the records from before a call, or for those
 //! with the one that the call adds. Contracts say so of every image of the disk, at each moment
 //! inside each call.
+//!
+//! [`open_status`] and [`tell_refusal`] report a journal that isn't opened: the status of the run is
+//! that of the fault, and the sink has the line of a damage, or a part of it where its count of
+//! faults increased, and for another fault nothing (`told`).
 #![tactic(auto)]
 
 mod buffered;
@@ -14,6 +18,7 @@ mod head;
 mod journal;
 mod laws;
 mod opening;
+mod refusals;
 mod renewal;
 mod scan;
 mod walk;
@@ -29,3 +34,4 @@ pub use laws::{
     damaged_once, new_is_closed_or_open, one_class, opened_again, some_class, stands_once,
     stands_or_damaged,
 };
+pub use refusals::{open_status, tell_refusal};

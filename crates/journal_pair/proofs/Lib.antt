@@ -7,5 +7,11 @@ pub mod Pairing
 pub mod Checkpointing
 pub mod Repairing
 pub mod Reopening
+pub mod DoubtSteps
+pub mod WrittenPairs
+pub mod TogetherRuns
 -- internal
 mod PairOpening
+mod Repairs
+mod Renewals
+mod Appends

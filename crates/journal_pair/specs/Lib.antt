@@ -6,5 +6,8 @@ pub mod Checkpointed
 pub mod PairMoments
 pub mod Causes
 pub mod PairLaws
+pub mod Doubts
+pub mod Together
+pub mod Writes
 -- internal: cited by private clauses alone
 pub mod Choices

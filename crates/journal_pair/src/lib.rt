@@ -4,14 +4,28 @@
 //!
 //! Contracts say so of every pair of crash images, one of each disk, at each moment inside each
 //! call.
+//!
+//! ```ignore
+//! write(&mut pair, &mut disks, &snapshot, &record)?;   // a snapshot where a checkpoint is due
+//! ```
+//!
+//! [`Pair`] has the single steps. [`write`] adds one more record, after the gate in doubt is closed
+//! and after a checkpoint where one is due. Proved of it, of [`repair`], [`checkpoint`] and
+//! [`make_ready`]: which records the active journal has afterwards, and what is in doubt after a
+//! fault (`written`, `fault`); and for which records every pair of crash images stands at each
+//! moment (`pairs`). None takes memory.
 #![tactic(auto)]
 
-mod checkpoint;
+mod adding;
+mod checkpoints;
 mod choice;
 mod laws;
 mod on_side;
 mod opening;
 mod pair;
+mod steps;
 
+pub use adding::write;
 pub use laws::{store_damaged_once, store_empty_only, store_stands_once, store_stands_or_damaged};
 pub use pair::{Pair, SIZE_LIMIT};
+pub use steps::{checkpoint, make_ready, repair};

@@ -7,8 +7,8 @@ use crate::store::make;
 use pod_base::Mem;
 use pod_disk::{Disk, Disks, MemDisk, Place};
 use pod_io::{MemSink, MemSource, Sink};
+use podctl_commands::{audit, check};
 use std::alloc::Global;
-use store_commands::{audit, check};
 
 /// How many bytes a sink takes at a time, and how many a read gives at most.
 const PIECE: usize = 64;

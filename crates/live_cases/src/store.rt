@@ -6,8 +6,8 @@ ghost use Rattle.pod_rows.specs.Base.{is_base};
 use iri_ref::Iri;
 use pod_base::{Mem, Moment, NoMemory, Text};
 use pod_disk::{Disk, Disks, MemDisk};
+use podctl_commands::init;
 use std::alloc::Global;
-use store_commands::init;
 
 /// The owner of the pod.
 pub(crate) const OWNER: &str = "https://alice.example/#me";

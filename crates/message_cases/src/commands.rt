@@ -1,7 +1,7 @@
 //! The commands that words ask for.
 
 use iri_ref::Iri;
-use podctl_words::{Asking, Command, read};
+use program_words::{Asking, Command, read};
 use std::alloc::{AllocError, Global};
 
 /// How the agents of a connection are known.

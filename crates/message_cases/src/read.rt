@@ -2,7 +2,7 @@
 
 use crate::print::{place, shown};
 use conditional_req::{Tag, tag_of};
-use moment_date::date_of;
+use http_out::date_of;
 use pod_base::{Body, Bytes, Mem, Moment, Response};
 use pod_responses::{Representation, not_modified, partial, shown as shown_response, upgraded};
 use std::alloc::{AllocError, Global};

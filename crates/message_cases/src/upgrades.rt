@@ -1,8 +1,8 @@
 //! The key that accepts an upgrade.
 
 use case_words::{bytes, shown};
-use notify_ws::accept_of;
 use pod_base::NoMemory;
+use pod_responses::accept_of;
 use std::alloc::{AllocError, Global};
 
 pub(crate) fn answer(alloc: Global, key: &str) -> Result<String, AllocError> {

@@ -4,7 +4,7 @@ use Rattle.rdf_graph.specs.declared.term.Term.TheVariants.{Blank}
 use Rattle.turtle_grammar.specs.declared.production.SymbolicTriple.{SymbolicTriple}
 use Rattle.turtle_grammar.specs.declared.production.Production.{Production}
 use Rattle.turtle_grammar.specs.declared.symbol.Start.TheVariants.{Patch}
-use Rattle.turtle_labels.proofs.DocumentLemmas.{one_label_of}
+use Rattle.turtle_reader.proofs.DocumentLemmas.{one_label_of}
 use Rattle.turtle_reader.specs.declared.meaning.Meaning.{Meaning}
 use Rattle.turtle_reader.specs.declared.referent.Referent.{Referent}
 use Rattle.turtle_reader.specs.declared.referent.Referent.TheVariants as referent_of

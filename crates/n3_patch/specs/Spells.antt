@@ -14,7 +14,7 @@ use Rattle.turtle_reader.specs.declared.referent.Referent.TheVariants as referen
 use Rattle.turtle_reader.specs.Handed.{AreMadeOf}
 use Rattle.turtle_reader.specs.Referents.{referent}
 use Rattle.turtle_reader.specs.Texts.{IsText}
-use Rattle.turtle_labels.specs.Documents.{IsLabelOf}
+use Rattle.turtle_reader.specs.Documents.{IsLabelOf}
 use Rattle.n3_patch.specs.declared.triples.PatchNode.{PatchNode}
 use Rattle.n3_patch.specs.declared.triples.PatchNode.TheVariants as patch_node
 use Rattle.n3_patch.specs.declared.triples.PatchTriple.{PatchTriple}

@@ -19,8 +19,8 @@
 //!
 //! A document whose triples count more than [`KEPT_BYTES_LIMIT`] is answered out of memory.
 //!
-//! It depends on `turtle_reader`, which reads the lexemes of a document and hands out its triples, on
-//! `turtle_labels` for its unnamed nodes, and on `rdf_graph` for terms and patches.
+//! It depends on `turtle_reader`, which reads the lexemes of a document, hands out its triples and
+//! names its unnamed nodes, and on `rdf_graph` for terms and patches.
 #![tactic(auto)]
 
 mod fault;

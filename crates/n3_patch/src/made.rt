@@ -1,7 +1,7 @@
 //! The triples of a patch document, as the parser produces them.
 
 ghost use Rattle.std.specs.Prelude.{◌≡◌, ◌++◌, ◌∷◌, [], ℕ, List as ListOf, Some, IfOk, OnOk};
-ghost use Rattle.turtle_labels.specs.Documents.{AreLazyLabelsOf};
+ghost use Rattle.turtle_reader.specs.Documents.{AreLazyLabelsOf};
 ghost use Rattle.n3_patch.specs.Spells.{IsReferentNode, within_formula};
 ghost use Rattle.n3_patch.specs.Reading.{IsReferentTriple};
 
@@ -12,8 +12,7 @@ use rdf_graph::Term;
 use std::alloc::Global;
 use std::collections::BTreeSet;
 use turtle_grammar::{Start, Within};
-use turtle_labels::LazyLabels;
-use turtle_reader::{Language, Referent, ResolvedTriple};
+use turtle_reader::{Language, LazyLabels, Referent, ResolvedTriple};
 
 /// The triples so far, and the labels of unnamed nodes as soon as there is one.
 #[derive(Drop)]

@@ -5,8 +5,8 @@ use Rattle.pod_base.specs.declared.agent.Agent.{Agent}
 use Rattle.pod_base.specs.declared.agent.Agent.TheVariants.{Public}
 use Rattle.pod_base.specs.declared.agent.Mode.TheVariants.{Control}
 use Rattle.pod_path.specs.Hierarchy.{is_acl}
-use Rattle.wac_decide.specs.Allow.{allow_text}
-use Rattle.wac_decide.specs.Decision.{granted_modes}
+use Rattle.pod_access.specs.Allow.{allow_text}
+use Rattle.pod_access.specs.Decision.{granted_modes}
 use Rattle.pod_rows.specs.Access.{Governs, effective_of, rules_at}
 use Rattle.pod_rows.specs.Pod.{Pod}
 use Rattle.pod_access.specs.Bases.{ground_by}

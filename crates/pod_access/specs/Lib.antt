@@ -2,3 +2,8 @@
 pub mod PodGrants
 pub mod Bases
 pub mod AllowField
+pub mod Modes
+pub mod Grants
+pub mod Decision
+pub mod Needs
+pub mod Allow

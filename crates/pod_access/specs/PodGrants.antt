@@ -8,7 +8,7 @@ use Rattle.acl_rules.specs.declared.rule.How.{How}
 use Rattle.acl_rules.specs.declared.rule.Rule.{Rule}
 use Rattle.pod_path.specs.Hierarchy.{uri_of, IsUriOf}
 use Rattle.rdf_graph.specs.declared.triple.Triple.{Triple}
-use Rattle.wac_decide.specs.Grants.{Membership, Grants}
+use Rattle.pod_access.specs.Grants.{Membership, Grants}
 use Rattle.pod_rows.specs.Access.{Governs, effective_of, list_path}
 use Rattle.pod_rows.specs.Members.{is_member_at}
 use Rattle.pod_rows.specs.Pod.{Pod, row_at}

@@ -5,12 +5,12 @@ ghost use Rattle.pod_access.specs.AllowField.{allow_field, control_by, modes_at,
 ghost use Rattle.pod_rows.specs.Access.{governed, rules_at};
 
 use crate::bases::ground_in;
+use crate::{granted_modes, wac_allow};
 use acl_rules::{How, Rules};
 use pod_base::{Agent, Bytes, Mem, Mode};
 use pod_path::Path;
 use pod_rows::PodState;
 use std::alloc::Global;
-use wac_decide::{granted_modes, wac_allow};
 
 /// All modes of an access list, where Control of its subject is granted, else none.
 fn list_modes<S: PodState>(

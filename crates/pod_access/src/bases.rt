@@ -4,18 +4,18 @@ ghost use Rattle.std.specs.Prelude.{◌≡◌, ◌↔◌, ◌<◌, IfOk, IfSome,
 ghost use Rattle.pod_access.specs.Bases.{basis_by, basis_of, bases_of, ground_by};
 ghost use Rattle.pod_access.specs.PodGrants.{PodGrants, IsGrantedByGraphs};
 ghost use Rattle.pod_rows.specs.Access.{governed, effective_of, list_path, rules_at};
-ghost use Rattle.wac_decide.specs.Decision.{subjects_at};
+ghost use Rattle.pod_access.specs.Decision.{subjects_at};
 ghost use Rattle.std.specs.Option.{option_map};
 ghost use Rattle.pod_base.specs.Listed.{Listed};
 ghost use Rattle.pod_command.specs.declared.basis.Basis.{Basis as TheBasis};
 
+use crate::{Ground, Need, basis_of, granted};
 use acl_rules::{How, Rules};
 use pod_base::{Agent, List, Mem, Mode};
 use pod_command::Basis;
 use pod_path::Path;
 use pod_rows::PodState;
 use std::alloc::Global;
-use wac_decide::{Ground, Need, basis_of, granted};
 
 /// The ground of a mode in the access list that governs a path.
 pub(crate) fn ground_in<S: PodState>(

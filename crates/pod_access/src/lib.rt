@@ -14,11 +14,32 @@
 //! path grants the mode ([`is_granted`], clause `grants`, by `PodGrants` of
 //! `specs/PodGrants.antt`).
 //!
-//! It depends on `pod_rows` for the states of a pod, and on `wac_decide` for one access list.
+//! It depends on `pod_rows` for the states of a pod, and on `acl_rules` for the rules of a list.
+//!
+//! ```text
+//! let needs = needs(alloc, &shape)?;                   // (path, mode), each once
+//! let ground = granted(&rules, How::Own, &path, &agent, &groups, Mode::Read);
+//! let basis = basis_of(alloc, &rules, &ground, &acl)?; // what an entry records
+//! let allow = wac_allow(alloc, user, public)?;         // user="read write",public="read"
+//! ```
+//!
+//! Decisions stand on Web Access Control by one list: a decision is positive exactly where the graph
+//! of the list has a node that grants ([`granted`], clause `grants`), and its ground is the first
+//! rule, and in it the first subject (`first`). [`needs`] are the table of docs/rules/access.md, row
+//! by row.
 #![tactic(auto)]
 
+mod allow;
 mod allow_value;
 mod bases;
+mod basis;
+mod decision;
+pub mod laws;
+mod request_needs;
 
+pub use allow::wac_allow;
 pub use allow_value::allow_field;
 pub use bases::{decide, is_granted};
+pub use basis::basis_of;
+pub use decision::{Ground, granted, granted_modes};
+pub use request_needs::{Need, Shape, needs};

@@ -1,7 +1,7 @@
 -- Equal responses at equal moments give equal bytes.
 use Rattle.std.proofs.Common.{◌≡◌, ℕ, ◌==◌, if◌then◌else◌, List, [], ◌∷◌, ◌++◌, refl, ap}
 use Rattle.http_out.specs.Text.{response_text, interim_text}
-use Rattle.moment_date.specs.Dates.{date_text}
+use Rattle.http_out.specs.Calendar.{date_text}
 use Rattle.pod_base.specs.declared.heard.Heard.TheVariants as heard
 use Rattle.pod_base.specs.declared.request.Request.{Request}
 use Rattle.pod_base.specs.declared.response.Response.{Response}

@@ -15,8 +15,8 @@
 //! `specs/KeeperSteps.antt` which of these are the keeper's.
 //!
 //! It depends on `pod_reply` for the reply, on `pod_rows` for states, on `http_conn` and `http_out`
-//! for messages, on `moment_date` for dates, on `request_target` for targets, and on `journal_log`
-//! for the bytes of a journal.
+//! for messages and dates, on `request_target` for targets, and on `journal_log` for the bytes of a
+//! journal.
 #![tactic(auto)]
 
 mod answering;

@@ -18,8 +18,8 @@ use Rattle.pod_pages.specs.State.{VersionState, state_after, states_after}
 use Rattle.pod_pages.specs.declared.effects.Effect.{Effect}
 use Rattle.pod_pages.proofs.EditSteps.{filter_append}
 use Rattle.pod_pages.proofs.History.{kept_later, next_replayed, oldest_grows, pod_replayed}
-use Rattle.notify_feed.specs.News.{is_news, notices_of}
-use Rattle.notify_feed.specs.Notices.{notice_of}
+use Rattle.pod_feed.specs.News.{is_news, notices_of}
+use Rattle.pod_feed.specs.Notices.{notice_of}
 use Rattle.pod_feed.specs.EachChange.{all_effects, all_notices}
 use Rattle.pod_feed.specs.Feeds.{AllReport, Continues, notices_from}
 use Rattle.pod_feed.proofs.FeedLemmas.{continues_prefix}

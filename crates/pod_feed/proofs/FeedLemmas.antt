@@ -9,9 +9,9 @@ use Rattle.pod_base.proofs.Prefixes.{prefix_self, prefix_trans}
 use Rattle.pod_command.specs.declared.entry.Entry.{Entry}
 use Rattle.pod_io.specs.Counts.{next_count}
 use Rattle.pod_pages.specs.State.{VersionState, states_after}
-use Rattle.notify_feed.specs.News.{IsNews, notices_of}
-use Rattle.notify_feed.specs.declared.news.News.{News}
-use Rattle.notify_feed.specs.declared.news.News.TheVariants as news
+use Rattle.pod_feed.specs.News.{IsNews, notices_of}
+use Rattle.pod_feed.specs.declared.news.News.{News}
+use Rattle.pod_feed.specs.declared.news.News.TheVariants as news
 use Rattle.pod_live.specs.Visits.{IsTurnedAway, Looked, Visit}
 use Rattle.published_view.specs.LookerState.{CountIncreasedByOne}
 use Rattle.pod_feed.specs.Feeds.{AllReport, Continues, CountsRefused, CountsWire, EndsBy, IsFed, Reports, WireView, next_of, notices_from, polls_after}

@@ -7,8 +7,8 @@ use Rattle.pod_rows.specs.Apply.{AllApply}
 use Rattle.pod_pages.specs.Effects.{history_effects}
 use Rattle.pod_pages.specs.State.{VersionState}
 use Rattle.pod_pages.specs.declared.effects.Effect.{Effect}
-use Rattle.notify_feed.specs.News.{is_news}
-use Rattle.notify_feed.specs.Notices.{notice_of}
+use Rattle.pod_feed.specs.News.{is_news}
+use Rattle.pod_feed.specs.Notices.{notice_of}
 use Rattle.pod_feed.specs.Feeds.{AllReport, Continues, notices_from}
 
 -- The effects that a version keeps, and those of these entries after it, all of them.

@@ -10,9 +10,9 @@ use Rattle.pod_io.specs.Counts.{next_count}
 use Rattle.pod_io.specs.declared.wire.Polled.{Polled}
 use Rattle.pod_io.specs.declared.wire.Polled.TheVariants.{Nothing, Closed}
 use Rattle.pod_pages.specs.State.{VersionState, states_after}
-use Rattle.notify_feed.specs.News.{IsNews, MayRead, notices_of}
-use Rattle.notify_feed.specs.declared.news.News.{News}
-use Rattle.notify_feed.specs.declared.news.News.TheVariants as news
+use Rattle.pod_feed.specs.News.{IsNews, MayRead, notices_of}
+use Rattle.pod_feed.specs.declared.news.News.{News}
+use Rattle.pod_feed.specs.declared.news.News.TheVariants as news
 use Rattle.published_view.specs.declared.fault.ViewFault.{ViewFault}
 use Rattle.published_view.specs.declared.fault.ViewFault.TheVariants as views
 use Rattle.pod_live.specs.Visits.{IsTurnedAway, Looked, Visit}

@@ -12,15 +12,32 @@
 //! where its last look reported that, as each other end exactly where the wire or the session
 //! counted its cause.
 //!
-//! It depends on `pod_live` for looks at the published pod, on `notify_feed` for what a version
-//! reports, and on `pod_io` for wires.
+//! It depends on `pod_live` for looks at the published pod, on `pod_pages` for versions and their
+//! effects, on `pod_access` for what is granted, and on `pod_io` for wires.
+//!
+//! ```ignore
+//! match notices_after(alloc, &version, last, &topic, &agent)? {
+//!     News::Notices(texts) => ..,          // of the changes since, in order; then last = version.seq()
+//!     News::Revoked => ..,                 // the agent may not read the topic any more
+//!     News::Lagged { last, oldest } => ..  // the changes from `last` on are no longer all there
+//! }
+//! ```
+//!
+//! [`notices_after`] reports `IsNews` of `specs/News.antt`, which is exact: `Revoked` where the pod
+//! doesn't grant the agent to read the topic, `Lagged` where effects from `last` on aren't kept any
+//! more, and else the notices of the kept effects on the topic from `last` on, in order.
 #![tactic(auto)]
 
 mod feed;
 mod feed_end;
 pub mod laws;
+mod news;
+mod notice_text;
+mod reading;
 mod report;
 mod wire_turn;
 
 pub use feed::serve_feed;
 pub use feed_end::FeedEnd;
+pub use news::{News, notices_after};
+pub use notice_text::notice;

@@ -4,7 +4,7 @@ ghost use Rattle.pod_feed.specs.Turns.{EndsAtLook, EndsByNews, IsReport, IsRepor
 ghost use Rattle.pod_feed.specs.Turns.{end_of};
 
 use crate::feed_end::FeedEnd;
-use notify_feed::{News, notices_after};
+use crate::{News, notices_after};
 use pod_base::{Agent, List, Text};
 use pod_live::{CommittedEntry, Session, StoreName};
 use pod_pages::Version;

@@ -18,7 +18,7 @@
 //! lost and repeated, has the pod of a place of it, and which place. [`frame_head`] and
 //! [`split_frame`] are the frames in which snapshots and entries are sent.
 //!
-//! It depends on `pod_pages` for versions, on `entry_fits` for whether an entry applies, and on
+//! It depends on `pod_pages` for versions, on `pod_records` for whether an entry applies, and on
 //! `pod_core` for replies.
 #![tactic(auto)]
 

@@ -1,1 +1,3 @@
+-- for the crates above too
+pub mod Extending
 mod GateLemmas

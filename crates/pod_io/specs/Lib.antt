@@ -5,3 +5,5 @@ pub mod Memory
 pub mod Links
 pub mod Gates
 pub mod Wires
+-- what a sink has after texts were written to it
+pub mod Writing

@@ -26,11 +26,25 @@
 //! objects in memory (`rest`, `taken`, `sent`, `back`). What an object of the host takes or gives
 //! is what its writer takes or its reader gives, as far as that shows it (`written`, `given`). A
 //! terminal, a pipe and a socket show nothing, and are trusted.
+//!
+//! ```text
+//! write_all(&mut output, b"end: peer\n")?;
+//! write_number_line(&mut errors, b"damaged first ", 16)?;     // damaged first 16
+//! let held = HeldStreams::open(&rt)?;         // before any other file, and kept until the end
+//! let mut tokens = FileSource::new(rt.clone()?, Text::of(alloc, "pod.tokens")?);
+//! ```
+//!
+//! After [`write_all`], [`write_number`] and [`write_number_line`] a sink has the whole text, or a
+//! prefix of it after a fault (`writes`). [`FileSource`] opens its file at the first read, of which
+//! a missing file is a fault like any other; [`HeldStreams`] keep the descriptors of the standard
+//! streams taken.
 #![tactic(auto)]
 
 mod calls;
 mod clock;
+mod file_source;
 mod gate;
+mod held_streams;
 mod link;
 mod listen;
 mod mem_gate;
@@ -39,6 +53,7 @@ mod mem_listen;
 mod mem_sink;
 mod mem_source;
 mod mem_wire;
+mod numbers;
 mod sink;
 mod source;
 mod std_sink;
@@ -46,11 +61,14 @@ mod std_source;
 mod tcp_gate;
 mod tcp_link;
 mod tcp_listen;
+mod whole;
 mod wire;
 
 pub use calls::Calls;
 pub use clock::{Clock, HostClock, SetClock};
+pub use file_source::FileSource;
 pub use gate::Gate;
+pub use held_streams::HeldStreams;
 pub use link::{Link, LinkCounts, LinkFailed};
 pub use listen::{GATE_LIMIT, Listen, ListenFault};
 pub use mem_gate::MemGate;
@@ -59,6 +77,7 @@ pub use mem_listen::MemListen;
 pub use mem_sink::MemSink;
 pub use mem_source::MemSource;
 pub use mem_wire::MemWire;
+pub use numbers::{write_number, write_number_line};
 pub use sink::Sink;
 pub use source::{Failed, Source};
 pub use std_sink::StdSink;
@@ -66,6 +85,7 @@ pub use std_source::StdSource;
 pub use tcp_gate::TcpGate;
 pub use tcp_link::TcpLink;
 pub use tcp_listen::TcpListen;
+pub use whole::write_all;
 pub use wire::{Polled, Wire, WireFault};
 
 #[cfg(test)]

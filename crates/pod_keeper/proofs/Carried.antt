@@ -1,8 +1,8 @@
 -- What a commit makes of a keeper, from its plan and what was made of the planned entry.
 use Rattle.std.proofs.Common.{◌≡◌, ℕ, zero, suc, List, [], ◌∷◌, ◌++◌, All, Option, Some, None, IfSome, refl, sym, ◌∙◌, ap, subst, arith}
 use Rattle.std.specs.Option.{option_map, option_to_list}
-use Rattle.pair_writes.specs.Doubts.{IsSure}
-use Rattle.pair_writes.proofs.TogetherRuns.{together_still}
+use Rattle.journal_pair.specs.Doubts.{IsSure}
+use Rattle.journal_pair.proofs.TogetherRuns.{together_still}
 use Rattle.journal_pair.specs.PairMoments.{ThroughOpenings}
 use Rattle.journal_pair.proofs.Reopening.{openings_weaker}
 use Rattle.pod_base.specs.declared.moment.Stamp.{Stamp}

@@ -5,11 +5,11 @@ use Rattle.journal_pair.specs.PairJournal.{HasSnapshot}
 use Rattle.journal_pair.specs.PairState.{PairState}
 use Rattle.journal_pair.specs.Sides.{opposite_of}
 use Rattle.journal_pair.specs.Stores.{StoreStands}
-use Rattle.pair_writes.specs.Doubts as records
-use Rattle.pair_writes.specs.Doubts.{RecordDoubt, HasRecords, IsSure, IsLong, tails_in, news_in}
-use Rattle.pair_writes.specs.Writes.{Readies, Moves, StandsForWritten, IsLeftBefore, IsActiveImage, IsOtherImage}
-use Rattle.pair_writes.proofs.TogetherRuns.{together_of, together_weaker}
-use Rattle.pair_writes.proofs.WrittenPairs.{written_pair}
+use Rattle.journal_pair.specs.Doubts as records
+use Rattle.journal_pair.specs.Doubts.{RecordDoubt, HasRecords, IsSure, IsLong, tails_in, news_in}
+use Rattle.journal_pair.specs.Writes.{Readies, Moves, StandsForWritten, IsLeftBefore, IsActiveImage, IsOtherImage}
+use Rattle.journal_pair.proofs.TogetherRuns.{together_of, together_weaker}
+use Rattle.journal_pair.proofs.WrittenPairs.{written_pair}
 use Rattle.journal_pair.specs.PairMoments.{ThroughMending, ThroughOpenings}
 use Rattle.journal_pair.proofs.Reopening.{openings_of, openings_weaker}
 use Rattle.pod_core.specs.History.{History, end_of, longer}

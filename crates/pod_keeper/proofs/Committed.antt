@@ -6,10 +6,10 @@ use Rattle.journal_log.specs.Heads.{IsKnownHead}
 use Rattle.journal_pair.specs.PairState.{PairState}
 use Rattle.journal_pair.specs.Sides.{opposite_of}
 use Rattle.journal_pair.specs.Stores.{StoreStands}
-use Rattle.pair_writes.specs.Doubts as records
-use Rattle.pair_writes.specs.Doubts.{RecordDoubt, HasRecords, IsSure, IsLong, tails_in, news_in}
-use Rattle.pair_writes.specs.Writes.{Writes, Moves, IsLeftBefore, IsLeftByWrite, StandsForWritten, records_before, alone, with_record, tail_of}
-use Rattle.pair_writes.proofs.TogetherRuns.{together_weaker}
+use Rattle.journal_pair.specs.Doubts as records
+use Rattle.journal_pair.specs.Doubts.{RecordDoubt, HasRecords, IsSure, IsLong, tails_in, news_in}
+use Rattle.journal_pair.specs.Writes.{Writes, Moves, IsLeftBefore, IsLeftByWrite, StandsForWritten, records_before, alone, with_record, tail_of}
+use Rattle.journal_pair.proofs.TogetherRuns.{together_weaker}
 use Rattle.journal_pair.specs.PairMoments.{ThroughOpenings}
 use Rattle.journal_pair.proofs.Reopening.{openings_weaker}
 use Rattle.pod_command.specs.Storable.{IsStorable}

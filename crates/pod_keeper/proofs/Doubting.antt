@@ -1,8 +1,8 @@
 -- What is in doubt, as records.
 use Rattle.std.proofs.Common.{◌≡◌, ℕ, zero, suc, List, [], ◌∷◌, Contains, refl, sym, ◌∙◌, subst, arith}
 use Rattle.journal_pair.specs.PairState.{PairState}
-use Rattle.pair_writes.specs.Doubts as records
-use Rattle.pair_writes.specs.Doubts.{RecordDoubt, HasRecords, tails_in, news_in}
+use Rattle.journal_pair.specs.Doubts as records
+use Rattle.journal_pair.specs.Doubts.{RecordDoubt, HasRecords, tails_in, news_in}
 use Rattle.pod_command.specs.declared.entry.Entry.{Entry}
 use Rattle.pod_core.specs.History.{History}
 use Rattle.pod_keeper.specs.Kept.{Doubt, certain, entered, checkpointed, entries_in, IsNextEntry, IsCheckpointText, HasOnDisks}

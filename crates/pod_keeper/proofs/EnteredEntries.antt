@@ -4,9 +4,9 @@ use Rattle.std.specs.Prelude.{IsSome}
 use Rattle.std.specs.Arc.{arc_value}
 use Rattle.journal_log.specs.declared.fault.DiskFault.{DiskFault}
 use Rattle.journal_pair.specs.PairState.{PairState}
-use Rattle.pair_writes.specs.Doubts.{IsSure, IsLong, HasRecords, RecordDoubt}
-use Rattle.pair_writes.specs.Together.{LeavesTogether}
-use Rattle.pair_writes.specs.Writes.{Writes}
+use Rattle.journal_pair.specs.Doubts.{IsSure, IsLong, HasRecords, RecordDoubt}
+use Rattle.journal_pair.specs.Together.{LeavesTogether}
+use Rattle.journal_pair.specs.Writes.{Writes}
 use Rattle.journal_pair.specs.PairMoments.{ThroughOpenings}
 use Rattle.pod_base.specs.Counts.{CountIncreased}
 use Rattle.pod_command.specs.Bare.{bare_entry}

@@ -3,6 +3,7 @@
 pub mod Stamps
 pub mod HistoryLaws
 pub mod TakenItems
+mod Reopening
 -- internal
 mod NewStore
 mod Opened

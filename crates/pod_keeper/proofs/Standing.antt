@@ -12,7 +12,7 @@ use Rattle.journal_pair.specs.Stores.{IsPassedOver, StoreStands, StoreStandsEith
 use Rattle.journal_pair.proofs.Beside.{closed_passed, closed_class, open_passed, stands_open, stands_none, snapshot_open, opposite_active, opposite_other, store_stands, store_stands_either}
 use Rattle.journal_pair.proofs.PairRuns.{each_pair}
 use Rattle.journal_pair.proofs.Reopening.{clean_each_through, doubt_each_through, new_through, openings_of, passed_through}
-use Rattle.pair_writes.specs.Doubts.{IsSure}
+use Rattle.journal_pair.specs.Doubts.{IsSure}
 use Rattle.pod_command.specs.declared.entry.Entry.{Entry}
 use Rattle.pod_core.specs.History.{History, end_of}
 use Rattle.pod_disk.specs.Disk.{EachImage}

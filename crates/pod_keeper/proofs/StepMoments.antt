@@ -1,6 +1,6 @@
 -- Each moment of a run of a keeper is one of a step.
 use Rattle.std.proofs.Common.{◌⊎◌, inl, inr, ⊎_elim, ◌≤◌, ℕ, List, [], ◌∷◌, Option, refl, sym, subst, arith}
-use Rattle.pair_writes.specs.Doubts.{IsSure, IsLong}
+use Rattle.journal_pair.specs.Doubts.{IsSure, IsLong}
 use Rattle.pod_command.specs.declared.entry.Entry.{Entry}
 use Rattle.pod_core.specs.History.{History, longer}
 use Rattle.pod_core.specs.Session.{entries_of}

@@ -3,8 +3,8 @@ use Rattle.std.proofs.Common.{◌≡◌, ◌⊎◌, inl, inr, ℕ, List, [], ◌
 use Rattle.std.specs.Option.{option_to_list}
 use Rattle.std.proofs.lemmas.List.{append-nil}
 use Rattle.std.proofs.lemmas.List.Elements.{All-contains, Contains-append_cases, Contains-append_left, Contains-push}
-use Rattle.pair_writes.specs.Doubts.{IsSure, IsLong}
-use Rattle.pair_writes.proofs.TogetherRuns.{together_weaker}
+use Rattle.journal_pair.specs.Doubts.{IsSure, IsLong}
+use Rattle.journal_pair.proofs.TogetherRuns.{together_weaker}
 use Rattle.journal_pair.specs.PairMoments.{ThroughOpenings}
 use Rattle.journal_pair.proofs.Reopening.{openings_weaker}
 use Rattle.pod_base.specs.declared.moment.Stamp.{Stamp}

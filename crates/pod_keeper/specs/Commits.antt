@@ -4,7 +4,7 @@ use Rattle.std.specs.Prelude.{None}
 use Rattle.journal_pair.specs.PairMoments.{ThroughOpenings}
 use Rattle.journal_pair.specs.PairState.{PairState}
 use Rattle.journal_pair.specs.Sides.{opposite_of}
-use Rattle.pair_writes.specs.Together.{LeavesTogether}
+use Rattle.journal_pair.specs.Together.{LeavesTogether}
 use Rattle.pod_base.specs.declared.moment.Moment.{Moment}
 use Rattle.pod_base.specs.declared.moment.Stamp.{Stamp}
 use Rattle.pod_base.specs.declared.request.Request.{Request}

@@ -1,6 +1,6 @@
 -- What holds of the two disks of a keeper, and what its calls keep of it.
 use Rattle.std.specs.Prelude.{◌⊎◌, ℕ, List}
-use Rattle.pair_writes.specs.Doubts.{IsSure, IsLong}
+use Rattle.journal_pair.specs.Doubts.{IsSure, IsLong}
 use Rattle.pod_base.specs.Counts.{CountIncreased}
 use Rattle.pod_core.specs.History.{History}
 use Rattle.pod_keeper.specs.Kept.{Doubt, ForEachHistory}

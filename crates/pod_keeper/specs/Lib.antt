@@ -12,3 +12,5 @@ pub mod KeeperRuns
 pub mod RunMoments
 pub mod OpenedPods
 pub mod NewStores
+-- what an opening gives after a crash, and what a crash leaves while it opens
+pub mod Reopened

@@ -13,7 +13,7 @@ ghost use Rattle.pod_keeper.specs.Plans.{IsPlannedAt};
 use crate::keeper::Keeper;
 use crate::plan::Planned;
 use journal_log::DiskFault;
-use pair_writes::write;
+use journal_pair::write;
 use pod_command::Entry;
 use pod_disk::Disk;
 

@@ -9,7 +9,7 @@ ghost use Rattle.pod_keeper.specs.Kept.{entries_in, ForEachHistory, StandsForSom
 use crate::fault::CommitFault;
 use crate::keeper::Keeper;
 use journal_log::{DiskFault, EPOCH_LIMIT};
-use pair_writes::checkpoint;
+use journal_pair::checkpoint;
 use pod_base::NoMemory;
 use pod_disk::Disk;
 use pod_records::snapshot_record;

@@ -22,12 +22,21 @@
 //! that the keeper represents (`IsPlan`).
 //!
 //! It depends on `pod_core` for replies, on `pod_pages` for versions, on `pod_records` and
-//! `first_rows` for what records hold, and on `pair_writes` and `journal_pair` for the disks.
+//! `first_rows` for what records hold, and on `journal_pair` for the disks.
+//!
+//! Three laws go on from what the clauses of a keeper say of a crash: whatever the moment was, the
+//! records that the next opening takes hold the history that the images represent, or that with the
+//! one entry ([`openings_give_what_stands`]). [`opens_after`] and [`opens_after_a_crash`] are of
+//! openings that crashes cut short, one after the other, however many there are: at each moment of
+//! each of them the images represent just that, and an opening that returns a keeper gives it. The
+//! first is of a keeper that was closed or stopped between two calls, the second of one that stopped
+//! inside a call.
 #![tactic(auto)]
 
 mod carry;
 mod checkpoint;
 mod commit;
+mod crash_openings;
 mod fault;
 mod keeper;
 mod laws;
@@ -35,6 +44,7 @@ mod new_store;
 mod opening;
 mod plan;
 
+pub use crash_openings::{openings_give_what_stands, opens_after, opens_after_a_crash};
 pub use fault::{CommitFault, Done, NotOpened};
 pub use keeper::Keeper;
 pub use laws::moments_are_of_steps;

@@ -2,7 +2,7 @@
 use Rattle.std.proofs.Common.{◌≡◌, ◌⊎◌, inl, inr, ⊎_elim, ◌≤◌, ◌+◌, ℕ, List, [], ◌∷◌, ◌++◌, Option, Some, None, IsSome, refl, sym, ap, subst, append_assoc, ◌∙◌, arith}
 use Rattle.std.proofs.lemmas.List.{append-nil}
 use Rattle.std.specs.Option.{option_to_list}
-use Rattle.pair_writes.specs.Doubts.{IsSure, IsLong}
+use Rattle.journal_pair.specs.Doubts.{IsSure, IsLong}
 use Rattle.pod_base.specs.declared.moment.Stamp.{Stamp}
 use Rattle.pod_base.specs.declared.request.Request.{Request}
 use Rattle.pod_command.specs.declared.entry.Entry.{Entry}

@@ -1,6 +1,6 @@
 -- What a keeper under a lock represents, and which disk faults were counted.
 use Rattle.std.specs.Prelude.{◌<◌, ◌≤◌, ◌-◌, ◌^◌, ℕ, ◌+◌, List}
-use Rattle.pair_writes.specs.Doubts.{IsSure, IsLong}
+use Rattle.journal_pair.specs.Doubts.{IsSure, IsLong}
 use Rattle.pod_core.specs.History.{History}
 use Rattle.pod_keeper.specs.Kept.{Doubt, IsKept}
 use Rattle.pod_keeper.specs.KeeperState.{KeeperState}

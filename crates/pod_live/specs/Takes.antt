@@ -3,7 +3,7 @@
 use Rattle.std.specs.Prelude.{◌≡◌, ◌⊎◌, ◌≤◌, ◌+◌, ℕ, List, [], ◌∷◌, ◌++◌, Option, IsSome}
 use Rattle.std.specs.Option.{option_to_list}
 use Rattle.journal_pair.specs.PairMoments.{ThroughOpenings}
-use Rattle.pair_writes.specs.Doubts.{IsSure, IsLong}
+use Rattle.journal_pair.specs.Doubts.{IsSure, IsLong}
 use Rattle.pod_command.specs.declared.entry.Entry.{Entry}
 use Rattle.pod_core.specs.History.{History, longer}
 use Rattle.pod_core.specs.KeeperSteps.{IsReplyAtEnd, item_at_end}

@@ -8,8 +8,8 @@ use Rattle.pod_command.specs.declared.entry.Entry.{Entry}
 use Rattle.pod_core.specs.History.{History, end_of, longer}
 use Rattle.pod_core.specs.Session.{IsClockMoment, IsItem, Item, NeverFalls, entries_of, places_of}
 use Rattle.pod_core.proofs.LongerSessions.{items_grow}
-use Rattle.session_laws.proofs.PodsAtEnd.{same_history}
-use Rattle.session_laws.specs.Isolated.{grown}
+use Rattle.history_laws.proofs.PodsAtEnd.{same_history}
+use Rattle.history_laws.specs.Isolated.{grown}
 use Rattle.token_table.specs.Credentials.{AskedAgent}
 use Rattle.pod_pipe.specs.Held.{HolderTurns, holder_rules}
 use Rattle.pod_pipe.specs.Holders.{Advances, CountsDiskFaults, CountsOutOfMemory, CountsUnanswered, DiskFaults, Faults}

@@ -15,8 +15,8 @@ use Rattle.pod_core.specs.History.{History, IsHistory, end_of}
 use Rattle.pod_core.specs.Output.{output}
 use Rattle.pod_core.specs.Session.{IsItem, IsSession, Item, NeverFalls, Session, UpgradesLast, IsRefused, ends_upgraded, places_of, requests_of}
 use Rattle.token_table.specs.Credentials.{AskedAgent}
-use Rattle.session_laws.proofs.AlikeSessions.{session_isolated, still_isolated}
-use Rattle.session_laws.specs.Isolated.{AreIsolated, AreItemsFrom, IsolatesItems, grown}
+use Rattle.history_laws.proofs.AlikeSessions.{session_isolated, still_isolated}
+use Rattle.history_laws.specs.Isolated.{AreIsolated, AreItemsFrom, IsolatesItems, grown}
 use Rattle.pod_pipe.specs.Held.{holder_rules}
 use Rattle.pod_pipe.specs.Holders.{Faults}
 use Rattle.pod_pipe.specs.Served.{Continues, IsServed, IsStopped, Leaves}

@@ -8,3 +8,6 @@ pub mod ReadsLemmas
 pub mod ServingLemmas
 pub mod SessionLemmas
 pub mod Weaker
+pub mod RunLemmas
+pub mod StoredLemmas
+pub mod TableReads

@@ -12,7 +12,7 @@ use Rattle.pod_base.specs.declared.request.Request.{Request}
 use Rattle.pod_core.specs.History.{History, end_of}
 use Rattle.pod_core.specs.Output.{item_text, output, output_of}
 use Rattle.pod_core.specs.Session.{IsRefused, IsSession, Item, Session, has_bad, requests_of, upgrades}
-use Rattle.session_laws.proofs.AlikeSessions.{still_isolated}
+use Rattle.history_laws.proofs.AlikeSessions.{still_isolated}
 use Rattle.token_table.specs.Credentials.{AskedAgent}
 use Rattle.pod_pipe.specs.Served.{Continues, IsStopped, WritesSession}
 use Rattle.pod_pipe.specs.Statuses.{HearsFirst, IsHeard, IsWritten, Pipes, written_session}

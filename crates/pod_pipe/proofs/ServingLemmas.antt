@@ -23,8 +23,8 @@ use Rattle.token_table.specs.Credentials.{AskedAgent}
 use Rattle.pod_pipe.specs.Held.{end_of_talk}
 use Rattle.pod_pipe.specs.Streams.{Reads, AtEnd, AddsReads, MeetsEnd, CountsInput}
 use Rattle.pod_pipe.specs.Served.{IsServed, IsStopped}
-use Rattle.line_sink.specs.Writing.{AddsOrPart, AddsPart, ExtendsBy}
-use Rattle.line_sink.proofs.Extending.{extends_more, nothing_added}
+use Rattle.pod_io.specs.Writing.{AddsOrPart, AddsPart, ExtendsBy}
+use Rattle.pod_io.proofs.Extending.{extends_more, nothing_added}
 use Rattle.pod_pipe.specs.Statuses.{HearsFirst, IsDone, IsHeard, IsWritten, Pipes, ComesOf, Tells, end_line}
 use Rattle.pod_pipe.specs.declared.status.PipeEnd.{PipeEnd}
 use Rattle.pod_pipe.specs.declared.status.PipeEnd.TheVariants.{Peer, Cut, Closed, Limit, Upgraded, Bad, ReadFault, WriteFault, NoMemory, ReadLimit}

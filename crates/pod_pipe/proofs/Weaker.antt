@@ -10,12 +10,12 @@ use Rattle.pod_pipe.specs.Served.{IsServed, IsStopped, WritesSession}
 use Rattle.pod_pipe.specs.Statuses.{IsWritten, Pipes, PipesAndTells, written_session}
 use Rattle.pod_pipe.specs.declared.status.PipeEnd.{PipeEnd}
 use Rattle.pod_pipe.specs.declared.status.PipeEnd.TheVariants.{Peer, Cut, Closed, Limit, Upgraded, Bad, ReadFault, WriteFault, NoMemory, ReadLimit}
-use Rattle.session_laws.proofs.AlikeSessions.{nothing_isolated}
-use Rattle.session_laws.proofs.PodsAtEnd.{same_history}
+use Rattle.history_laws.proofs.AlikeSessions.{nothing_isolated}
+use Rattle.history_laws.proofs.PodsAtEnd.{same_history}
 use Rattle.pod_pipe.proofs.EndingsLemmas.{AreSessionItems, continues, session_of}
 use Rattle.pod_pipe.proofs.ServingLemmas.{all_first, nothing_read}
 use Rattle.pod_pipe.proofs.LongerSessions.{stops_over, writes_session}
-use Rattle.line_sink.proofs.Extending.{nothing_added}
+use Rattle.pod_io.proofs.Extending.{nothing_added}
 
 module _ (may_give : ℕ → Type 0) (asking : Request → AskedAgent) (trails : Bool) (begun : History) (leaves less : List Item → Type 0) (weaker : (items : List Item) → leaves items → less items) where
   served : (upgraded : Bool) (events : List Heard) (written trail : List ℕ) → IsServed may_give asking trails begun leaves upgraded events written trail → IsServed may_give asking trails begun less upgraded events written trail

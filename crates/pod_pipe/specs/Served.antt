@@ -2,7 +2,7 @@
 use Rattle.std.specs.Prelude.{◌≡◌, ℕ, ◌+◌, Bool, List, [], ◌∷◌, Option}
 use mathlib.Core.List.{IsPrefix}
 use Rattle.http_conn.specs.Messages.{Messages}
-use Rattle.line_sink.specs.Writing.{ExtendsBy}
+use Rattle.pod_io.specs.Writing.{ExtendsBy}
 use Rattle.pod_base.specs.declared.heard.Heard.{Heard}
 use Rattle.pod_base.specs.declared.request.Request.{Request}
 use Rattle.pod_command.specs.declared.entry.Entry.{Entry}
@@ -11,7 +11,7 @@ use Rattle.pod_core.specs.Output.{output}
 use Rattle.pod_core.specs.Session.{IsClockMoment, Item, Outcome, Session, answered, disk_fault}
 use Rattle.pod_core.specs.Session.{entries_of, no_memory}
 use Rattle.pod_core.specs.Session.{IsSession, IsWhole, ends_upgraded}
-use Rattle.session_laws.specs.Isolated.{IsIsolated, grown}
+use Rattle.history_laws.specs.Isolated.{IsIsolated, grown}
 use Rattle.token_table.specs.Credentials.{AskedAgent}
 use Rattle.pod_pipe.specs.Holders.{Faults, CountsUnanswered}
 use Rattle.pod_pipe.specs.Streams.{Reads}

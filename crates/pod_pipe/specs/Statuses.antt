@@ -3,7 +3,7 @@ use Rattle.std.specs.Prelude.{◌≡◌, ◌⊎◌, ℕ, ◌^◌, ◌<◌, ◌�
 use Rattle.std.specs.Prelude.{Option, Some, None, true, false, codes, decimal}
 use Rattle.http_conn.specs.Messages.{Messages, AreFirstEvents, StaysOpen}
 use Rattle.http_conn.specs.declared.events.TheConstants.{REQUEST_LIMIT}
-use Rattle.line_sink.specs.Writing.{AddsOrPart, AddsPart, ExtendsBy}
+use Rattle.pod_io.specs.Writing.{AddsOrPart, AddsPart, ExtendsBy}
 use Rattle.pod_base.specs.declared.heard.Heard.{Heard}
 use Rattle.pod_base.specs.declared.request.Request.{Request}
 use Rattle.pod_core.specs.History.{History}

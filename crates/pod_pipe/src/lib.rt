@@ -22,22 +22,45 @@
 //! and no 503 came in either (`isolated` of `Continues`).
 //!
 //! It depends on `conn_talk` for one connection, on `pod_core` for answers, histories, sessions and
-//! their output, on `session_laws` for what follows of sessions, on `pod_pages` for the pod in
-//! memory, on `http_conn` for messages, and on `line_sink` for the last line.
+//! their output, on `history_laws` for what follows of sessions, on `pod_pages` for the pod in
+//! memory, on `http_conn` for messages, and on `pod_io` for the last line.
+//!
+//! ```ignore
+//! // agents by the token table of the place
+//! let status = pipe_store(
+//!     alloc, true, false, &mut input, &mut output, &mut errors, &mut place, &clock);
+//! ```
+//!
+//! [`pipe_store`] serves one connection of the pod on its two disks, for every disk, stream and
+//! clock that meets its contract (`runs`): the store is opened, or it isn't and the refusal has its
+//! cause and its line; then the token table is read, where requests are authenticated by it, or its
+//! fault is reported; then the connection is served as [`pipe`] promises, for each history that the
+//! opened keeper represented. The keeper then represents that history with exactly the entries of
+//! the session's items, and reached it item by item: at each moment of each of them, each pair of
+//! crash images represents the history with the entries of the items before it, or that with the
+//! entry in doubt or the one under way. What is in doubt is the entry of an item that was answered
+//! by 500, and what ran out of memory changed nothing. The disks are put back (`place`).
 #![tactic(auto)]
 
 mod connection;
 mod held;
 mod holder;
+mod lines;
 mod memory;
 mod options;
 mod report_end;
 mod serve;
+mod serving;
 mod status;
+mod stored;
+mod tokens;
 
 pub use conn_talk::{Agents, Answer, clock_moment};
 pub use connection::{Piped, pipe};
 pub use holder::{HolderFault, PodHolder};
+pub use lines::{refuse, tell_table};
 pub use memory::{MemoryPod, moment_after};
 pub use options::PipeOptions;
+pub use serving::pipe_store;
 pub use status::{PipeEnd, Status};
+pub use tokens::{TableFault, read_table};

@@ -1,12 +1,11 @@
 //! The last line of a connection, on the error sink.
 ghost use Rattle.std.specs.Prelude.{◌≡◌, ◌≤◌, ◌⊎◌};
-ghost use Rattle.line_sink.specs.Writing.{number_line};
+ghost use Rattle.pod_io.specs.Writing.{number_line};
 ghost use Rattle.pod_base.specs.Counts.{CountIncreased};
 ghost use Rattle.pod_pipe.specs.Statuses.{ComesOf, HasNumber, Tells, end_line, status_of};
 
 use crate::status::PipeEnd;
-use line_sink::{write_all, write_number_line};
-use pod_io::Sink;
+use pod_io::{Sink, write_all, write_number_line};
 
 /// Reports that the input ended inside a message, or that a malformed one was refused, by a word and
 /// a number. A failed write changes nothing.

@@ -14,9 +14,9 @@ use crate::holder::PodHolder;
 use crate::options::PipeOptions;
 use crate::status::PipeEnd;
 use conn_talk::{Connection, TalkEnd};
+use history_laws::sessions_are_isolated;
 use http_conn::Conn;
 use pod_io::{Clock, Sink, Source};
-use session_laws::sessions_are_isolated;
 use std::alloc::Global;
 
 /// The most bytes that one read requests.

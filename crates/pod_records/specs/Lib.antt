@@ -3,3 +3,6 @@ pub mod Records
 pub mod PodStores
 pub mod Readings
 pub mod OpenedStores
+-- internal: cited by private clauses alone
+pub mod Made
+pub mod Touched

@@ -13,12 +13,22 @@
 //!
 //! It depends on `pod_command` for the texts, on `pod_rows` for pods, and on `journal_log` and
 //! `journal_pair` for frames and stores.
+//!
+//! [`fits`] is true exactly where an entry applies to a pod (`sound`, `complete`), by the definition
+//! in `pod_rows` (`specs/Apply.antt`), for every state of a pod. It looks rows up by path, at most
+//! five times for an edit, and lists the children of a container that the entry removes. A `Put`
+//! alone of a row in place of another costs one look-up and no memory.
 #![tactic(auto)]
 
+mod fitting;
+mod made;
 mod opening;
 mod reading;
+mod replaced;
 mod texts;
+mod touched;
 
+pub use fitting::fits;
 pub use opening::{OpenedStore, open_store};
 pub use reading::{Reading, RecordFault, read_entry, read_records};
 pub use texts::{entry_record, record_of, snapshot_record};

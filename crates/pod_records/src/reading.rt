@@ -16,7 +16,7 @@ ghost use Rattle.pod_records.specs.declared.reading.RecordFault.TheVariants.{NoM
 ghost use Rattle.pod_rows.specs.Apply.{Applies};
 ghost use Rattle.pod_rows.specs.WellFormed.{IsWellFormedSnapshot};
 
-use entry_fits::fits;
+use crate::fits;
 use pod_base::{Bytes, Mem, Moment, NoMemory};
 use pod_command::{Entry, ReadBack, Snapshot, decode_entry, decode_entry_1, decode_snapshot};
 use pod_pages::{Replay, Version};

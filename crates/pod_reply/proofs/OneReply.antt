@@ -38,7 +38,7 @@ use Rattle.pod_reply.specs.Reply.{IsAdmittedReply, IsGrantedReply, IsMemberPost,
 use Rattle.pod_reply.specs.Shapes.{shape_of, is_some_of, is_deletion, is_insertion}
 use Rattle.pod_reply.specs.Laws.{HasOneReply}
 use Rattle.pod_reply.specs.declared.origin.Origin.{Origin}
-use Rattle.wac_decide.specs.declared.request_needs.Shape.{Shape}
+use Rattle.pod_access.specs.declared.request_needs.Shape.{Shape}
 use Rattle.pod_reply.proofs.OneName.{one_named}
 
 -- ---- bodies that are the same

@@ -17,9 +17,9 @@ use Rattle.request_body.specs.declared.body.RequestBody.{RequestBody}
 use Rattle.request_fields.specs.Links.{links_to_container}
 use Rattle.request_fields.specs.PartFields.{slug}
 use Rattle.slug_naming.specs.Stems.{stem_of}
-use Rattle.wac_decide.specs.Needs.{needs_of}
-use Rattle.wac_decide.specs.declared.request_needs.Need.{Need}
-use Rattle.wac_decide.specs.declared.request_needs.Shape.{Shape}
+use Rattle.pod_access.specs.Needs.{needs_of}
+use Rattle.pod_access.specs.declared.request_needs.Need.{Need}
+use Rattle.pod_access.specs.declared.request_needs.Shape.{Shape}
 use Rattle.pod_reply.specs.AccessRank.{access_of, access_refusal, unless_denied}
 use Rattle.pod_reply.specs.MemberNames.{IsNamed}
 use Rattle.pod_reply.specs.Obstacles.{refuse_if}

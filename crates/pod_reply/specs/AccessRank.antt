@@ -9,8 +9,8 @@ use Rattle.pod_access.specs.Bases.{bases_of}
 use Rattle.pod_command.specs.declared.basis.Basis.{Basis}
 use Rattle.pod_responses.specs.Responses.{refusal, unauthorized}
 use Rattle.pod_rows.specs.Pod.{Pod}
-use Rattle.wac_decide.specs.Needs.{needs_of}
-use Rattle.wac_decide.specs.declared.request_needs.Shape.{Shape}
+use Rattle.pod_access.specs.Needs.{needs_of}
+use Rattle.pod_access.specs.declared.request_needs.Shape.{Shape}
 
 -- 401 for anybody, 403 for a known agent.
 abbrev pub access_refusal : Agent → Response

@@ -11,7 +11,7 @@ use Rattle.pod_rows.specs.Pod.{Pod, is_row}
 use Rattle.request_body.specs.declared.body.RequestBody.{RequestBody}
 use Rattle.request_body.specs.declared.body.RequestBody.TheVariants.{Patch, Update}
 use Rattle.sparql_patch.specs.declared.named.Named.{Named}
-use Rattle.wac_decide.specs.declared.request_needs.Shape.{Shape}
+use Rattle.pod_access.specs.declared.request_needs.Shape.{Shape}
 
 abbrev pub is_some_of : {X : Type 0} → List X → Bool
 is_some_of [] = false

@@ -8,13 +8,12 @@ ghost use Rattle.pod_reply.specs.Ranks.{IsGrant, Tells, reads};
 
 use crate::context::Context;
 use crate::stop::{Rank, Stop};
-use pod_access::{decide, is_granted};
+use pod_access::{Need, Shape, decide, is_granted, needs};
 use pod_base::{Agent, List, Mem, Method, Response};
 use pod_command::Basis;
 use pod_responses::{refusal, unauthorized};
 use pod_rows::PodState;
 use std::alloc::Global;
-use wac_decide::{Need, Shape, needs};
 
 /// The refusal of a request of which a need isn't granted.
 fn refuse_access(alloc: Global, agent: &Agent) -> Mem<Response>

@@ -11,11 +11,10 @@ use crate::obstacles::find_row;
 use crate::replied::{Replied, unchanged};
 use crate::stop::{Rank, Stop};
 use conditional_req::Verdict;
-use notify_ws::accept_of;
 use pod_access::allow_field;
 use pod_command::Row;
 use pod_representations::{Shown, chosen, read_verdict, represent, show};
-use pod_responses::{not_modified, refusal, upgraded};
+use pod_responses::{accept_of, not_modified, refusal, upgraded};
 use pod_rows::PodState;
 use request_fields::upgrade_key;
 

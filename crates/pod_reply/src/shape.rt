@@ -6,6 +6,7 @@ ghost use Rattle.pod_rows.specs.Pod.{Pod};
 ghost use Rattle.pod_reply.specs.Shapes as spec;
 
 use crate::context::Context;
+use pod_access::Shape;
 use pod_base::Mem;
 use pod_edits::{Place, find_place};
 use pod_path::Path;
@@ -13,7 +14,6 @@ use pod_rows::PodState;
 use request_body::RequestBody;
 use sparql_patch::Named;
 use std::alloc::Global;
-use wac_decide::Shape;
 
 /// Whether one of the triples that an update names is inserted.
 fn names_insertion(named: &[Named]) -> bool

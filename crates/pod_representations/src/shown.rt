@@ -64,7 +64,7 @@ fn graph_body(alloc: Global, graph: &Graph, media: Media) -> Mem<Bytes>
 {
     match media {
         Media::JsonLd => jsonld_write::write(alloc, graph),
-        Media::Turtle | Media::Stored => turtle_write::write(alloc, graph),
+        Media::Turtle | Media::Stored => turtle_text::write(alloc, graph),
     }
 }
 

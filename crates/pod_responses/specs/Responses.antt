@@ -9,7 +9,7 @@ use Rattle.pod_base.specs.declared.response.Body.{Body}
 use Rattle.pod_base.specs.declared.response.Body.TheVariants.{Absent, Whole}
 use Rattle.pod_base.specs.declared.response.Response.{Response}
 use Rattle.pod_path.specs.Hierarchy.{is_container, uri_of}
-use Rattle.moment_date.specs.Dates.{date_text}
+use Rattle.http_out.specs.Calendar.{date_text}
 use Rattle.pod_responses.specs.Allow.{allow_text, methods, names_of, put_types}
 use Rattle.pod_responses.specs.Links.{field, type_links, about_links}
 use Rattle.pod_responses.specs.declared.representation.Representation.{Representation}

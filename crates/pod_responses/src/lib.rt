@@ -9,10 +9,14 @@
 //! a path takes is one predicate ([`is_allowed`]), of which the field `Allow` is the list. The
 //! fields that depend on the connection (`Date`, `Connection`, `Content-Length`) aren't part of it.
 //!
-//! It stands on `pod_path` for paths and URIs, on `moment_date` for dates, on `conditional_req` for
+//! It stands on `pod_path` for paths and URIs, on `http_out` for dates, on `conditional_req` for
 //! entity tags, and on `pod_base`.
+//!
+//! [`accept_of`] is the field by which a server accepts the opening of a WebSocket (RFC 6455):
+//! base64 of the SHA-1 of the key and the standard's GUID.
 #![tactic(auto)]
 
+mod accept;
 mod allow;
 mod capabilities;
 mod changes;
@@ -21,6 +25,7 @@ mod links;
 mod refusals;
 mod representation;
 
+pub use accept::accept_of;
 pub use allow::is_allowed;
 pub use capabilities::{options, options_of_server};
 pub use changes::{changed, created};

@@ -7,8 +7,8 @@ use crate::allow::{add_accept_patch, add_accept_post, add_accept_put, add_allow}
 use crate::field::{add, add_static, add_text};
 use crate::links::{add_about_links, add_type_links};
 use conditional_req::Tag;
+use http_out::date_of;
 use iri_ref::Iri;
-use moment_date::date_of;
 use pod_base::{Body, Bytes, BytesBuilder, Fields, Mem, Moment, Response};
 use pod_path::Path;
 use std::alloc::Global;

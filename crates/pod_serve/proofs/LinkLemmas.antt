@@ -13,8 +13,8 @@ use Rattle.http_conn.specs.Messages.{Messages}
 use Rattle.http_conn.specs.ParserStates.{Represents, rest_of}
 use Rattle.http_conn.specs.declared.parser_state.ParserState.{ParserState}
 use Rattle.http_conn.proofs.StepLemmas.{represents_messages}
-use Rattle.line_sink.specs.Writing.{ExtendsBy}
-use Rattle.line_sink.proofs.Extending.{extends_more, nothing_added}
+use Rattle.pod_io.specs.Writing.{ExtendsBy}
+use Rattle.pod_io.proofs.Extending.{extends_more, nothing_added}
 use Rattle.pod_base.specs.Counts.{CountIncreased}
 use Rattle.pod_base.specs.declared.heard.Heard.{Heard}
 use Rattle.pod_base.specs.declared.request.Request.{Request}

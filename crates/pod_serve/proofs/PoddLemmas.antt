@@ -25,10 +25,10 @@ use Rattle.pod_records.specs.OpenedStores.{HasPodCause}
 use Rattle.published_view.specs.LookerState.{CountIncreasedByOne}
 use Rattle.published_view.specs.declared.fault.ViewFault.{ViewFault}
 use Rattle.published_view.specs.declared.fault.ViewFault.TheVariants as views
-use Rattle.store_lines.specs.Refusals.{open_status}
-use Rattle.store_pipe.specs.Tables.{HasTableCause, TokenSource, table_status}
-use Rattle.store_pipe.specs.declared.tokens.TableFault.{TableFault}
-use Rattle.store_pipe.specs.declared.tokens.TableFault.TheVariants as tables
+use Rattle.journal_log.specs.Refusals.{open_status}
+use Rattle.pod_pipe.specs.Tables.{HasTableCause, TokenSource, table_status}
+use Rattle.pod_pipe.specs.declared.tokens.TableFault.{TableFault}
+use Rattle.pod_pipe.specs.declared.tokens.TableFault.TheVariants as tables
 use Rattle.token_table.specs.Credentials.{AskedAgent}
 use Rattle.token_table.specs.declared.table_line.TokenEntry.{TokenEntry}
 use Rattle.pod_serve.specs.Desks.{EachDeskServed, GateView, IsDeskEnd}

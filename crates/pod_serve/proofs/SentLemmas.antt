@@ -3,8 +3,8 @@ use Rattle.std.proofs.Common.{◌≡◌, ℕ, zero, suc, ◌+◌, ◌-◌, ◌�
 use Rattle.std.specs.Option.{option_map}
 use Rattle.std.proofs.lemmas.List.{drop-drop, take_rest, take-append-drop}
 use Rattle.std.proofs.Math.Seq.{take-length}
-use Rattle.line_sink.specs.Writing.{ExtendsBy}
-use Rattle.line_sink.proofs.Extending.{nothing_added}
+use Rattle.pod_io.specs.Writing.{ExtendsBy}
+use Rattle.pod_io.proofs.Extending.{nothing_added}
 use Rattle.pod_io.specs.Links.{CountsLinkWrite}
 use Rattle.pod_io.specs.Visible.{Appends}
 use Rattle.pod_io.specs.declared.link.LinkCounts.{LinkCounts}

@@ -7,7 +7,7 @@ use mathlib.Core.List.{IsPrefix}
 use Rattle.conn_talk.specs.Agents.{asking_of}
 use Rattle.conn_talk.specs.declared.agents.Agents.TheVariants.{Table}
 use Rattle.journal_log.specs.declared.fault.OpenFault.{OpenFault}
-use Rattle.pair_writes.specs.Doubts.{IsSure}
+use Rattle.journal_pair.specs.Doubts.{IsSure}
 use Rattle.pod_base.specs.Counts.{CountIncreased}
 use Rattle.pod_base.specs.declared.request.Request.{Request}
 use Rattle.pod_command.specs.declared.entry.Entry.{Entry}
@@ -23,10 +23,10 @@ use Rattle.pod_records.specs.OpenedStores.{HasPodCause}
 use Rattle.published_view.specs.LookerState.{CountIncreasedByOne}
 use Rattle.published_view.specs.declared.fault.ViewFault.{ViewFault}
 use Rattle.published_view.specs.declared.fault.ViewFault.TheVariants as views
-use Rattle.store_lines.specs.Refusals.{TellsRefusal, open_status}
-use Rattle.store_pipe.specs.StoreRuns.{TellsLine, fault_line}
-use Rattle.store_pipe.specs.Tables.{HasTableCause, IsTable, IsUnread, TokenSource, table_status}
-use Rattle.store_pipe.specs.declared.tokens.TableFault.{TableFault}
+use Rattle.journal_log.specs.Refusals.{TellsRefusal, open_status}
+use Rattle.pod_pipe.specs.StoreRuns.{TellsLine, fault_line}
+use Rattle.pod_pipe.specs.Tables.{HasTableCause, IsTable, IsUnread, TokenSource, table_status}
+use Rattle.pod_pipe.specs.declared.tokens.TableFault.{TableFault}
 use Rattle.token_table.specs.Credentials.{AskedAgent}
 use Rattle.token_table.specs.declared.table_line.TokenEntry.{TokenEntry}
 use Rattle.pod_serve.specs.Desks.{DeskServed, GateView}

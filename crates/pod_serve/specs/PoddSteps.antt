@@ -13,7 +13,7 @@ use Rattle.pod_live.specs.Visits.{Visit}
 use Rattle.published_view.specs.LookerState.{CountIncreasedByOne}
 use Rattle.published_view.specs.declared.fault.ViewFault.{ViewFault}
 use Rattle.published_view.specs.declared.fault.ViewFault.TheVariants as views
-use Rattle.store_pipe.specs.Tables.{TokenSource}
+use Rattle.pod_pipe.specs.Tables.{TokenSource}
 use Rattle.token_table.specs.Credentials.{AskedAgent}
 use Rattle.token_table.specs.declared.table_line.TokenEntry.{TokenEntry}
 use Rattle.pod_serve.specs.Desks.{EachDeskServed, GateView}

@@ -4,7 +4,7 @@ use Rattle.std.specs.Prelude.{if◌then◌else◌, List, [], ◌∷◌, ◌++◌
 use mathlib.Core.List.{IsPrefix}
 use Rattle.http_conn.specs.Messages.{Messages, StaysOpen}
 use Rattle.http_conn.specs.declared.events.TheConstants.{REQUEST_LIMIT}
-use Rattle.line_sink.specs.Writing.{ExtendsBy}
+use Rattle.pod_io.specs.Writing.{ExtendsBy}
 use Rattle.pod_base.specs.Counts.{CountIncreased}
 use Rattle.pod_base.specs.declared.heard.Heard.{Heard}
 use Rattle.pod_base.specs.declared.heard.Heard.TheVariants as heard

@@ -1,7 +1,7 @@
 -- Laws of a link that is written to.
 use Rattle.std.specs.Prelude.{ℕ, List, [], ◌++◌, Option}
 use Rattle.std.proofs.Common.{refl, ◌∙◌, arith}
-use Rattle.line_sink.proofs.Extending.{extends_more, nothing_added}
+use Rattle.pod_io.proofs.Extending.{extends_more, nothing_added}
 use Rattle.pod_io.specs.declared.link.LinkCounts.{LinkCounts}
 use Rattle.pod_serve.specs.Serving.{FollowsLink, IsWrittenTo}
 use Rattle.pod_serve.specs.declared.link_output.LinkOutput.{LinkOutput}

@@ -2,7 +2,7 @@
 ghost use Rattle.std.specs.Prelude.{◌≡◌, ◌≤◌, ◌<◌, ℕ, List, false, Err, OnOk};
 ghost use Rattle.conn_talk.specs.Agents.{asking_of};
 ghost use Rattle.http_conn.specs.declared.events.TheConstants.{REQUEST_LIMIT};
-ghost use Rattle.line_sink.specs.Writing.{ExtendsBy};
+ghost use Rattle.pod_io.specs.Writing.{ExtendsBy};
 ghost use Rattle.pod_base.specs.Counts.{CountIncreased};
 ghost use Rattle.pod_serve.specs.Serving.{AnswersPiece, IsAnswered, link_rules};
 

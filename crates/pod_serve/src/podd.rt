@@ -9,9 +9,9 @@ ghost use Rattle.pod_keeper.specs.Kept.{StandsForSome};
 ghost use Rattle.pod_keeper.specs.KeeperState.{KeeperState, version_in};
 ghost use Rattle.pod_live.specs.Stores.{IsSafe, KeptSome};
 ghost use Rattle.pod_live.specs.Visits.{IsNewVisit};
-ghost use Rattle.podd_words.specs.Readings.{reading};
+ghost use Rattle.program_words.specs.PoddReadings.{reading};
 ghost use Rattle.published_view.specs.LookerState.{CountIncreasedByOne};
-ghost use Rattle.store_pipe.specs.Tables.{tokens_of};
+ghost use Rattle.pod_pipe.specs.Tables.{tokens_of};
 ghost use Rattle.pod_serve.specs.Desks.{gate_view_of};
 ghost use Rattle.pod_serve.specs.PoddRuns.{GivesBack, IsGateFault, RunsPodd, errors_of};
 ghost use Rattle.pod_serve.specs.PoddRuns.{listen_status, listen_view_of, view_status};
@@ -26,14 +26,13 @@ use pod_disk::{Disk, Disks, Place};
 use pod_io::{Clock, Gate, Listen, ListenFault, Sink, Source};
 use pod_keeper::{Keeper, NotOpened};
 use pod_live::{CommittedEntry, KeeperName, Live, Names, NotLive, Seat, Session, StoreName};
-use pod_pipe::Status;
-use podd_words::{Settings, read};
+use pod_pipe::{Status, read_table, refuse, tell_table};
+use program_words::{Settings, read_settings};
 use published_view::{Places, ViewFault, ViewName};
 use std::alloc::Global;
 use std::marker::Brand;
 use std::sync::Wait;
 use std::thread::Threads;
-use store_pipe::{read_table, refuse, tell_table};
 use token_table::Tokens;
 
 /// A list with room for that many items.
@@ -482,7 +481,7 @@ where
         ⊎ IsGateFault (O.may_open listen.old) O.Gate.faults }
     ensures no_output { result.0 ≢ 4 }
 {
-    let Some(settings) = read(words) else {
+    let Some(settings) = read_settings(words) else {
         return Status(2);
     };
     let Some(disks) = place.disks.take() else {

@@ -1,13 +1,13 @@
 -- Ends and their statuses, and runs that have not begun.
 use Rattle.std.proofs.Common.{◌≡◌, inl, inr, ℕ, IfSome, List, Option, Some, None, refl, arith}
-use Rattle.podctl_words.specs.declared.command.Asking.TheVariants.{ByTokens, Owner, Fresh}
-use Rattle.podctl_words.specs.declared.command.Command.{Command}
-use Rattle.podctl_words.specs.declared.command.Command.TheVariants.{Init, Pipe, Check, Audit, Load, Report, Ship, Follow}
-use Rattle.store_commands.specs.Ends.{IsInitEnd, status_of}
-use Rattle.store_commands.specs.declared.ends.StoreEnd.{StoreEnd}
-use Rattle.store_commands.specs.declared.ends.StoreEnd.TheVariants.{Done, WriteFault, Damaged, DiskFault, NoMemory, NotEmpty, Empty}
-use Rattle.store_pipe.specs.StoreRuns.{Streams}
-use Rattle.store_pipe.specs.Tables.{IsUnread, TokenSource}
+use Rattle.program_words.specs.declared.command.Asking.TheVariants.{ByTokens, Owner, Fresh}
+use Rattle.program_words.specs.declared.command.Command.{Command}
+use Rattle.program_words.specs.declared.command.Command.TheVariants.{Init, Pipe, Check, Audit, Load, Report, Ship, Follow}
+use Rattle.podctl_commands.specs.Ends.{IsInitEnd, status_of}
+use Rattle.podctl_commands.specs.declared.ends.StoreEnd.{StoreEnd}
+use Rattle.podctl_commands.specs.declared.ends.StoreEnd.TheVariants.{Done, WriteFault, Damaged, DiskFault, NoMemory, NotEmpty, Empty}
+use Rattle.pod_pipe.specs.StoreRuns.{Streams}
+use Rattle.pod_pipe.specs.Tables.{IsUnread, TokenSource}
 use Rattle.pod_tool.specs.Runs.{Runs}
 use Rattle.pod_tool.specs.Stores.{IsIdle, IsUnbegun}
 

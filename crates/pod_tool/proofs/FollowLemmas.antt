@@ -1,8 +1,8 @@
 -- The end of a follower that has status 4.
 use Rattle.std.proofs.Common.{◌≡◌, refl, arith}
-use Rattle.follow_stream.specs.Ends.{status_of}
-use Rattle.follow_stream.specs.declared.end.FollowEnd.{FollowEnd}
-use Rattle.follow_stream.specs.declared.end.FollowEnd.TheVariants.{Done, BadFrame, ReadFault, WriteFault, NoMemory, ReadLimit}
+use Rattle.podctl_commands.specs.FollowEnds.{status_of}
+use Rattle.podctl_commands.specs.declared.end.FollowEnd.{FollowEnd}
+use Rattle.podctl_commands.specs.declared.end.FollowEnd.TheVariants.{Done, BadFrame, ReadFault, WriteFault, NoMemory, ReadLimit}
 
 pub is_write_fault : (end : FollowEnd) → status_of end ≡ 4 → end ≡ WriteFault
 is_write_fault WriteFault is = refl

@@ -20,7 +20,7 @@ use Rattle.pod_pipe.proofs.ReadsLemmas.{no_reads}
 use Rattle.pod_pipe.proofs.Weaker.{pipes_weaker, session_weaker, unserved, unserved_session}
 use Rattle.pod_rows.specs.Pod.{Pod}
 use Rattle.pod_tool.specs.Fresh.{MeetsNoDisk, RunsFresh, asking_owner, fresh_base, fresh_history}
-use Rattle.store_pipe.specs.StoreRuns.{Streams}
+use Rattle.pod_pipe.specs.StoreRuns.{Streams}
 
 -- the history of a new pod is one
 pub fresh_is_history : (owner : List ℕ) (made : ℕ) → IsHistory (fresh_history owner made)

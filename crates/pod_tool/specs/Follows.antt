@@ -1,9 +1,9 @@
 -- A follower over the streams of a run.
 use Rattle.std.specs.Prelude.{◌≡◌, ◌⊎◌, ℕ}
-use Rattle.follow_stream.specs.Ends.{CountsInput, FollowsInput, Tells, status_of}
-use Rattle.follow_stream.specs.declared.end.FollowEnd.{FollowEnd}
+use Rattle.podctl_commands.specs.FollowEnds.{CountsInput, FollowsInput, Tells, status_of}
+use Rattle.podctl_commands.specs.declared.end.FollowEnd.{FollowEnd}
 use Rattle.pod_tool.specs.Stores.{IsIdle}
-use Rattle.store_pipe.specs.StoreRuns.{Streams}
+use Rattle.pod_pipe.specs.StoreRuns.{Streams}
 
 -- What a run of `follow` reads, writes and reports.
 pub record FollowsStreams (streams : Streams) (status : ℕ) : Type 0 where

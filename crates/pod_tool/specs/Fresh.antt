@@ -8,7 +8,7 @@ use Rattle.pod_pipe.specs.Served.{WritesSession, disk_faults}
 use Rattle.pod_pipe.specs.Statuses.{PipesAndTells, status_of}
 use Rattle.pod_pipe.specs.Streams.{CountsInput}
 use Rattle.pod_pipe.specs.declared.status.PipeEnd.{PipeEnd}
-use Rattle.store_pipe.specs.StoreRuns.{Streams}
+use Rattle.pod_pipe.specs.StoreRuns.{Streams}
 use Rattle.token_table.specs.Credentials.{AskedAgent, known}
 
 -- the base of a pod in memory

@@ -1,17 +1,17 @@
 -- Runs of the load generator.
 use Rattle.std.specs.Prelude.{◌≡◌, ◌⊎◌, ℕ, false, List, [], length, take, Option, Some}
-use Rattle.line_sink.specs.Writing.{ExtendsBy}
+use Rattle.pod_io.specs.Writing.{ExtendsBy}
 use Rattle.load_generator.specs.Streams.{load_owner, stream}
 use Rattle.load_generator.specs.Summaries.{summary_line}
 use Rattle.load_generator.specs.declared.requests.TheConstants.{LOAD_MOMENT}
 use Rattle.pod_core.specs.History.{History, end_of, pod_at}
 use Rattle.pod_core.specs.Session.{Item}
 use Rattle.pod_pipe.specs.Served.{disk_faults, out_of_memory_items}
-use Rattle.session_laws.specs.Isolated.{grown}
+use Rattle.history_laws.specs.Isolated.{grown}
 use Rattle.pod_pipe.specs.Statuses.{IsTold, Pipes}
 use Rattle.pod_pipe.specs.declared.status.PipeEnd.{PipeEnd}
 use Rattle.pod_tool.specs.Fresh.{asking_owner, fresh_history}
-use Rattle.store_pipe.specs.StoreRuns.{Streams}
+use Rattle.pod_pipe.specs.StoreRuns.{Streams}
 
 -- the clock of a run is fixed
 abbrev pub IsLoadMoment : ℕ → Type 0

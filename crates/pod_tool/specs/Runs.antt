@@ -1,18 +1,18 @@
 -- What a run of `podctl` finds, and what it leaves.
 use Rattle.std.specs.Prelude.{◌≡◌, ◌⊎◌, ℕ, List, Option, Some, None, true, false}
-use Rattle.podctl_words.specs.declared.command.Asking.TheVariants.{ByTokens, Owner, Fresh}
-use Rattle.podctl_words.specs.declared.command.Command.{Command}
-use Rattle.podctl_words.specs.declared.command.Command.TheVariants.{Init, Pipe, Check, Audit, Load}
-use Rattle.podctl_words.specs.declared.command.Command.TheVariants.{Report, Ship, Follow}
-use Rattle.follow_commands.specs.Lines.{report_text}
+use Rattle.program_words.specs.declared.command.Asking.TheVariants.{ByTokens, Owner, Fresh}
+use Rattle.program_words.specs.declared.command.Command.{Command}
+use Rattle.program_words.specs.declared.command.Command.TheVariants.{Init, Pipe, Check, Audit, Load}
+use Rattle.program_words.specs.declared.command.Command.TheVariants.{Report, Ship, Follow}
+use Rattle.podctl_commands.specs.Lines.{report_text}
 use Rattle.pod_tool.specs.Follows.{RunsFollow}
 use Rattle.pod_tool.specs.Fresh.{RunsFresh}
 use Rattle.pod_tool.specs.Loads.{RunsLoad}
 use Rattle.pod_tool.specs.Stores.{IsIdle, RunsInit, RunsPrinting, RunsShipping, RunsStored}
 use Rattle.pod_tool.specs.Stores.{agent_in}
-use Rattle.store_commands.specs.Texts.{audit_text, check_text}
-use Rattle.store_pipe.specs.StoreRuns.{Streams}
-use Rattle.store_pipe.specs.Tables.{TokenSource}
+use Rattle.podctl_commands.specs.Texts.{audit_text, check_text}
+use Rattle.pod_pipe.specs.StoreRuns.{Streams}
+use Rattle.pod_pipe.specs.Tables.{TokenSource}
 
 -- what a run did to its input, its output and its error sink
 abbrev pub streams_of : {S K E : Type 0} → (S → Option (List ℕ)) → (S → ℕ) → (S → ℕ)

@@ -1,6 +1,6 @@
 -- Commands over the two disks of a store.
 use Rattle.std.specs.Prelude.{◌≡◌, ◌⊎◌, ◌<◌, ℕ, Bool, List, [], length, Option, Some, None}
-use Rattle.follow_commands.specs.Ships.{Ships}
+use Rattle.podctl_commands.specs.Ships.{Ships}
 use Rattle.journal_pair.specs.PairMoments.{EachPair, LeavesPairs}
 use Rattle.pod_base.specs.declared.agent.Agent.{Agent}
 use Rattle.pod_base.specs.declared.agent.Agent.TheVariants as agents
@@ -11,13 +11,13 @@ use Rattle.pod_io.specs.Visible.{IfVisible}
 use Rattle.pod_keeper.specs.CrashedPods.{StandsFor}
 use Rattle.pod_keeper.specs.NewStores.{new_history, IsNewStore}
 use Rattle.pod_keeper.specs.OpenedPods.{OpensDisks}
-use Rattle.store_commands.specs.Ends.{IsInitEnd, status_of}
-use Rattle.store_commands.specs.Making.{HoldsBytes}
-use Rattle.store_commands.specs.Prints.{Prints, Tells}
-use Rattle.store_commands.specs.declared.ends.StoreEnd.{StoreEnd}
-use Rattle.store_commands.specs.declared.ends.StoreEnd.TheVariants.{Done, NoMemory, NotEmpty}
-use Rattle.store_pipe.specs.StoreRuns.{IsUnserved, RunsStore, Streams}
-use Rattle.store_pipe.specs.Tables.{IsUnread, TokenSource}
+use Rattle.podctl_commands.specs.Ends.{IsInitEnd, status_of}
+use Rattle.podctl_commands.specs.Making.{HoldsBytes}
+use Rattle.podctl_commands.specs.Prints.{Prints, Tells}
+use Rattle.podctl_commands.specs.declared.ends.StoreEnd.{StoreEnd}
+use Rattle.podctl_commands.specs.declared.ends.StoreEnd.TheVariants.{Done, NoMemory, NotEmpty}
+use Rattle.pod_pipe.specs.StoreRuns.{IsUnserved, RunsStore, Streams}
+use Rattle.pod_pipe.specs.Tables.{IsUnread, TokenSource}
 
 -- the agent of a report: everyone, where none is named
 abbrev pub agent_in : Option (List ℕ) → Agent

@@ -4,9 +4,9 @@ ghost use Rattle.pod_base.specs.Counts.{CountIncreased};
 ghost use Rattle.pod_tool.specs.Follows.{FollowsStreams};
 ghost use Rattle.pod_tool.specs.Runs.{streams_of};
 
-use follow_stream::follow;
 use pod_io::{Sink, Source};
 use pod_pipe::Status;
+use podctl_commands::follow;
 use std::alloc::Global;
 
 /// Reads frames, keeps the pod that they give, and writes the response to each read.

@@ -13,9 +13,9 @@
 //! `write_fault`, `disk_fault`); and what a command doesn't need stays as it was (`in_memory`,
 //! `no_input`, `no_tokens`).
 //!
-//! It depends on `podctl_words` for the words, on `store_commands`, `follow_commands` and
-//! `store_pipe` for commands over a store, on `follow_stream` for a follower, on `pod_pipe` and
-//! `first_rows` for a pod in memory, and on `load_generator`.
+//! It depends on `program_words` for the words, on `podctl_commands` for commands over a store and
+//! for a follower, on `pod_pipe` for one connection, on `first_rows` for a pod in memory, and on
+//! `load_generator`.
 #![tactic(auto)]
 
 mod following;

@@ -7,10 +7,9 @@ ghost use Rattle.pod_pipe.specs.Statuses.{IsTold};
 ghost use Rattle.pod_tool.specs.Loads.{IsLoadLine, IsLoaded, PrintsLoad};
 
 use crate::fresh::fresh_start;
-use line_sink::write_all;
 use load_generator::{LOAD_MOMENT, owner, stream, summary_line};
 use pod_base::{Mem, Moment, NoMemory};
-use pod_io::{MemSink, MemSource, SetClock, Sink};
+use pod_io::{MemSink, MemSource, SetClock, Sink, write_all};
 use pod_pipe::{PipeEnd, Piped, Status, pipe};
 use pod_rows::PodState;
 use std::alloc::Global;

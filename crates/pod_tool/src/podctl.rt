@@ -6,8 +6,8 @@ ghost use Rattle.pod_base.specs.Counts.{CountIncreased};
 ghost use Rattle.pod_tool.specs.Fresh.{RunsFresh};
 ghost use Rattle.pod_tool.specs.Runs.{NeedsNoInput, NeedsNoOutput, NeedsNoStore, NeedsNoTokens};
 ghost use Rattle.pod_tool.specs.Runs.{Runs, streams_of};
-ghost use Rattle.podctl_words.specs.Readings.{IsSound, reading};
-ghost use Rattle.store_pipe.specs.Tables.{tokens_of};
+ghost use Rattle.program_words.specs.Readings.{IsSound, reading};
+ghost use Rattle.pod_pipe.specs.Tables.{tokens_of};
 
 use crate::following::follow_streams;
 use crate::fresh::pipe_fresh;
@@ -15,10 +15,9 @@ use crate::loading::load;
 use crate::stores::{Printing, init_store, print_store, report_store, ship_store};
 use pod_disk::{Disk, Place};
 use pod_io::{Clock, Sink, Source};
-use pod_pipe::{PipeEnd, Status};
-use podctl_words::{Asking, Command, read};
+use pod_pipe::{PipeEnd, Status, pipe_store};
+use program_words::{Asking, Command, read};
 use std::alloc::Global;
-use store_pipe::pipe_store;
 
 /// The status of invalid arguments.
 const NO_READING: u8 = 2;
@@ -121,7 +120,7 @@ fn run<S: Source, K: Sink, E: Sink, D: Disk, T: Source, C: Clock>(
 }
 
 /// Runs `podctl` with the words after its name, over three streams, the place of a store, and a
-/// clock. [`podctl_words::read`] parses the words:
+/// clock. [`program_words::read`] parses the words:
 ///
 /// - `init` makes a store on the two empty disks of the place;
 /// - `pipe` serves the input as one connection of the store's pod, agents by the token table of the

@@ -1,6 +1,6 @@
 //! The commands that make a store in a place, and print of it.
 ghost use Rattle.std.specs.Prelude.{◌≡◌, ◌≢◌, ◌⊎◌, ◌≤◌, IsTrue, IfOk, IfSome, IsSome};
-ghost use Rattle.follow_commands.specs.Lines.{report_text};
+ghost use Rattle.podctl_commands.specs.Lines.{report_text};
 ghost use Rattle.iri_ref.specs.Components.{IsAbsolute};
 ghost use Rattle.pod_base.specs.Counts.{CountIncreased};
 ghost use Rattle.pod_keeper.specs.OpenedPods.{OpensDisks};
@@ -8,16 +8,15 @@ ghost use Rattle.pod_rows.specs.Base.{is_base};
 ghost use Rattle.pod_tool.specs.Stores.{IsUnbegun, Makes, PrintsStore};
 ghost use Rattle.pod_tool.specs.Stores.{PrintsUnless, ShipsStore, agent_in};
 ghost use Rattle.pod_tool.specs.Texts.{text_of};
-ghost use Rattle.store_commands.specs.Prints.{Prints, Tells};
+ghost use Rattle.podctl_commands.specs.Prints.{Prints, Tells};
 
-use follow_commands::{report, ship};
 use iri_ref::Iri;
 use pod_base::{Agent, Mem, Text};
 use pod_disk::{Disk, Disks, Place};
 use pod_io::{Clock, Sink, Source};
 use pod_pipe::{Status, clock_moment};
+use podctl_commands::{Ended, StoreEnd, audit, check, init, report, ship};
 use std::alloc::Global;
-use store_commands::{Ended, StoreEnd, audit, check, init};
 
 /// The status of a run that ran out of memory.
 const NO_MEMORY: u8 = 7;

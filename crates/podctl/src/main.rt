@@ -5,12 +5,11 @@
 ghost use Rattle.std.specs.Prelude.{◌≡◌, IfOk, IsSome};
 ghost use Rattle.std.specs.Process.{exit_status};
 
-use file_source::{FileSource, HeldStreams};
 use pod_base::{Mem, Text};
 use pod_disk::{Disks, FileDisk, Place};
-use pod_io::{Clock, HostClock, SetClock, StdSink, StdSource};
+use pod_io::{Clock, FileSource, HeldStreams, HostClock, SetClock, StdSink, StdSource};
 use pod_tool::{Status, run_podctl};
-use podctl_words::{Asking, Command, read};
+use program_words::{Asking, Command, read};
 use std::alloc::Global;
 use std::io::ErrorKind;
 use std::process::ExitCode;

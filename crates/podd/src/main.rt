@@ -5,10 +5,9 @@
 ghost use Rattle.std.specs.Prelude.{◌≡◌, IfOk, IsSome};
 ghost use Rattle.std.specs.Process.{exit_status};
 
-use file_source::{FileSource, HeldStreams};
 use pod_base::{Mem, Text};
 use pod_disk::{Disk, Disks, FileDisk, Place};
-use pod_io::{Clock, HostClock, Listen, Sink, Source, StdSink, TcpListen};
+use pod_io::{Clock, FileSource, HeldStreams, HostClock, Listen, Sink, Source, StdSink, TcpListen};
 use pod_serve::{Status, run_podd};
 use published_view::Places;
 use std::alloc::Global;

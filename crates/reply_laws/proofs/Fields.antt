@@ -6,7 +6,7 @@ use Rattle.iri_ref.proofs.Texts.{and_left, and_right, and_both}
 use Rattle.pod_base.specs.declared.field.Field.{Field}
 use Rattle.pod_base.specs.declared.method.Method.{Method}
 use Rattle.pod_base.specs.declared.method.Method.TheVariants.{Get, Head, Options, Post, Put, Patch, Delete, Other}
-use Rattle.moment_date.specs.Dates.{date_text}
+use Rattle.http_out.specs.Calendar.{date_text}
 use Rattle.pod_path.specs.Hierarchy.{is_root, is_container, is_acl, is_meta, is_auxiliary, acl_of, meta_of, subject_of, uri_of, without_end}
 use Rattle.pod_responses.specs.Allow.{taken_names, allow_text, put_types, is_removable}
 use Rattle.pod_responses.specs.Links.{field, link, type_link, container_links, storage_links, type_links, link_to, described_by, list_of, about_links}

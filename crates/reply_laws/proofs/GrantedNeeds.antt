@@ -21,11 +21,11 @@ use Rattle.pod_rows.specs.Pod.{Pod, row_at}
 use Rattle.pod_rows.specs.WellFormed.{WellFormed}
 use Rattle.rdf_graph.proofs.Members.{contains_cases, contains_here, contains_none}
 use Rattle.reply_laws.specs.Alike.{Alike}
-use Rattle.wac_decide.proofs.Granting.{some_is_granted}
-use Rattle.wac_decide.proofs.Positions.{any_passes}
-use Rattle.wac_decide.specs.Decision.{first_ground}
-use Rattle.wac_decide.specs.Needs.{each_once, mode_eq, need_eq, with_need}
-use Rattle.wac_decide.specs.declared.request_needs.Need.{Need}
+use Rattle.pod_access.proofs.Granting.{some_is_granted}
+use Rattle.pod_access.proofs.Positions.{any_passes}
+use Rattle.pod_access.specs.Decision.{first_ground}
+use Rattle.pod_access.specs.Needs.{each_once, mode_eq, need_eq, with_need}
+use Rattle.pod_access.specs.declared.request_needs.Need.{Need}
 
 -- ---- a need stands among the needs, each once
 

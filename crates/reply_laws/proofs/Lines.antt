@@ -14,13 +14,13 @@ use Rattle.http_out.specs.Text.{stays_in_line}
 use Rattle.httpdate.specs.Text.{day_name, month_name, two_digits, four_digits}
 use Rattle.iri_ref.proofs.Texts.{and_left, and_right, and_both, all_append}
 use Rattle.httpdate.specs.Calendar.{weekday}
-use Rattle.moment_date.specs.Dates.{last_moment, year_of, month_of, day_of_month, civil_text, clock_text, second_text, date_text}
+use Rattle.http_out.specs.Calendar.{last_moment, year_of, month_of, day_of_month, civil_text, clock_text, second_text, date_text}
 use Rattle.pod_path.specs.Characters.{is_path_character}
 use Rattle.pod_path.specs.Hierarchy.{uri_of}
 use Rattle.pod_path.specs.Norm.{has_path_characters}
 use Rattle.range_req.specs.Multipart.{free_number, free_boundary}
 use Rattle.sha2.specs.Sha256.{sha256, digest_bytes}
-use Rattle.wac_decide.specs.Allow.{words, granted_words, allow_text}
+use Rattle.pod_access.specs.Allow.{words, granted_words, allow_text}
 use Rattle.websocket.specs.Handshake.{accept_key_of}
 use Rattle.websocket.proofs.AcceptKey.{accept_key_is_graphic}
 

@@ -51,8 +51,8 @@ use Rattle.request_target.specs.Admission.{admitted}
 use Rattle.request_target.specs.declared.target.Target.TheVariants.{Resource}
 use Rattle.slug_naming.specs.Stems.{stem_of}
 use Rattle.token_table.specs.Credentials.{AskedAgent}
-use Rattle.wac_decide.specs.Needs.{needs_of}
-use Rattle.wac_decide.specs.declared.request_needs.Need.{Need}
+use Rattle.pod_access.specs.Needs.{needs_of}
+use Rattle.pod_access.specs.declared.request_needs.Need.{Need}
 use Rattle.reply_laws.specs.Granted.{IsGranted, is_change}
 use Rattle.reply_laws.proofs.Applying.{HasRoom, by_changing, by_making, by_posting, by_removing, has_room}
 use Rattle.reply_laws.proofs.Contents.{IsRightChange, fitting_row, new_graph_lacks, patch_right, post_held, put_held, states_none, update_right}

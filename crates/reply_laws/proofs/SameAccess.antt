@@ -22,7 +22,7 @@ use Rattle.pod_base.specs.declared.agent.Agent.{Agent}
 use Rattle.pod_base.specs.declared.agent.Agent.TheVariants.{Public, Known}
 use Rattle.pod_base.specs.declared.agent.Mode.{Mode}
 use Rattle.pod_base.specs.declared.agent.Mode.TheVariants.{Control}
-use Rattle.wac_decide.specs.Allow.{allow_text}
+use Rattle.pod_access.specs.Allow.{allow_text}
 use Rattle.pod_rows.specs.View.{triples_in}
 use Rattle.pod_command.specs.declared.row.Content.{Content}
 use Rattle.pod_command.specs.declared.row.Content.TheVariants as contents
@@ -35,10 +35,10 @@ use Rattle.pod_rows.specs.Pod.{Pod, is_at, row_at}
 use Rattle.rdf_graph.proofs.Members.{contains_here, contains_there, contains_none}
 use Rattle.reply_laws.proofs.SamePaths.{same_effective}
 use Rattle.reply_laws.specs.Alike.{Alike, NamesGroup}
-use Rattle.wac_decide.proofs.Positions.{slice_get_member}
-use Rattle.wac_decide.specs.Decision.{allow_modes, basis_at, covers, first_ground, ground_in, has_mode, has_subject, is_about, rule_grants, subjects_at, subjects_of}
-use Rattle.wac_decide.specs.declared.decision.Ground.{Ground}
-use Rattle.wac_decide.specs.declared.request_needs.Need.{Need}
+use Rattle.pod_access.proofs.Positions.{slice_get_member}
+use Rattle.pod_access.specs.Decision.{allow_modes, basis_at, covers, first_ground, ground_in, has_mode, has_subject, is_about, rule_grants, subjects_at, subjects_of}
+use Rattle.pod_access.specs.declared.decision.Ground.{Ground}
+use Rattle.pod_access.specs.declared.request_needs.Need.{Need}
 
 -- ---- a row that is found
 

@@ -45,9 +45,9 @@ use Rattle.reply_laws.proofs.SameChanges.{same_delete, same_patch, same_post, sa
 use Rattle.reply_laws.proofs.SameRanks.{same_read, same_shape}
 use Rattle.reply_laws.specs.Alike.{Alike}
 use Rattle.token_table.specs.Credentials.{AskedAgent}
-use Rattle.wac_decide.specs.Needs.{all_needs, description_needs, each_once, is_options, needs_of, new_row_needs, on, patch_modes, resource_needs, tag_modes}
-use Rattle.wac_decide.specs.declared.request_needs.Need.{Need}
-use Rattle.wac_decide.specs.declared.request_needs.Shape.{Shape}
+use Rattle.pod_access.specs.Needs.{all_needs, description_needs, each_once, is_options, needs_of, new_row_needs, on, patch_modes, resource_needs, tag_modes}
+use Rattle.pod_access.specs.declared.request_needs.Need.{Need}
+use Rattle.pod_access.specs.declared.request_needs.Shape.{Shape}
 
 -- ---- what needs Read
 

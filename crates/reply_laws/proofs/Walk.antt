@@ -23,7 +23,7 @@ use Rattle.request_target.specs.Admission.{admitted}
 use Rattle.request_target.specs.declared.target.Target.{Target}
 use Rattle.request_target.specs.declared.target.Target.TheVariants.{Server, Resource}
 use Rattle.token_table.specs.Credentials.{AskedAgent}
-use Rattle.wac_decide.specs.Needs.{needs_of}
+use Rattle.pod_access.specs.Needs.{needs_of}
 use Rattle.reply_laws.specs.Granted.{is_change}
 use Rattle.reply_laws.proofs.Fields.{options_are_lines}
 use Rattle.reply_laws.proofs.Making.{IsAsked, delete_kind, patch_kind, post_kind, put_kind}

@@ -15,7 +15,7 @@ use Rattle.request_body.specs.declared.body.RequestBody.{RequestBody}
 use Rattle.request_target.specs.Admission.{admitted}
 use Rattle.request_target.specs.declared.target.Target.TheVariants.{Resource}
 use Rattle.token_table.specs.Credentials.{AskedAgent}
-use Rattle.wac_decide.specs.Needs.{needs_of}
+use Rattle.pod_access.specs.Needs.{needs_of}
 
 -- the methods that change a pod
 abbrev pub is_change : Method → Bool

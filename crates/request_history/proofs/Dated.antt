@@ -3,8 +3,8 @@ use Rattle.std.proofs.Common.{◌≡◌, ◌⊎◌, inl, inr, ℕ, ◌<◌, ◌�
 use Rattle.std.specs.List.{AllByRecursion}
 use Rattle.http_conn.specs.Messages.{HasRefusalStatus, IsRefusalStatus, Messages}
 use Rattle.http_out.specs.Dates.{IsDateOf}
-use Rattle.moment_date.proofs.Calendar.{date_is}
-use Rattle.moment_date.specs.Dates.{date_text}
+use Rattle.http_out.proofs.CalendarLemmas.{date_is}
+use Rattle.http_out.specs.Calendar.{date_text}
 use Rattle.pod_base.specs.declared.heard.Heard.{Heard}
 use Rattle.pod_base.specs.declared.heard.Heard.TheVariants as heard
 use Rattle.pod_core.specs.World.{Connection, IsNextEvent}

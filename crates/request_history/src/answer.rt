@@ -1,7 +1,7 @@
 //! [`Answer`]: the bytes of an answer.
 ghost use Rattle.std.specs.Prelude.{◌≡◌, ◌==◌, true, IfOk};
 ghost use Rattle.http_out.specs.Text.{response_text};
-ghost use Rattle.moment_date.specs.Dates.{date_text};
+ghost use Rattle.http_out.specs.Calendar.{date_text};
 ghost use Rattle.pod_core.specs.Output as output;
 ghost use Rattle.pod_core.specs.World.{Connection as WorldConnection, IsNextEvent};
 ghost use Rattle.pod_base.specs.declared.heard.Heard.TheVariants as heard;

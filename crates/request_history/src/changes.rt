@@ -1,7 +1,7 @@
 //! A change that is next on a connection: its answer at the end of the history.
 ghost use Rattle.std.specs.Prelude.{◌≡◌, ◌<◌, ◌+◌, ◌^◌, suc, IfOk, IfSome, Some};
 ghost use Rattle.http_out.specs.Text.{response_text};
-ghost use Rattle.moment_date.specs.Dates.{date_text};
+ghost use Rattle.http_out.specs.Calendar.{date_text};
 ghost use Rattle.pod_command.specs.Encodable.{IsEncodable};
 ghost use Rattle.pod_core.specs.KeeperSteps.{stamp_at_end};
 ghost use Rattle.pod_core.specs.Output as output;

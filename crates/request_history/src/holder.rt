@@ -1,7 +1,7 @@
 //! [`Holder`]: the change that holds the lock.
 ghost use Rattle.std.specs.Prelude.{◌≡◌, suc};
 ghost use Rattle.http_out.specs.Text.{response_text};
-ghost use Rattle.moment_date.specs.Dates.{date_text};
+ghost use Rattle.http_out.specs.Calendar.{date_text};
 ghost use Rattle.pod_core.specs.Output as output;
 ghost use Rattle.pod_core.specs.Session.{upgrades};
 ghost use Rattle.request_history.specs.Answers.{holder_of};
@@ -30,7 +30,7 @@ pub(crate) struct Holder {
 impl Model for Holder {
     ghost use Rattle.std.specs.Prelude.{◌≡◌};
     ghost use Rattle.http_out.specs.Text.{response_text};
-    ghost use Rattle.moment_date.specs.Dates.{date_text};
+    ghost use Rattle.http_out.specs.Calendar.{date_text};
     ghost use Rattle.pod_core.specs.KeeperSteps.{Holder as KeeperHolder};
     ghost use Rattle.pod_core.specs.Output as output;
     ghost use Rattle.request_history.specs.Answers.{holder_of};

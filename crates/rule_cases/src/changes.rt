@@ -3,9 +3,9 @@
 use crate::edit_words::{edit_of, entry_of};
 use crate::row_text::{rows_text, yes_or_no};
 use case_words::number_of;
-use entry_fits::fits as fits_touched;
 use pod_base::{List, Mem};
 use pod_command::{Edit, Entry};
+use pod_records::fits as fits_touched;
 use pod_rows::{PlainRows, PodState, fits, snapshot};
 use std::alloc::Global;
 

@@ -4,12 +4,12 @@ use crate::groups::{Members, members_of};
 use crate::words::{agent_of, mode_of, mode_word};
 use acl_rules::{How, Items, Rule, Rules, Subject, rules_of};
 use case_words::{add_words, iri_or_bad, path_or_root, pod_graph, shown_whole};
+use pod_access::{basis_of, granted, granted_modes, wac_allow};
 use pod_base::{Agent, Mem, Mode};
 use pod_command::{Basis, Who};
 use pod_path::Path;
 use rdf_graph::{Graph, Term};
 use std::alloc::{AllocError, Global};
-use wac_decide::{basis_of, granted, granted_modes, wac_allow};
 
 /// The base of these cases.
 const BASE: &str = "https://pod.example/";

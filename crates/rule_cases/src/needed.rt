@@ -2,9 +2,9 @@
 
 use crate::words::mode_word;
 use case_words::{method_of, path_or_root, shown_whole};
+use pod_access::{Shape, needs, wac_allow};
 use pod_base::Mem;
 use std::alloc::Global;
-use wac_decide::{Shape, needs, wac_allow};
 
 /// The shape of a request: its method, its path, whether that is a row, the nearest container above
 /// it, and the letters of its parts.

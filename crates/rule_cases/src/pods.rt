@@ -13,7 +13,7 @@ use pod_path::{Path, Taken};
 use pod_rows::{PlainRows, PodState, container_view};
 use rdf_graph::Term;
 use std::alloc::Global;
-use turtle_write::write;
+use turtle_text::write;
 
 /// Whether there is a row at the path, over any state.
 fn is_taken<S: PodState>(state: &S, at: &Path) -> bool

@@ -4,11 +4,11 @@ use crate::entries::{entry, pod_of};
 use crate::paths::all_paths;
 use crate::version_runs::{run_random, start};
 use crate::version_text::{effects_text, is_same};
-use entry_fits::fits as fits_touched;
 use pod_base::{Mem, NoMemory};
 use pod_command::Entry;
 use pod_pages::{Replay, Version};
 use pod_path::Path;
+use pod_records::fits as fits_touched;
 use pod_rows::PodState;
 use std::alloc::Global;
 

@@ -6,7 +6,7 @@ use pod_base::Mem;
 use pod_command::{Content, Row};
 use pod_path::Path;
 use std::alloc::Global;
-use turtle_write::write;
+use turtle_text::write;
 
 /// `yes` or `no`.
 pub(crate) fn yes_or_no(alloc: Global, holds: bool) -> Mem<String> {

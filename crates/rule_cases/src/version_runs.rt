@@ -3,11 +3,11 @@
 use crate::entries::{entry, pod_of};
 use crate::paths::{all_paths, next_number};
 use crate::version_text::{access_text, effects_text, is_same};
-use entry_fits::fits as fits_touched;
 use pod_base::{Mem, NoMemory};
 use pod_command::Entry;
 use pod_pages::Version;
 use pod_path::Path;
+use pod_records::fits as fits_touched;
 use pod_rows::{PlainRows, PodState, StateFault, fits};
 use std::alloc::Global;
 

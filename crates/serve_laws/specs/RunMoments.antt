@@ -1,6 +1,6 @@
 -- What a crash leaves at each moment of a run of `podd` whose gates were all served.
 use Rattle.std.specs.Prelude.{ℕ, List, Option}
-use Rattle.pair_writes.specs.Doubts.{IsSure, IsLong}
+use Rattle.journal_pair.specs.Doubts.{IsSure, IsLong}
 use Rattle.pod_command.specs.declared.entry.Entry.{Entry}
 use Rattle.pod_core.specs.History.{History}
 use Rattle.pod_keeper.specs.KeeperRuns.{StandsWith}

@@ -1,9 +1,9 @@
-//! Cases of `turtle_labels`: the labels of the unnamed nodes with these numbers in a document.
+//! Cases of `turtle_reader`: the labels of the unnamed nodes with these numbers in a document.
 
 use case_words::bytes;
 use pod_base::Mem;
 use std::alloc::Global;
-use turtle_labels::Labels;
+use turtle_reader::Labels;
 
 /// The labels of the nodes, with a space after each.
 pub(crate) fn labels(alloc: Global, numbers: &str, field: &str) -> Mem<String> {

@@ -1,4 +1,4 @@
-//! Cases of `turtle_write`: the text of a graph and its length. A graph is a field of three words
+//! Cases of `turtle_text`: the text of a graph and its length. A graph is a field of three words
 //! for each triple, with `;` between triples. A word is one of `marked_term`, where `"` begins a
 //! literal of the datatype `http://d.example/t`.
 
@@ -9,13 +9,13 @@ use std::alloc::Global;
 
 /// The text of a graph as a field.
 pub(crate) fn graph_text(alloc: Global, graph: &Graph) -> Mem<String> {
-    let text = turtle_write::write(alloc, graph)?;
+    let text = turtle_text::write(alloc, graph)?;
     Ok(shown_whole(alloc, text.as_slice())?)
 }
 
 fn text_and_length(alloc: Global, graph: &Graph) -> Mem<String> {
     let shown = graph_text(alloc, graph)?;
-    let len = turtle_write::len(graph);
+    let len = turtle_text::len(graph);
     Ok(format!(in alloc; "{}\t{}", shown.as_str(), len)?)
 }
 

@@ -12,3 +12,7 @@ pub mod Telling
 pub mod OneText
 pub mod Walking
 pub mod Ending
+-- kept for the crates above
+pub mod BeforeLemmas
+pub mod UnnamedLemmas
+pub mod DocumentLemmas

@@ -10,5 +10,10 @@ pub mod FirstFaults
 pub mod Languages
 pub mod Readings
 pub mod Laws
+pub mod TokensBefore
+pub mod Unnamed
+pub mod Documents
+pub mod LabelLaws
 -- internal: cited by private clauses alone
 pub mod Walks
+pub mod Taken

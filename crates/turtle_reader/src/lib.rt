@@ -25,17 +25,29 @@
 //! have at most [`TERM_BYTES_LIMIT`] bytes. Past that, and past [`STATEMENT_LIMIT`], it is out of
 //! memory. The crate stands on `turtle_grammar` for productions and on `turtle_terms` for the terms
 //! of tokens.
+//!
+//! [`Labels`] are the labels of the unnamed nodes of a document: `[`, ANON and the cells of
+//! collections. The k-th unnamed node, from 0, gets the k-th of `g0`, `g1`, .. that is no label of
+//! the document (clause `label`, by `IsUnnamed` of `specs/Unnamed.antt`); [`LazyLabels`] read the
+//! document's tokens at the first unnamed node. [`label_laws`] has what proofs of readers cite: a
+//! node has one label, and labels of different nodes differ from each other and from those of the
+//! document.
 #![tactic(auto)]
 
 mod budget;
 mod context;
 mod driver;
+mod given;
 mod kept;
+pub mod label_laws;
+mod labels;
 mod language;
 pub mod laws;
+mod lazy_labels;
 mod lexeme;
 mod lexing;
 mod meaning;
+mod numbers;
 mod progress;
 mod reader;
 mod referent;
@@ -43,7 +55,9 @@ mod referent;
 pub use budget::{STATEMENT_LIMIT, TERM_BYTES_LIMIT};
 pub use context::{Context, Directive};
 pub use driver::walk;
+pub use labels::Labels;
 pub use language::Language;
+pub use lazy_labels::LazyLabels;
 pub use lexeme::Lexeme;
 pub use meaning::Meaning;
 pub use reader::Reader;

@@ -7,7 +7,7 @@ use Rattle.rdf_graph.specs.declared.term.Term.TheVariants.{Blank}
 use Rattle.rdf_graph.specs.declared.triple.Triple.{Triple as RdfTriple}
 use Rattle.rdf_graph.specs.Size.{saturated, triple_size, triples_size}
 use Rattle.turtle_grammar.specs.declared.symbol.Start.TheVariants as start_of
-use Rattle.turtle_labels.proofs.DocumentLemmas.{one_label_of}
+use Rattle.turtle_reader.proofs.DocumentLemmas.{one_label_of}
 use Rattle.turtle_reader.specs.declared.lexeme.Lexeme.{Lexeme}
 use Rattle.turtle_reader.specs.declared.referent.Referent.{Referent}
 use Rattle.turtle_reader.specs.declared.referent.Referent.TheVariants as referent_of

@@ -1,3 +1,4 @@
 pub mod Sums
 pub mod Judging
 pub mod Spelling
+pub mod Lengths

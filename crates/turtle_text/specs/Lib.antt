@@ -4,3 +4,4 @@ pub mod Faults
 pub mod Laws
 -- internal: cited by private clauses alone
 pub mod Progress
+pub mod HasEscape

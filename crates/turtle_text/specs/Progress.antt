@@ -4,7 +4,7 @@ use Rattle.std.specs.List.{All}
 use Rattle.rdf_graph.specs.declared.triple.Triple.{Triple as RdfTriple}
 use Rattle.rdf_graph.specs.Size.{saturated, triples_size}
 use Rattle.rdf_graph.specs.Triple.{IsRdf}
-use Rattle.turtle_labels.specs.Documents.{AreLazyLabelsOf}
+use Rattle.turtle_reader.specs.Documents.{AreLazyLabelsOf}
 use Rattle.turtle_reader.specs.declared.referent.ResolvedTriple.{ResolvedTriple}
 use Rattle.turtle_text.specs.declared.triples.Triples.{Triples}
 use Rattle.turtle_text.specs.Triples.{IsReferentTriple, AreReferentTriples}

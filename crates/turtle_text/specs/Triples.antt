@@ -6,7 +6,7 @@ use Rattle.rdf_graph.specs.declared.triple.Triple.{Triple as RdfTriple}
 use Rattle.turtle_grammar.specs.declared.production.Node.{Node}
 use Rattle.turtle_grammar.specs.declared.production.SymbolicTriple.{SymbolicTriple}
 use Rattle.turtle_grammar.specs.declared.production.Production.{Production}
-use Rattle.turtle_labels.specs.Documents.{IsLabelOf}
+use Rattle.turtle_reader.specs.Documents.{IsLabelOf}
 use Rattle.turtle_reader.specs.declared.meaning.Meaning.{Meaning}
 use Rattle.turtle_reader.specs.declared.referent.Referent.{Referent}
 use Rattle.turtle_reader.specs.declared.referent.Referent.TheVariants as referent_of

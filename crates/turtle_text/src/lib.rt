@@ -15,13 +15,26 @@
 //! (`only`). By [`laws`] a text spells one graph, by one list of lexemes and one tree, and has one
 //! first fault, at the least position of all its faults.
 //!
-//! It reads the tokens once, by the walk of `turtle_reader`, and once more for the labels of
-//! `turtle_labels` where the document has an unnamed node. Triples share the memory of their terms.
+//! It reads the tokens once, by the walk of `turtle_reader`, and once more for the labels where the
+//! document has an unnamed node. Triples share the memory of their terms.
+//!
+//! ```text
+//! let text = write(alloc, &graph)?;        // <http://e.example/a> <http://e.example/b> "c" .
+//! let size = len(&graph);                  // text.len(), without writing it
+//! ```
+//!
+//! [`write()`] returns `graph_text` of `rdf_graph`, a line for each triple, in byte order (clause
+//! `text`), into memory of its length, which is [`len()`] (clause `length`); [`term_len`] is that of
+//! a term's text.
 #![tactic(auto)]
 
 pub mod laws;
 mod reading;
+mod text;
+mod text_len;
 mod triples;
 
 pub use reading::read;
+pub use text::write;
+pub use text_len::{len, term_len};
 pub use turtle_terms::{Scope, TurtleFault, TurtleKind, term};

@@ -3,7 +3,7 @@
 ghost use Rattle.std.specs.Prelude.{◌≡◌, ◌+◌, ◌++◌, ◌∷◌, [], ℕ, Some, IfOk, OnOk};
 ghost use Rattle.rdf_graph.specs.Size.{saturated};
 ghost use Rattle.rdf_graph.specs.Triple.{IsRdf};
-ghost use Rattle.turtle_labels.specs.Documents.{AreLazyLabelsOf};
+ghost use Rattle.turtle_reader.specs.Documents.{AreLazyLabelsOf};
 ghost use Rattle.turtle_text.specs.Triples.{IsReferentTerm, IsReferentTriple};
 ghost use Rattle.turtle_text.specs.Progress.{IsKeptAnywhere, KeepsTriple};
 
@@ -11,8 +11,7 @@ use pod_base::{List, Mem, NoMemory};
 use rdf_graph::{TRIPLES_LIMIT, Term, Triple};
 use std::alloc::Global;
 use turtle_grammar::Start;
-use turtle_labels::LazyLabels;
-use turtle_reader::{Language, Referent, ResolvedTriple};
+use turtle_reader::{Language, LazyLabels, Referent, ResolvedTriple};
 
 /// The triples so far, the sum of their encoded sizes, and the labels of unnamed nodes as soon as
 /// there is one.

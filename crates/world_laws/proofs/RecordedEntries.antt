@@ -16,7 +16,7 @@ use Rattle.pod_core.specs.World.{DoesEvent, Event, FollowsStep, World, WorldRun,
 use Rattle.pod_core.specs.WorldImages.{MayFollow}
 use Rattle.pod_reply.specs.Replies.{Reply}
 use Rattle.pod_reply.specs.declared.entry_size.TheConstants.{ENTRY_BYTES_LIMIT}
-use Rattle.refusal_laws.specs.RankTable.{EntriesFit}
+use Rattle.answer_laws.specs.RankTable.{EntriesFit}
 use Rattle.token_table.specs.Credentials.{AskedAgent}
 use Rattle.world_laws.specs.CrashedWorlds.{AppendsStorable, IsRecordable, IsRecordableHistory, WritesStorable}
 use Rattle.world_laws.proofs.WorldLists.{all_snoc}

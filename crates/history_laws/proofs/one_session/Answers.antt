@@ -1,4 +1,4 @@
-use Rattle.session_laws.proofs.SameItems.{one_list}
+use Rattle.history_laws.proofs.SameItems.{one_list}
 use Rattle.history_laws.proofs.Sessions.{alike_histories, one_history}
 use Rattle.history_laws.proofs.one_session.Goals as goal
 

@@ -1,8 +1,8 @@
 use Rattle.std.proofs.Common.{◌≡◌, ◌∙◌, List, ap}
 use Rattle.std.specs.Prelude.{is_some}
 use Rattle.acl_rules.specs.declared.rule.Rule.{Rule}
-use Rattle.wac_decide.specs.Decision.{first_ground, rule_grants}
-use Rattle.wac_decide.specs.Grants.{Membership}
+use Rattle.pod_access.specs.Decision.{first_ground, rule_grants}
+use Rattle.pod_access.specs.Grants.{Membership}
 use Rattle.pod_access.specs.PodGrants.{membership}
 use Rattle.access_report.proofs.CheckedRules.{alone_grants}
 use Rattle.access_report.proofs.checking.grants_alone.Goals as goal

@@ -1,6 +1,6 @@
 use Rattle.std.proofs.Common.{◌≡◌, ◌∙◌, sym, ap}
-use Rattle.wac_decide.specs.Decision.{first_ground}
-use Rattle.wac_decide.specs.Grants.{Membership}
+use Rattle.pod_access.specs.Decision.{first_ground}
+use Rattle.pod_access.specs.Grants.{Membership}
 use Rattle.pod_access.specs.PodGrants.{membership}
 use Rattle.access_report.proofs.Decided.{basis_found, no_basis}
 use Rattle.access_report.proofs.decision.basis_in.Goals as goal

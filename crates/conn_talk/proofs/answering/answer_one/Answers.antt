@@ -1,7 +1,7 @@
 use Rattle.std.proofs.Common.{◌==◌, false, [], if◌then◌else◌, refl, subst}
 use Rattle.http_out.specs.Text.{memory_text, disk_text}
 use Rattle.pod_core.specs.Session.{Item}
-use Rattle.line_sink.specs.Writing.{Writes}
+use Rattle.pod_io.specs.Writing.{Writes}
 use Rattle.token_table.specs.Credentials.{AskedAgent, asked_view}
 use Rattle.conn_talk.specs.Steps.{IsTurn, entry_line}
 use Rattle.conn_talk.proofs.TurnLemmas.{answered_so, answered_turn, came_disk_fault, came_no_memory, came_no_place, faulted_turn, out_of_memory_turn}

@@ -1,6 +1,6 @@
 use Rattle.std.proofs.Common.{true, ap, ◌∙◌}
 use Rattle.http_out.specs.Text.{response_text}
-use Rattle.moment_date.specs.Dates.{date_text}
+use Rattle.http_out.specs.Calendar.{date_text}
 use Rattle.conn_talk.proofs.TurnLemmas.{dated}
 use Rattle.conn_talk.proofs.connection.refusal_out.Goals as goal
 

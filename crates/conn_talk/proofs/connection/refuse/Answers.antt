@@ -1,5 +1,5 @@
 use Rattle.std.proofs.Common.{take, refl, subst}
-use Rattle.line_sink.specs.Writing.{ExtendsBy}
+use Rattle.pod_io.specs.Writing.{ExtendsBy}
 use Rattle.conn_talk.proofs.connection.refuse.Goals as goal
 
 -- all of the refusal was written

@@ -1,6 +1,6 @@
 use Rattle.std.proofs.Common.{◌≡◌, [], ◌++◌, refl, length, take, drop, sym, subst, arith}
-use Rattle.line_sink.specs.Writing.{ExtendsBy}
-use Rattle.line_sink.proofs.Extending.{extends_more, nothing_added}
+use Rattle.pod_io.specs.Writing.{ExtendsBy}
+use Rattle.pod_io.proofs.Extending.{extends_more, nothing_added}
 use Rattle.conn_talk.proofs.WritesLemmas.{given_is, still_whole, part_is, part_less}
 use Rattle.conn_talk.proofs.write.write_out.Goals as goal
 

@@ -1,5 +1,5 @@
 use Rattle.std.proofs.Common.{◌≡◌, ◌++◌, ◌≤◌, List, ℕ, length}
-use Rattle.line_sink.specs.Writing.{ExtendsBy}
+use Rattle.pod_io.specs.Writing.{ExtendsBy}
 use Rattle.conn_talk.proofs.write.write_out.Given as goal
 
 -- what was given is written, and no fault was forgotten

@@ -1,7 +1,7 @@
 use Rattle.std.proofs.Common.{◌++◌, length, take, drop, ◌-◌, length-drop, ap, ◌∙◌, arith}
 use Rattle.std.specs.Option.{option_map}
 use Rattle.std.proofs.lemmas.List.{take_rest}
-use Rattle.line_sink.proofs.Extending.{nothing_added, written_more}
+use Rattle.pod_io.proofs.Extending.{nothing_added, written_more}
 use Rattle.conn_talk.proofs.write.write_text.Goals as goal
 
 pub loop-at-init : goal.loop-at-init

@@ -3,7 +3,7 @@ use Rattle.std.specs.Prelude.{IsTrue, ◌↔◌, is_some}
 use Rattle.acl_rules.specs.Rules.{rules_of}
 use Rattle.pod_path.specs.Hierarchy.{uri_of, IsUriOf}
 use Rattle.rdf_graph.specs.declared.triple.Triple.{Triple}
-use Rattle.wac_decide.specs.Grants.{Grants, Membership}
+use Rattle.pod_access.specs.Grants.{Grants, Membership}
 use Rattle.pod_access.specs.PodGrants.{membership}
 use Rattle.pod_access.proofs.bases.ground_in.Goals as goal
 

@@ -1,5 +1,5 @@
 use Rattle.std.proofs.Common.{Ok, subst}
-use Rattle.wac_decide.specs.declared.request_needs.Shape.{Shape}
+use Rattle.pod_access.specs.declared.request_needs.Shape.{Shape}
 use Rattle.pod_reply.specs.AccessRank.{access_of}
 use Rattle.pod_reply.specs.Ranks.{IsGrant, reads}
 use Rattle.pod_reply.specs.Reply.{IsReadReply}

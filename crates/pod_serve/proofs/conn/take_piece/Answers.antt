@@ -1,6 +1,6 @@
 use Rattle.std.proofs.Common.{List, ℕ, Option, Err, false, drop, ap, subst, ◌∙◌, arith}
 use Rattle.conn_talk.specs.Agents.{asking_of}
-use Rattle.line_sink.specs.Writing.{ExtendsBy}
+use Rattle.pod_io.specs.Writing.{ExtendsBy}
 use Rattle.pod_serve.specs.Served.{link_view_of}
 use Rattle.pod_serve.specs.Serving.{taken_with}
 use Rattle.pod_serve.specs.ServingLaws.{written_joins}

@@ -3,7 +3,7 @@ use Rattle.std.specs.List.{AllByRecursion}
 use Rattle.conn_talk.specs.Agents.{asking_of}
 use Rattle.conn_talk.specs.Talks.{MayBeSent, TurnsIn}
 use Rattle.http_conn.specs.Messages.{NothingAfterEnd}
-use Rattle.line_sink.proofs.Extending.{nothing_added}
+use Rattle.pod_io.proofs.Extending.{nothing_added}
 use Rattle.pod_serve.proofs.PieceLemmas.{ended, ends_so, goes_on, may_be_sent, unparsed}
 use Rattle.pod_serve.proofs.piece.answer_piece.Goals as goal
 

@@ -1,6 +1,6 @@
 use Rattle.std.proofs.Common.{true, ap, sym, subst, ◌≤◌, ◌<◌, ◌∙◌}
 use Rattle.http_out.specs.Text.{AreFieldLines, response_text}
-use Rattle.moment_date.specs.Dates.{date_text}
+use Rattle.http_out.specs.Calendar.{date_text}
 use Rattle.pod_base.specs.declared.response.Response.{Response}
 use Rattle.request_history.proofs.Dated.{dated, refusal_range}
 use Rattle.request_history.proofs.answer.refusal_bytes.Goals as goal

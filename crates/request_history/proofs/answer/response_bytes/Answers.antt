@@ -1,6 +1,6 @@
 use Rattle.std.proofs.Common.{ap, ◌∙◌}
 use Rattle.http_out.specs.Text.{response_text}
-use Rattle.moment_date.specs.Dates.{date_text}
+use Rattle.http_out.specs.Calendar.{date_text}
 use Rattle.request_history.proofs.Dated.{dated}
 use Rattle.request_history.proofs.answer.response_bytes.Goals as goal
 

@@ -1,6 +1,6 @@
 use Rattle.std.proofs.Common.{◌∙◌, IfSome, Option, ap, subst, sym}
 use Rattle.http_out.specs.Text.{response_text}
-use Rattle.moment_date.specs.Dates.{date_text}
+use Rattle.http_out.specs.Calendar.{date_text}
 use Rattle.pod_base.specs.declared.request.Request.{Request}
 use Rattle.pod_command.specs.Encodable.{IsEncodable}
 use Rattle.pod_command.specs.declared.entry.Entry.{Entry}

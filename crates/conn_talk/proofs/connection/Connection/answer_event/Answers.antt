@@ -1,6 +1,6 @@
 use Rattle.std.proofs.Common.{List, ℕ, [], ◌∷◌, ◌++◌, sym, subst}
-use Rattle.line_sink.specs.Writing.{ExtendsBy}
-use Rattle.line_sink.proofs.Extending.{nothing_added}
+use Rattle.pod_io.specs.Writing.{ExtendsBy}
+use Rattle.pod_io.proofs.Extending.{nothing_added}
 use Rattle.conn_talk.specs.Agents.{asking_of}
 use Rattle.conn_talk.specs.Talks.{Ends, Turns}
 use Rattle.conn_talk.specs.Turns.{Rules}

@@ -1,7 +1,7 @@
 use Rattle.std.proofs.Common.{ℕ, refl, [], ◌∷◌, ◌++◌, Ok, Err, append_assoc, ap, sym, subst, ◌∙◌, arith}
 use Rattle.std.specs.List.{AllByRecursion}
 use Rattle.http_conn.specs.Messages.{NothingAfterEnd}
-use Rattle.line_sink.proofs.Extending.{extends_more, nothing_added}
+use Rattle.pod_io.proofs.Extending.{extends_more, nothing_added}
 use Rattle.conn_talk.specs.Agents.{asking_of}
 use Rattle.conn_talk.specs.Talks.{MayBeSent, Turns}
 use Rattle.conn_talk.specs.Turns.{Rules}

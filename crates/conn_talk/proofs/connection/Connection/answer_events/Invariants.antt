@@ -2,7 +2,7 @@ use Rattle.std.proofs.Common.{◌≡◌, ◌++◌, ◌≤◌, ◌<◌, List, ℕ
 use Rattle.std.specs.List.{AllByRecursion}
 use Rattle.http_conn.specs.Messages.{NothingAfterEnd}
 use Rattle.http_conn.specs.declared.events.TheConstants.{REQUEST_LIMIT}
-use Rattle.line_sink.specs.Writing.{ExtendsBy}
+use Rattle.pod_io.specs.Writing.{ExtendsBy}
 use Rattle.pod_base.specs.declared.heard.Heard.{Heard}
 use Rattle.conn_talk.specs.Agents.{asking_of}
 use Rattle.conn_talk.specs.Talks.{MayBeSent, Turns}

@@ -1,7 +1,7 @@
 use Rattle.std.proofs.Common.{◌⊎◌, Ok, Err, Some, refl, sym, subst, ap}
 use Rattle.std.specs.Arc.{arc_value}
 use Rattle.journal_log.specs.declared.fault.DiskFault.{DiskFault}
-use Rattle.pair_writes.specs.Writes.{Readies}
+use Rattle.journal_pair.specs.Writes.{Readies}
 use Rattle.pod_base.specs.Counts.{CountIncreased}
 use Rattle.pod_pages.specs.State.{VersionState}
 use Rattle.pod_keeper.specs.Kept.{StandsForSome}

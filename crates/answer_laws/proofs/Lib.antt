@@ -1,0 +1,15 @@
+-- internal
+mod Stems
+mod MemberNames
+mod PostReplies
+mod FoundSolutions
+mod PatchInstances
+mod PatchOutcomes
+mod PatchedRows
+mod TableSteps
+mod TableWalks
+mod EditPairs
+mod SamePlaces
+mod EntryEdits
+mod PairedEdits
+mod PairedTurns

@@ -1,2 +1,0 @@
--- what an opening gives after a crash, and what a crash leaves while it opens
-pub mod Reopened

@@ -1,3 +1,0 @@
--- internal: cited by private clauses alone
-pub mod Made
-pub mod Touched

@@ -1,4 +1,0 @@
--- internal
-mod Ended
-mod ReportLemmas
-mod ShipLemmas

@@ -1,3 +1,0 @@
-mod Numbered
-mod Kept
-mod Graphs

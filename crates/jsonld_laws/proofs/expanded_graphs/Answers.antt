@@ -1,8 +1,0 @@
-use Rattle.jsonld_laws.proofs.Graphs.{expanded_are_read_back, expanded_read_back}
-use Rattle.jsonld_laws.proofs.expanded_graphs.Goals as goal
-
-pub returns-clause-turtle : goal.returns-clause-turtle
-returns-clause-turtle c = expanded_are_read_back
-
-pub returns-clause-json_ld : goal.returns-clause-json_ld
-returns-clause-json_ld c = expanded_read_back

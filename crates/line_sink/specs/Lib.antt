@@ -1,2 +1,0 @@
--- what a sink has after texts were written to it
-pub mod Writing

@@ -1,6 +1,0 @@
-use Rattle.std.proofs.Common.{◌∙◌, rules}
-use Rattle.moment_date.proofs.Calendar.{date_is}
-use Rattle.moment_date.proofs.date.date_of.Goals as goal
-
-pub returns : goal.returns
-returns c = c.to_bytes.ensures ∙ date_is c.unwrap-date.result c.args.moment.0 (search rules)

@@ -1,3 +1,0 @@
-pub mod Doubts
-pub mod Together
-pub mod Writes

@@ -1,6 +1,0 @@
--- internal
-mod EditPairs
-mod SamePlaces
-mod EntryEdits
-mod PairedEdits
-mod PairedTurns

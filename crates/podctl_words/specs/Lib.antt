@@ -1,6 +1,0 @@
--- the command of words: how words are written, and the reading of words
-pub mod Spelling
-pub mod Given
-pub mod Readings
--- internal: cited by private clauses alone
-pub mod Givens

@@ -1,9 +1,0 @@
-//! A law of readings, as the contract of a function that does nothing.
-
-ghost use Rattle.podctl_words.specs.Spelling.{ReadsWhatIsWritten};
-
-/// Words have a reading exactly where they are written by the rules: a subcommand, and then uses of
-/// its options and its operand, each at most once, in any order.
-pub fn readings_are_written()
-    ensures { ReadsWhatIsWritten }
-{}

@@ -1,2 +1,0 @@
--- the settings of words
-pub mod Readings

@@ -1,2 +1,0 @@
--- what is reported of a store that isn't opened
-pub mod Refusals

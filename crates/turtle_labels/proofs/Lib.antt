@@ -1,4 +1,0 @@
--- kept for the crates above
-pub mod BeforeLemmas
-pub mod UnnamedLemmas
-pub mod DocumentLemmas

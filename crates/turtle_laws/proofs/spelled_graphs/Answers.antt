@@ -1,5 +1,0 @@
-use Rattle.turtle_laws.proofs.ReadTerms.{spelled_graphs_are_read_back}
-use Rattle.turtle_laws.proofs.spelled_graphs.Goals as goal
-
-pub returns : goal.returns
-returns c = spelled_graphs_are_read_back
