@@ -9,7 +9,7 @@ use Rattle.acl_rules.specs.Statements.{IsRule, States, statement}
 use Rattle.acl_rules.specs.Vocabulary.{acl_access_to, acl_agent, acl_agent_class, acl_agent_group, acl_authenticated_agent, acl_authorization, acl_control, acl_default, acl_mode, acl_read, acl_write, foaf_agent, rdf_type}
 use Rattle.acl_rules.specs.declared.rule.How.{How}
 use Rattle.acl_rules.specs.declared.rule.How.TheVariants.{Own, Inherited}
-use Rattle.first_rows.specs.FirstPods.{first_pod, list_row, owner_triples, root_row, rule_iri}
+use Rattle.pod_rows.specs.FirstPods.{first_pod, list_row, owner_triples, root_row, rule_iri}
 use Rattle.pod_access.specs.PodGrants.{GrantsBy, PodGrants, list_graph, membership}
 use Rattle.pod_access.proofs.GoverningLists.{own_row}
 use Rattle.pod_base.specs.declared.agent.Agent.{Agent}

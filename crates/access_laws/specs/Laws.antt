@@ -2,7 +2,7 @@
 use Rattle.std.specs.Prelude.{◌≡◌, ◌↔◌, ℕ, Bool, true, false, IsTrue, bytes_eq, codes, List, Some}
 use Rattle.std.specs.Prelude.{filter, is_some, map, zip}
 use Rattle.std.specs.List.{list_any}
-use Rattle.first_rows.specs.FirstPods.{first_pod}
+use Rattle.pod_rows.specs.FirstPods.{first_pod}
 use Rattle.pod_access.specs.AllowField.{modes_at}
 use Rattle.pod_access.specs.Bases.{basis_of, bases_of, ground_by}
 use Rattle.pod_access.specs.PodGrants.{PodGrants}

@@ -33,7 +33,7 @@ pub fn new_pods_are_the_owners()
     ensures owner { OwnerHasEverything }
     ensures others { OthersHaveNothing }
 {
-    first_rows::first_pods_are_well_formed();
+    pod_rows::first_pods_are_well_formed();
     pod_rows::laws::rows_law();
 }
 

@@ -17,11 +17,11 @@
 //! for one access list.
 #![tactic(auto)]
 
-mod checking;
 mod decision;
 mod line;
+mod line_check;
 mod reporting;
 
-pub use checking::checks;
 pub use line::Line;
+pub use line_check::checks;
 pub use reporting::report;

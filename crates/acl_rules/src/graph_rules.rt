@@ -6,7 +6,7 @@ ghost use Rattle.acl_rules.specs.Rules.{rule_of, rules_of};
 
 use crate::items::Items;
 use crate::rule::{Rule, Rules};
-use crate::values::{granted_mode, is_rule_statement, place_of, subject_of};
+use crate::rule_statements::{granted_mode, is_rule_statement, place_of, subject_of};
 use crate::vocabulary::{ACL_ACCESS_TO, ACL_DEFAULT};
 use iri_ref::Iri;
 use pod_base::Mem;

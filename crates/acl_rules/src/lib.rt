@@ -19,7 +19,7 @@ mod groups;
 mod items;
 pub mod laws;
 mod rule;
-mod values;
+mod rule_statements;
 pub mod vocabulary;
 
 pub use graph_rules::rules_of;

@@ -16,12 +16,12 @@
 #![tactic(auto)]
 
 mod basis_text;
-mod entries;
+mod entry_lines;
 mod lengths;
-mod requests;
+mod session_lines;
 mod targets;
 mod words;
 
 pub use basis_text::append_basis;
-pub use entries::entry_line;
-pub use requests::session_line;
+pub use entry_lines::entry_line;
+pub use session_lines::session_line;

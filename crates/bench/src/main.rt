@@ -2,22 +2,24 @@
 //! them.
 //!
 //! With no word the program runs all of them with small counts, and prints no times. With a word it
-//! prints that figure's times.
+//! prints that figure's times; with `floor` it serves what `podd` is measured beside.
 #![tactic(auto)]
 
-mod coding;
-mod graphs;
-mod looking;
-mod paging;
-mod used;
+mod codec_figure;
+mod floor;
+mod graph_figure;
+mod pages_figure;
+mod process_usage;
+mod view_figure;
 
 use anyhow::bail;
-use coding::code_snapshot;
-use graphs::build_graph;
-use looking::{Looks, read_versions};
-use paging::lay_pages;
+use codec_figure::code_snapshot;
+use floor::serve_floor;
+use graph_figure::build_graph;
+use pages_figure::lay_pages;
 use std::alloc::Global;
 use std::env;
+use view_figure::{Looks, read_versions};
 
 /// Prints how many looks gave a version, and the rates if asked.
 fn print_looks(rt: &HostRuntime, looks: (Looks, Looks), times: bool) -> anyhow::Result<()> {
@@ -53,6 +55,7 @@ fn main(rt: HostRuntime) -> anyhow::Result<()> {
     let count: usize = count.and_then(|count| count.parse().ok()).unwrap_or(0);
     match word.as_str() {
         "codec" => code_snapshot(&rt, alloc, true),
+        "floor" => serve_floor(&rt),
         "graph" => build_graph(&rt, alloc, count, true),
         "pages" => lay_pages(&rt, alloc, count, true),
         "view" => {

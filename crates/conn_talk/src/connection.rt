@@ -13,11 +13,11 @@ ghost use Rattle.conn_talk.specs.Steps.{IsOver, RefusedAs, refusal_bytes};
 ghost use Rattle.conn_talk.specs.Talks.{CountsWrites, MayBeSent, Turns, TurnsIn};
 
 use crate::agents::Agents;
-use crate::answering::{answer_one, clock_moment, flush_before};
 use crate::answers::Answers;
+use crate::one_request::{answer_one, clock_moment, flush_before};
 use crate::output::Output;
+use crate::response_writing::{write_out, write_text};
 use crate::talk_end::TalkEnd;
-use crate::write::{write_out, write_text};
 use http_conn::REQUEST_LIMIT;
 use http_out::{Out, interim};
 use pod_base::{Heard, Mem, Request, Stamp};

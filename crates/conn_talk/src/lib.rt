@@ -22,18 +22,18 @@
 #![tactic(auto)]
 
 mod agents;
-mod answering;
 mod answers;
 mod connection;
+mod one_request;
 mod output;
+mod response_writing;
 mod talk_end;
 mod trail;
-mod write;
 
 pub use agents::Agents;
-pub use answering::clock_moment;
 pub use answers::{Answer, AnswerFault, Answers};
 pub use connection::Connection;
+pub use one_request::clock_moment;
 pub use output::Output;
 pub use talk_end::TalkEnd;
 pub use trail::NoTrail;

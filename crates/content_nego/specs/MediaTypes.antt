@@ -4,7 +4,7 @@ use Rattle.std.specs.Prelude.{bytes_eq}
 use Rattle.std.specs.Option.{option_and_then}
 use Rattle.std.specs.Str.{str_eq_ignore_ascii_case}
 use Rattle.httparse.specs.Grammar.{is_token}
-use Rattle.field_list.specs.Pairs.{Pair, two_parts}
+use Rattle.field_list.specs.Pairs.{Pair, split_pair}
 use Rattle.field_list.specs.declared.quoting.Quoting.TheVariants.{Strings}
 
 -- a type and a subtype
@@ -22,7 +22,7 @@ media_of_pair p = if is_token p.first && is_token p.second then Some (media_of p
 
 -- the media type that a text is: two tokens around a slash
 abbrev pub media_type : List ℕ → Option Media
-media_type text = option_and_then media_of_pair (two_parts Strings 47 text)
+media_type text = option_and_then media_of_pair (split_pair Strings 47 text)
 
 abbrev pub is_wildcard : List ℕ → Bool
 is_wildcard name = bytes_eq name (codes "*")

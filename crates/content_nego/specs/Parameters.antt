@@ -6,7 +6,7 @@ use Rattle.std.specs.Option.{option_and_then, option_map_or}
 use Rattle.std.specs.Str.{str_eq_ignore_ascii_case}
 use Rattle.httparse.specs.Grammar.{is_token, trim_ows}
 use Rattle.field_list.specs.Parts.{parts}
-use Rattle.field_list.specs.Pairs.{Pair, two_parts}
+use Rattle.field_list.specs.Pairs.{Pair, split_pair}
 use Rattle.field_list.specs.QuotedString.{is_quoted_string}
 use Rattle.field_list.specs.declared.quoting.Quoting.TheVariants.{Strings}
 use Rattle.content_nego.specs.Qualities.{quality_value}
@@ -17,7 +17,7 @@ parameters element = map trim_ows (drop 1 (parts Strings 59 element))
 
 -- the name and the value of a parameter
 abbrev pub name_and_value : List ℕ → Option Pair
-name_and_value text = two_parts Strings 61 text
+name_and_value text = split_pair Strings 61 text
 
 -- a name, which is a token, and a value, which is a token or a quoted string; empty ones are
 -- skipped

@@ -4,7 +4,7 @@ ghost use Rattle.std.specs.Prelude.{◌≡◌, ◌≤◌, ◌&&◌, IfSome, IfNo
 ghost use Rattle.content_nego.specs.MediaTypes as spec;
 ghost use Rattle.content_nego.specs.Views.{media_view, offer_view};
 
-use field_list::{Quoting, two_parts};
+use field_list::{Quoting, split_pair};
 use httparse::is_token;
 
 /// A type and a subtype; in a range either may be `*`.
@@ -20,7 +20,7 @@ pub(crate) fn media_type<'a>(text: &'a [u8]) -> Option<MediaType<'a>>
     ensures some { IfSome result (λ m. spec.media_type text.entry.now ≡ Some (media_view m)) }
     ensures none { IfNone result (spec.media_type text.entry.now ≡ None) }
 {
-    match two_parts(Quoting::Strings, b'/', text) {
+    match split_pair(Quoting::Strings, b'/', text) {
         Some((kind, subtype)) => {
             if is_token(kind) && is_token(subtype) {
                 Some(MediaType { kind, subtype })

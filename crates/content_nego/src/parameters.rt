@@ -8,7 +8,7 @@ ghost use Rattle.field_list.specs.declared.quoting.Quoting.TheVariants.{Strings}
 ghost use Rattle.content_nego.specs.Parameters as spec;
 
 use crate::quality::{FULL_QUALITY, quality_value};
-use field_list::{Parts, Quoting, is_quoted_string, trim, two_parts};
+use field_list::{Parts, Quoting, is_quoted_string, split_pair, trim};
 use httparse::is_token;
 
 /// Whether a text is a parameter, or empty.
@@ -18,7 +18,7 @@ fn is_parameter(text: &[u8]) -> bool
     if text.is_empty() {
         return true;
     }
-    match two_parts(Quoting::Strings, b'=', text) {
+    match split_pair(Quoting::Strings, b'=', text) {
         Some((name, value)) => is_token(name) && (is_token(value) || is_quoted_string(value)),
         None => false,
     }
@@ -28,7 +28,7 @@ fn is_parameter(text: &[u8]) -> bool
 fn weight_value(text: &[u8]) -> Option<&[u8]>
     ensures { option_copied result ≡ spec.weight_value text.now }
 {
-    match two_parts(Quoting::Strings, b'=', text) {
+    match split_pair(Quoting::Strings, b'=', text) {
         Some((name, value)) => {
             if name.eq_ignore_ascii_case(b"q") {
                 Some(value)

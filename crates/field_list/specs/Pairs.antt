@@ -18,5 +18,5 @@ only_two (first ∷ second ∷ []) = Some (pair first second)
 only_two (first ∷ second ∷ third ∷ more) = None
 
 -- the two parts of a text; none where it has another number of parts
-abbrev pub two_parts : Quoting → ℕ → List ℕ → Option Pair
-two_parts quoting separator text = only_two (parts quoting separator text)
+abbrev pub split_pair : Quoting → ℕ → List ℕ → Option Pair
+split_pair quoting separator text = only_two (parts quoting separator text)

@@ -30,7 +30,7 @@ mod words;
 pub use blanks::{trim, trim_end, trim_start};
 pub use elements::Elements;
 pub use joined::joined_value;
-pub use pairs::two_parts;
+pub use pairs::split_pair;
 pub use parts::Parts;
 pub use quoted_string::{QuotedBytes, is_quoted_string};
 pub use quoting::Quoting;

@@ -8,14 +8,14 @@ use crate::quoting::Quoting;
 
 /// The two parts of a text around its one separator outside of quotes; none where it has none or
 /// several.
-pub fn two_parts<'a>(
+pub fn split_pair<'a>(
     quoting: Quoting,
     separator: u8,
     text: &'a [u8],
 ) -> Option<(&'a [u8], &'a [u8])>
-    ensures some { IfSome result (λ p. spec.two_parts quoting separator text.entry.now
+    ensures some { IfSome result (λ p. spec.split_pair quoting separator text.entry.now
         ≡ Some (spec.pair p.0.now p.1.now)) }
-    ensures none { IfNone result (spec.two_parts quoting separator text.entry.now ≡ None) }
+    ensures none { IfNone result (spec.split_pair quoting separator text.entry.now ≡ None) }
 {
     let mut parts = Parts::of(quoting, separator, text);
     let first = parts.next()?;

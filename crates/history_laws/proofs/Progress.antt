@@ -10,9 +10,9 @@ use Rattle.pod_core.specs.Session.{Item, disk_fault}
 use Rattle.pod_core.specs.World as world
 use Rattle.pod_core.specs.World.{Connection, DoesEvent, Event, IsSettled, World, WorldStep, after_take, next_stamp, put_connection, with_answer, with_keeper}
 use Rattle.token_table.specs.Credentials.{AskedAgent}
-use Rattle.history_laws.specs.Progress.{Completes, HasChange, IsAtRest, LeavesDoubt, Settles, item_of_change}
+use Rattle.history_laws.specs.Progress.{Completes, HasChange, IsQuietWorld, LeavesDoubt, Settles, item_of_change}
 
-module _ (may_give : ℕ → Type 0) (asking : Request → AskedAgent) (old : World) (conn moment : ℕ) (entry : Entry) (rest : IsAtRest old) (c : HasChange may_give asking old conn moment entry) where
+module _ (may_give : ℕ → Type 0) (asking : Request → AskedAgent) (old : World) (conn moment : ℕ) (entry : Entry) (rest : IsQuietWorld old) (c : HasChange may_give asking old conn moment entry) where
   abbrev stamp : Stamp
   stamp = next_stamp conn c.from moment
 

@@ -19,7 +19,7 @@ use Rattle.token_table.specs.Credentials.{AskedAgent}
 
 -- The world hasn't stopped, nobody holds the lock, and no connection has anything to write before
 -- its next event.
-pub record IsAtRest (w : World) : Type 0 where
+pub record IsQuietWorld (w : World) : Type 0 where
   pub runs : w.stopped ≡ false
   pub is_free : w.keeper.phase ≡ keeper.free
   pub rests : (conn : ℕ) → IsSettled (w.connections conn) (w.connections conn)
@@ -61,7 +61,7 @@ pub record Completes (may_give : ℕ → Type 0) (asking : Request → AskedAgen
 -- its entry published.
 abbrev pub ChangesMayComplete : (ℕ → Type 0) → Type 0
 ChangesMayComplete may_give = (asking : Request → AskedAgent) (old : World) (conn moment : ℕ)
-    (entry : Entry) → IsAtRest old → old.keeper.doubt ≡ None
+    (entry : Entry) → IsQuietWorld old → old.keeper.doubt ≡ None
     → (c : HasChange may_give asking old conn moment entry)
     → Settles (with_answer c.from (item_of_change c)
     (end_of (longer old.keeper.history (entry ∷ []))))
@@ -71,7 +71,7 @@ ChangesMayComplete may_give = (asking : Request → AskedAgent) (old : World) (c
 -- Where an entry is in doubt, it can be completed too, after a repair.
 abbrev pub RepairsMayComplete : (ℕ → Type 0) → Type 0
 RepairsMayComplete may_give = (asking : Request → AskedAgent) (old : World) (conn moment : ℕ)
-    (entry doubted : Entry) → IsAtRest old → old.keeper.doubt ≡ Some doubted
+    (entry doubted : Entry) → IsQuietWorld old → old.keeper.doubt ≡ Some doubted
     → (c : HasChange may_give asking old conn moment entry)
     → Settles (with_answer c.from (item_of_change c)
     (end_of (longer old.keeper.history (entry ∷ []))))
@@ -89,7 +89,7 @@ pub record LeavesDoubt (may_give : ℕ → Type 0) (asking : Request → AskedAg
 
 abbrev pub GatesMayFail : (ℕ → Type 0) → Type 0
 GatesMayFail may_give = (asking : Request → AskedAgent) (old : World) (conn moment : ℕ)
-    (entry : Entry) → IsAtRest old → old.keeper.doubt ≡ None
+    (entry : Entry) → IsQuietWorld old → old.keeper.doubt ≡ None
     → (c : HasChange may_give asking old conn moment entry)
     → Settles (with_answer c.from (record (item_of_change c) { outcome = disk_fault })
     c.from.seen)

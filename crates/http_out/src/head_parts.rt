@@ -18,7 +18,7 @@ pub(crate) struct HeadParts {
 }
 
 /// The date of a moment, as HTTP writes it (RFC 9110, section 5.6.7).
-fn date_of(moment: Moment) -> [u8; 29]
+fn date_text(moment: Moment) -> [u8; 29]
     ensures { IsDateOf moment.0 result }
 {
     let date = HttpDate::from_unix_secs(moment_of(moment.0).0).unwrap();
@@ -43,7 +43,7 @@ impl HeadParts {
     {
         HeadParts {
             code: StatusCode::from_u16(status).unwrap(),
-            date: date_of(moment),
+            date: date_text(moment),
             close,
         }
     }

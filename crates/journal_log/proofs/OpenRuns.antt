@@ -13,7 +13,7 @@ use Rattle.journal_log.specs.Reading.{OnlyReads}
 use Rattle.journal_log.specs.CleanJournal.{IsClean}
 use Rattle.journal_log.specs.Walking.{state_at, prefix_of, IsReadToEnd, HasTornGate, IsFound}
 use Rattle.journal_log.specs.declared.head.Head.{Head}
-use Rattle.journal_log.specs.declared.walk.Found.{Found}
+use Rattle.journal_log.specs.declared.record_walk.Found.{Found}
 use Rattle.journal_log.proofs.GateWrites.{torn_gate, torn_opening}
 use Rattle.journal_log.proofs.Records.{stands_closed, stands_gated, stands_opening, clean_behind}
 

@@ -2,10 +2,10 @@
 use Rattle.std.specs.Prelude.{◌≡◌, ◌≢◌, ◌⊎◌, ◌+◌, ◌≤◌, ℕ, List, ◌∷◌, ◌++◌, length, drop}
 use Rattle.std.specs.Int.{to_be_bytes, w64}
 use Rattle.journal_log.specs.Frames.{sized, BeginsWithClosedGate, IsBroken}
-use Rattle.journal_log.specs.declared.scan.Start.{Start}
-use Rattle.journal_log.specs.declared.scan.Start.TheVariants as start
-use Rattle.journal_log.specs.declared.scan.Frame.{Frame}
-use Rattle.journal_log.specs.declared.scan.Frame.TheVariants as frame
+use Rattle.journal_log.specs.declared.frame_scan.Start.{Start}
+use Rattle.journal_log.specs.declared.frame_scan.Start.TheVariants as start
+use Rattle.journal_log.specs.declared.frame_scan.Frame.{Frame}
+use Rattle.journal_log.specs.declared.frame_scan.Frame.TheVariants as frame
 
 -- this byte is there
 abbrev pub IsByteAt : ℕ → List ℕ → ℕ → Type 0

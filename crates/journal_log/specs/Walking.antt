@@ -9,9 +9,9 @@ use Rattle.journal_log.specs.Gates.{IsClosed, IsGated}
 use Rattle.journal_log.specs.JournalState.{JournalState}
 use Rattle.journal_log.specs.CleanJournal.{IsShort, IsJournalPrefix}
 use Rattle.journal_log.specs.declared.head.Head.{Head}
-use Rattle.journal_log.specs.declared.walk.Found.{Found}
-use Rattle.journal_log.specs.declared.walk.Walk.{Walk}
-use Rattle.journal_log.specs.declared.walk.Walk.TheVariants as walk
+use Rattle.journal_log.specs.declared.record_walk.Found.{Found}
+use Rattle.journal_log.specs.declared.record_walk.Walk.{Walk}
+use Rattle.journal_log.specs.declared.record_walk.Walk.TheVariants as walk
 
 -- a journal with this head whose last gate is at this offset
 abbrev pub state_at : Head → ℕ → JournalState

@@ -5,24 +5,24 @@
 //! with the one that the call adds. Contracts say so of every image of the disk, at each moment
 //! inside each call.
 //!
-//! [`open_status`] and [`tell_refusal`] report a journal that isn't opened: the status of the run is
+//! [`open_status`] and [`report_refusal`] report a journal that isn't opened: the status of the run is
 //! that of the fault, and the sink has the line of a damage, or a part of it where its count of
 //! faults increased, and for another fault nothing (`told`).
 #![tactic(auto)]
 
-mod buffered;
 mod class;
 mod fault;
+mod frame_scan;
 mod framed;
 mod head;
 mod journal;
 mod laws;
 mod opening;
+mod record_walk;
 mod refusals;
 mod renewal;
-mod scan;
-mod walk;
 mod window;
+mod window_reads;
 mod writes;
 
 pub use class::DiskClass;
@@ -34,4 +34,4 @@ pub use laws::{
     damaged_once, new_is_closed_or_open, one_class, opened_again, some_class, stands_once,
     stands_or_damaged,
 };
-pub use refusals::{open_status, tell_refusal};
+pub use refusals::{open_status, report_refusal};

@@ -16,7 +16,7 @@ ghost use Rattle.journal_log.specs.Causes.{HasCause};
 use crate::fault::{OpenFault, Side};
 use crate::head::Head;
 use crate::journal::Journal;
-use crate::walk::{Found, Walk, read_records};
+use crate::record_walk::{Found, Walk, read_records};
 use crate::window::Window;
 use crate::writes::write_through;
 use pod_base::{Bytes, List};

@@ -31,7 +31,7 @@ fn write_damage<E: Sink>(errors: &mut E, side: Side, at: u64) -> Result<(), Fail
 }
 
 /// Reports a damage. A failed write changes nothing.
-fn tell_damage<E: Sink>(errors: &mut E, side: Side, at: u64)
+fn report_damage<E: Sink>(errors: &mut E, side: Side, at: u64)
     ensures told { AddsOrPart (damage_line side at) (E.taken errors.old) (E.taken errors.new)
         (E.faults errors.old) (E.faults errors.new) }
     ensures no_fewer { E.faults errors.old ≤ E.faults errors.new }
@@ -41,13 +41,13 @@ fn tell_damage<E: Sink>(errors: &mut E, side: Side, at: u64)
 
 /// Reports why a store isn't opened: a damage by its line, another fault by none. A failed write
 /// changes nothing.
-pub fn tell_refusal<E: Sink>(errors: &mut E, fault: OpenFault)
+pub fn report_refusal<E: Sink>(errors: &mut E, fault: OpenFault)
     ensures told { TellsRefusal fault (E.taken errors.old) (E.taken errors.new)
         (E.faults errors.old) (E.faults errors.new) }
     ensures no_fewer { E.faults errors.old ≤ E.faults errors.new }
 {
     match fault {
-        OpenFault::Damaged { side, at } => tell_damage(errors, side, at),
+        OpenFault::Damaged { side, at } => report_damage(errors, side, at),
         OpenFault::Empty => {}
         OpenFault::DiskFault => {}
         OpenFault::NoMemory => {}

@@ -9,7 +9,7 @@ use Rattle.journal_log.proofs.Classifying.{one_class_lem}
 use Rattle.journal_pair.specs.Sides.{active_of, other_of}
 use Rattle.journal_pair.specs.Stores.{IsPassedOver, IsTaken, IsUnopened, IsBesideUnopened, IsStoreDamaged, IsStoreEmpty}
 use Rattle.journal_pair.specs.Choices.{IsPassedClass, IsUnopenedClass, IsBesideClass, IsChosen}
-use Rattle.journal_pair.specs.declared.choice.Choice.TheVariants as choice
+use Rattle.journal_pair.specs.declared.disk_choice.Choice.TheVariants as choice
 
 -- a number for each class
 abbrev pub code : DiskClass → ℕ

@@ -20,7 +20,7 @@ use Rattle.journal_pair.specs.PairJournal.{IsPassedBeside}
 use Rattle.journal_pair.specs.PairMoments.{LeavesPairs, IsWhileStoreOpened}
 use Rattle.journal_pair.specs.Causes.{IfBothVisible, HasStoreCause}
 use Rattle.journal_pair.specs.Choices.{IsChosenBy}
-use Rattle.journal_pair.specs.declared.choice.Choice.TheVariants as choice
+use Rattle.journal_pair.specs.declared.disk_choice.Choice.TheVariants as choice
 use Rattle.journal_pair.proofs.Classing.{one_epoch, other_class, passed_of, taken_of, damaged_of, empty_of}
 use Rattle.journal_pair.proofs.Beside.{stands_open, stands_none}
 

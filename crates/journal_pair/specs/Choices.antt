@@ -9,8 +9,8 @@ use Rattle.journal_log.specs.declared.fault.Side.{Side}
 use Rattle.journal_log.specs.declared.fault.Side.TheVariants.{First, Second}
 use Rattle.journal_pair.specs.Sides.{active_of, other_of}
 use Rattle.journal_pair.specs.Stores.{IsTakenBefore}
-use Rattle.journal_pair.specs.declared.choice.Choice.{Choice}
-use Rattle.journal_pair.specs.declared.choice.Choice.TheVariants.{Take, Damaged, Empty}
+use Rattle.journal_pair.specs.declared.disk_choice.Choice.{Choice}
+use Rattle.journal_pair.specs.declared.disk_choice.Choice.TheVariants.{Take, Damaged, Empty}
 
 -- a disk of this class is passed over beside an open one on this side, of this epoch
 pub record IsPassedClass (side : Side) (epoch : ℕ) (a : DiskClass) : Type 0 where

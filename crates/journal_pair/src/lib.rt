@@ -16,16 +16,16 @@
 //! moment (`pairs`). None takes memory.
 #![tactic(auto)]
 
-mod adding;
+mod append_record;
+mod before_append;
 mod checkpoints;
-mod choice;
+mod disk_choice;
 mod laws;
 mod on_side;
 mod opening;
 mod pair;
-mod steps;
 
-pub use adding::write;
+pub use append_record::write;
+pub use before_append::{checkpoint, make_ready, repair};
 pub use laws::{store_damaged_once, store_empty_only, store_stands_once, store_stands_or_damaged};
 pub use pair::{Pair, SIZE_LIMIT};
-pub use steps::{checkpoint, make_ready, repair};

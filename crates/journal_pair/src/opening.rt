@@ -15,7 +15,7 @@ ghost use Rattle.journal_pair.specs.PairMoments.{LeavesPairs, IsWhileStoreOpened
 ghost use Rattle.journal_pair.specs.Choices.{IsChosenBy};
 ghost use Rattle.journal_pair.specs.Causes.{IfBothVisible, HasStoreCause};
 
-use crate::choice::{Choice, choose_disk};
+use crate::disk_choice::{Choice, choose_disk};
 use crate::pair::Pair;
 use journal_log::{Journal, OpenFault, Side};
 use pod_base::{Bytes, List};

@@ -6,3 +6,12 @@ pub mod Kept
 pub mod LiteralCases
 pub mod Objects
 pub mod Readings
+pub mod Runs
+pub mod Sorting
+pub mod Regular
+pub mod Keys
+pub mod Walking
+pub mod WrittenDocuments
+pub mod Adding
+pub mod Subjects
+pub mod Widths

@@ -1,9 +1,18 @@
 //! Laws of the definition, as contracts of functions that do nothing.
 
-ghost use Rattle.jsonld_expanded.specs.Laws.{ExpandsOnce, WalksOnce};
+ghost use Rattle.jsonld_expanded.specs.Laws.{ExpandsOnce, SubjectsHaveOneNode, WalksOnce};
+
+use rdf_graph::subject_law;
 
 /// A JSON value stands for one graph at most, and for one list of triples.
 pub fn expands_once()
     ensures triples { WalksOnce }
     ensures graph { ExpandsOnce }
 {}
+
+/// Each subject of a graph has one node object, where no label and no language tag has a space.
+pub fn one_node_each()
+    ensures { SubjectsHaveOneNode }
+{
+    subject_law();
+}

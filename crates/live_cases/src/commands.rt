@@ -1,8 +1,8 @@
 //! Makes, checks and audits the store of a case, as `podctl` does.
 ghost use Rattle.std.specs.Prelude.{IfOk, IsSome};
 
-use crate::held::{Fault, Held};
-use crate::shown::push_taken;
+use crate::case_state::{Fault, Held};
+use crate::shown_state::push_taken;
 use crate::store::make;
 use pod_base::Mem;
 use pod_disk::{Disk, Disks, MemDisk, Place};

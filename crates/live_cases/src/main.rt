@@ -20,22 +20,22 @@
 //! - `serve` NAME STEP..: runs of `podd` over many connections beside each other, by [`steps`].
 #![tactic(auto)]
 
+mod case_state;
 mod commands;
 mod feeds;
-mod held;
 mod link;
 mod mem_links;
 mod podd;
 mod script;
-mod served;
-mod shown;
+mod session_runs;
+mod shown_state;
 mod steps;
 mod store;
 mod wire;
 
 use case_words::known;
 use pod_base::Mem;
-use served::{Kind, Work};
+use session_runs::{Kind, Work};
 use std::alloc::{AllocError, Global};
 use std::io;
 use std::sync::Wait;
@@ -70,7 +70,7 @@ fn case<R: Threads + Wait + Sync>(rt: &R, alloc: Global, fields: &[&str]) -> Mem
         return steps::run(rt, alloc, steps);
     }
     match work_of(alloc, fields)? {
-        Some(work) => served::run(rt, alloc, work),
+        Some(work) => session_runs::run(rt, alloc, work),
         None => Ok(String::from_str(alloc, "no case")?),
     }
 }

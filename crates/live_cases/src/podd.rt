@@ -1,10 +1,10 @@
 //! Runs `podd` over gates in memory.
 ghost use Rattle.std.specs.Prelude.{IfOk, IsSome};
 
+use crate::case_state::{Fault, Held};
 use crate::commands::{keep, place_of, sink_of, words_of};
-use crate::held::{Fault, Held};
 use crate::link::ScriptLink;
-use crate::shown::{push_gates, push_taken};
+use crate::shown_state::{push_gates, push_taken};
 use crate::store::SECONDS;
 use pod_base::{List, Mem};
 use pod_disk::{Disk, MemDisk, Place};

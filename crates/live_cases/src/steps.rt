@@ -34,8 +34,8 @@
 //! are served in turn, and are `stuck` then. Nothing that is shown depends on which thread runs
 //! when.
 
+use crate::case_state::{Fault, Held, flags};
 use crate::commands::{begin, look_at};
-use crate::held::{Fault, Held, flags};
 use crate::link::Action;
 use crate::podd::podd;
 use case_words::{bytes, first_word, number_of};

@@ -17,27 +17,27 @@
 //! | `owner` | the owner of the pod of a run |
 #![tactic(auto)]
 
-mod accepts;
-mod admitted;
+mod accept_choice;
+mod admission;
 mod bodies;
+mod change_responses;
 mod commands;
 mod connections;
-mod forms;
+mod field_cases;
+mod field_forms;
+mod field_lists;
 mod head_ends;
 mod heads;
-mod lists;
-mod loads;
-mod made;
-mod names;
-mod parsed;
+mod load_requests;
+mod member_names;
+mod message_bytes;
 mod preconditions;
 mod print;
 mod ranges;
-mod read;
-mod refused;
+mod read_responses;
+mod refusal_responses;
 mod response_bytes;
 mod responses;
-mod said;
 mod tokens;
 mod upgrades;
 
@@ -48,12 +48,12 @@ use std::io;
 fn answer(alloc: Global, fields: &[&str]) -> Result<String, AllocError> {
     match fields {
         ["words", words @ ..] => commands::answer(alloc, words),
-        ["stream", requests] => loads::stream_text(alloc, requests),
+        ["stream", requests] => load_requests::stream_text(alloc, requests),
         ["line", requests, bytes_in, written, rows] => {
-            loads::line(alloc, requests, bytes_in, written, rows)
+            load_requests::line(alloc, requests, bytes_in, written, rows)
         }
-        ["owner"] => loads::owner_text(alloc),
-        _ => parsed::answer(alloc, fields),
+        ["owner"] => load_requests::owner_text(alloc),
+        _ => message_bytes::answer(alloc, fields),
     }
 }
 

@@ -22,24 +22,24 @@
 //! | `unsupported` METHOD PATH | the refusal of a body of another type |
 //! | `unsatisfiable` SIZE | the refusal of ranges that lie outside the body |
 
-use crate::{admitted, made, read, refused};
+use crate::{admission, change_responses, read_responses, refusal_responses};
 use std::alloc::{AllocError, Global};
 
 /// What the library answers to the fields of a case.
 pub(crate) fn answer(alloc: Global, fields: &[&str]) -> Result<String, AllocError> {
     match fields {
-        ["date", second] => read::date(alloc, second),
-        ["allowed", method, path] => made::allowed(alloc, method, path),
-        ["shown", path, ctype] => read::shown_at(alloc, path, ctype, false),
-        ["shown", path, ctype, "ranges"] => read::shown_at(alloc, path, ctype, true),
-        ["part", path, ctype, range] => read::part(alloc, path, ctype, Some(range)),
-        ["parts", path, ctype] => read::part(alloc, path, ctype, None),
-        ["created", target, path] => made::created_at(alloc, target, path),
-        ["changed"] => made::other(alloc),
-        ["options", path] => made::options_at(alloc, path),
-        ["not-modified"] => read::same(alloc),
-        ["upgraded", accept] => read::opened(alloc, accept),
-        ["admit", method, target, asked] => admitted::answer(alloc, method, target, asked),
-        _ => refused::answer(alloc, fields),
+        ["date", second] => read_responses::date(alloc, second),
+        ["allowed", method, path] => change_responses::allowed(alloc, method, path),
+        ["shown", path, ctype] => read_responses::shown_at(alloc, path, ctype, false),
+        ["shown", path, ctype, "ranges"] => read_responses::shown_at(alloc, path, ctype, true),
+        ["part", path, ctype, range] => read_responses::part(alloc, path, ctype, Some(range)),
+        ["parts", path, ctype] => read_responses::part(alloc, path, ctype, None),
+        ["created", target, path] => change_responses::created_at(alloc, target, path),
+        ["changed"] => change_responses::other(alloc),
+        ["options", path] => change_responses::options_at(alloc, path),
+        ["not-modified"] => read_responses::same(alloc),
+        ["upgraded", accept] => read_responses::opened(alloc, accept),
+        ["admit", method, target, asked] => admission::answer(alloc, method, target, asked),
+        _ => refusal_responses::answer(alloc, fields),
     }
 }

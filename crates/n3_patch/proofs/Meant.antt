@@ -12,7 +12,7 @@ use Rattle.turtle_reader.specs.declared.referent.ResolvedTriple.{ResolvedTriple}
 use Rattle.turtle_reader.specs.Languages.{KeepsText}
 use Rattle.turtle_reader.specs.Referents.{referent, IsResolved}
 use Rattle.turtle_reader.proofs.Handing.{made_each, one_made}
-use Rattle.n3_patch.specs.declared.made.Made.{Made}
+use Rattle.n3_patch.specs.declared.collected_triples.Made.{Made}
 use Rattle.n3_patch.specs.declared.triples.PatchNode.{PatchNode}
 use Rattle.n3_patch.specs.declared.triples.PatchNode.TheVariants as patch_node
 use Rattle.n3_patch.specs.declared.triples.PatchTriple.{PatchTriple}

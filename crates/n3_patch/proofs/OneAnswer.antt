@@ -1,6 +1,6 @@
 -- A text is read in one way.
 use Rattle.std.proofs.Common.{◌≡◌, ◌<◌, ◌⊎◌, ℕ, List, Result, Ok, Err, IfOk, IfErr, OnOk, inl, inr, refl, sym, ap, subst, arith}
-use Rattle.rdf_graph.specs.declared.patch.Patch.{Patch as RdfPatch}
+use Rattle.graph_patch.specs.declared.patch.Patch.{Patch as RdfPatch}
 use Rattle.rdf_graph.specs.declared.size.TheConstants.{TRIPLES_LIMIT}
 use Rattle.turtle_grammar.specs.declared.symbol.Start.TheVariants.{Patch}
 use Rattle.turtle_terms.specs.declared.fault.TurtleFault.{TurtleFault}

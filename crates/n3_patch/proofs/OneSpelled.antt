@@ -1,6 +1,6 @@
 -- A text spells one patch.
 use Rattle.std.proofs.Common.{◌≡◌, ℕ, List, subst}
-use Rattle.rdf_graph.specs.declared.patch.Patch.{Patch}
+use Rattle.graph_patch.specs.declared.patch.Patch.{Patch}
 use Rattle.turtle_grammar.specs.declared.symbol.Start.TheVariants as start_of
 use Rattle.turtle_grammar.specs.declared.production.Production.{Production}
 use Rattle.turtle_reader.specs.declared.meaning.Meaning.{Meaning}

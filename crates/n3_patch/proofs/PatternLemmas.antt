@@ -7,10 +7,10 @@ use Rattle.std.specs.Ordering.{eq_by_cmp}
 use Rattle.std.proofs.Math.Bool.{or_comm, or-false}
 use Rattle.std.proofs.lemmas.Bool.{not-false, not-true}
 use Rattle.std.proofs.lemmas.List.Folds.{list_any-append}
-use Rattle.rdf_graph.specs.TermOrder.{pattern_cmp}
-use Rattle.rdf_graph.specs.TermOrderLaws.{pattern_cmp_total}
-use Rattle.rdf_graph.specs.declared.pattern.Pattern.{Pattern}
-use Rattle.rdf_graph.specs.declared.pattern.Slot.{Slot}
+use Rattle.graph_patch.specs.PatternOrder.{pattern_cmp}
+use Rattle.graph_patch.specs.PatternOrderLaws.{pattern_cmp_total}
+use Rattle.graph_patch.specs.declared.pattern.Pattern.{Pattern}
+use Rattle.graph_patch.specs.declared.pattern.Slot.{Slot}
 use Rattle.n3_patch.specs.declared.triples.PatchNode.{PatchNode}
 use Rattle.n3_patch.specs.declared.triples.PatchNode.TheVariants.{Term, Variable, Formula}
 use Rattle.n3_patch.specs.declared.triples.PatchTriple.{PatchTriple}

@@ -2,10 +2,10 @@
 use Rattle.std.proofs.Common.{◌≡◌, ◌<◌, inl, inr, ℕ, zero, suc, Bool, true, false, List, length, Option, Some, None, if◌then◌else◌, refl, sym, ap, ◌∙◌, subst, arith}
 use Rattle.std.specs.List.{list_any}
 use Rattle.std.proofs.lemmas.Bool.{cases_lt, cases_order, false≢true}
-use Rattle.rdf_graph.specs.Patch.{AllBound, IsBound}
-use Rattle.rdf_graph.specs.Pattern.{IsVariableOf}
-use Rattle.rdf_graph.specs.declared.patch.Patch.{Patch}
-use Rattle.rdf_graph.specs.declared.pattern.Pattern.{Pattern}
+use Rattle.graph_patch.specs.Patch.{AllBound, IsBound}
+use Rattle.graph_patch.specs.Pattern.{IsVariableOf}
+use Rattle.graph_patch.specs.declared.patch.Patch.{Patch}
+use Rattle.graph_patch.specs.declared.pattern.Pattern.{Pattern}
 use Rattle.n3_patch.specs.declared.fault.Judgement.{Judgement}
 use Rattle.n3_patch.specs.declared.fault.Judgement.TheVariants.{Broken, TooLarge, NoMemory}
 use Rattle.n3_patch.specs.declared.fault.PatchRule.{PatchRule}

@@ -7,10 +7,10 @@ use Rattle.std.specs.Prelude.{◌⊎◌, IsTrue}
 use Rattle.std.specs.BTreeSet.{BTreeSet, contains}
 use Rattle.std.specs.Cmp.Lexicographic.{slice_cmp, bytes_decides, texts_ties}
 use Rattle.std.specs.Ordering.{eq_by_cmp, nat_cmp}
-use Rattle.rdf_graph.specs.Patch.{IsBound}
-use Rattle.rdf_graph.specs.Pattern.{HasVariable, IsVariableOf}
-use Rattle.rdf_graph.specs.declared.patch.Patch.{Patch}
-use Rattle.rdf_graph.specs.declared.pattern.Pattern.{Pattern}
+use Rattle.graph_patch.specs.Patch.{IsBound}
+use Rattle.graph_patch.specs.Pattern.{HasVariable, IsVariableOf}
+use Rattle.graph_patch.specs.declared.patch.Patch.{Patch}
+use Rattle.graph_patch.specs.declared.pattern.Pattern.{Pattern}
 use Rattle.rdf_graph.proofs.Members.{contains_cases, contains_here, contains_none, contains_there}
 use Rattle.n3_patch.specs.VariableNames.{AddsName, AddsSlot, AddsVariables, AreNamesOf, HasName, HasNames, LeavesNames}
 

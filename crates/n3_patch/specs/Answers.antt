@@ -1,6 +1,6 @@
 -- The laws of whole documents. Each is the contract of a function of `laws`.
 use Rattle.std.specs.Prelude.{◌≡◌, ◌<◌, ℕ, List, Result, Ok, Err}
-use Rattle.rdf_graph.specs.declared.patch.Patch.{Patch}
+use Rattle.graph_patch.specs.declared.patch.Patch.{Patch}
 use Rattle.turtle_terms.specs.declared.fault.TurtleFault.{TurtleFault}
 use Rattle.turtle_reader.specs.FirstFaults.{place_of}
 use Rattle.n3_patch.specs.declared.fault.N3Fault.{N3Fault}

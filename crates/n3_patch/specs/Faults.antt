@@ -3,7 +3,7 @@
 -- A fault of syntax has an index: the number of lexemes before it. The least index is the least
 -- position.
 use Rattle.std.specs.Prelude.{◌≡◌, ◌<◌, ℕ, List, Result, Ok, Err}
-use Rattle.rdf_graph.specs.declared.patch.Patch.{Patch as RdfPatch}
+use Rattle.graph_patch.specs.declared.patch.Patch.{Patch as RdfPatch}
 use Rattle.rdf_graph.specs.declared.size.TheConstants.{TRIPLES_LIMIT}
 use Rattle.turtle_grammar.specs.declared.symbol.Start.TheVariants.{Patch}
 use Rattle.turtle_terms.specs.declared.fault.TurtleFault.{TurtleFault}

@@ -1,6 +1,6 @@
 -- What follows from the definitions. Each law is the contract of a function of `laws`.
 use Rattle.std.specs.Prelude.{◌≡◌, ℕ, List}
-use Rattle.rdf_graph.specs.declared.patch.Patch.{Patch}
+use Rattle.graph_patch.specs.declared.patch.Patch.{Patch}
 use Rattle.n3_patch.specs.declared.fault.PatchRule.{PatchRule}
 use Rattle.n3_patch.specs.declared.triples.PatchTriple.{PatchTriple}
 use Rattle.n3_patch.specs.Rules.{IsFirstBroken, IsJudged}

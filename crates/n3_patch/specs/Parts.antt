@@ -2,10 +2,10 @@
 use Rattle.std.specs.Prelude.{◌≡◌, ◌&&◌, ℕ, Bool, not, List, [], ◌∷◌, ◌++◌, Option, Some, None}
 use Rattle.std.specs.Prelude.{if◌then◌else◌}
 use Rattle.std.specs.List.{find, list_any}
-use Rattle.rdf_graph.specs.TermOrder.{pattern_cmp}
+use Rattle.graph_patch.specs.PatternOrder.{pattern_cmp}
 use Rattle.std.specs.Ordering.{eq_by_cmp}
-use Rattle.rdf_graph.specs.declared.patch.Patch.{Patch}
-use Rattle.rdf_graph.specs.declared.pattern.Pattern.{Pattern}
+use Rattle.graph_patch.specs.declared.patch.Patch.{Patch}
+use Rattle.graph_patch.specs.declared.pattern.Pattern.{Pattern}
 use Rattle.rdf_graph.specs.declared.vocabulary.TheConstants.{RDF_TYPE}
 use Rattle.n3_patch.specs.declared.vocabulary.TheConstants.{SOLID_INSERT_DELETE_PATCH}
 use Rattle.n3_patch.specs.declared.vocabulary.TheConstants.{SOLID_WHERE, SOLID_DELETES}

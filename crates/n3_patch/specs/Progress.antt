@@ -4,12 +4,12 @@ use Rattle.std.specs.Prelude.{if◌then◌else◌}
 use Rattle.std.specs.List.{list_any}
 use Rattle.std.specs.BTreeSet.{BTreeSet, contains}
 use Rattle.std.specs.Ordering.{eq_by_cmp}
-use Rattle.rdf_graph.specs.Patch.{IsBound}
-use Rattle.rdf_graph.specs.TermOrder.{pattern_cmp}
-use Rattle.rdf_graph.specs.declared.patch.Patch.{Patch}
-use Rattle.rdf_graph.specs.declared.pattern.Pattern.{Pattern}
-use Rattle.rdf_graph.specs.declared.pattern.Slot.{Slot}
-use Rattle.rdf_graph.specs.declared.pattern.Slot.TheVariants.{Fixed, Var}
+use Rattle.graph_patch.specs.Patch.{IsBound}
+use Rattle.graph_patch.specs.PatternOrder.{pattern_cmp}
+use Rattle.graph_patch.specs.declared.patch.Patch.{Patch}
+use Rattle.graph_patch.specs.declared.pattern.Pattern.{Pattern}
+use Rattle.graph_patch.specs.declared.pattern.Slot.{Slot}
+use Rattle.graph_patch.specs.declared.pattern.Slot.TheVariants.{Fixed, Var}
 use Rattle.n3_patch.specs.declared.fault.PatchRule.{PatchRule}
 use Rattle.n3_patch.specs.declared.fault.PatchRule.TheVariants as rule
 use Rattle.n3_patch.specs.declared.fault.TheConstants.{CONDITIONS_LIMIT}

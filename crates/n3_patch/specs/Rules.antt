@@ -3,8 +3,8 @@ use Rattle.std.specs.Prelude.{◌≡◌, ◌<◌, ◌≤◌, ◌&&◌, ◌||◌,
 use Rattle.std.specs.Prelude.{length, Option, Some, None}
 use Rattle.std.specs.Prelude.{if◌then◌else◌}
 use Rattle.std.specs.List.{list_any}
-use Rattle.rdf_graph.specs.Patch.{AllBound}
-use Rattle.rdf_graph.specs.declared.patch.Patch.{Patch}
+use Rattle.graph_patch.specs.Patch.{AllBound}
+use Rattle.graph_patch.specs.declared.patch.Patch.{Patch}
 use Rattle.rdf_graph.specs.declared.size.TheConstants.{TRIPLES_LIMIT}
 use Rattle.n3_patch.specs.declared.fault.PatchRule.{PatchRule}
 use Rattle.n3_patch.specs.declared.fault.PatchRule.TheVariants as rule

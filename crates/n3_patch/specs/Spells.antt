@@ -1,7 +1,7 @@
 -- Which bytes parse to a patch (Solid Protocol, N3 Patch).
 use Rattle.std.specs.Prelude.{◌≡◌, ℕ, List, Option, Some, None}
 use Rattle.rdf_graph.specs.declared.term.Term.TheVariants.{Blank}
-use Rattle.rdf_graph.specs.declared.patch.Patch.{Patch}
+use Rattle.graph_patch.specs.declared.patch.Patch.{Patch}
 use Rattle.turtle_grammar.specs.declared.production.Node.{Node}
 use Rattle.turtle_grammar.specs.declared.production.Within.{Within}
 use Rattle.turtle_grammar.specs.declared.production.Within.TheVariants as within

@@ -3,10 +3,10 @@ use Rattle.std.specs.Prelude.{ℕ, List, ◌≡◌, ◌↔◌, ◌⊎◌, true}
 use Rattle.std.specs.BTreeSet.{BTreeSet, contains}
 use Rattle.std.specs.Cmp.Lexicographic.{slice_cmp}
 use Rattle.std.specs.Ordering.{nat_cmp}
-use Rattle.rdf_graph.specs.Pattern.{HasVariable, IsVariableOf}
-use Rattle.rdf_graph.specs.declared.pattern.Pattern.{Pattern}
-use Rattle.rdf_graph.specs.declared.pattern.Slot.{Slot}
-use Rattle.rdf_graph.specs.declared.pattern.Slot.TheVariants.{Var}
+use Rattle.graph_patch.specs.Pattern.{HasVariable, IsVariableOf}
+use Rattle.graph_patch.specs.declared.pattern.Pattern.{Pattern}
+use Rattle.graph_patch.specs.declared.pattern.Slot.{Slot}
+use Rattle.graph_patch.specs.declared.pattern.Slot.TheVariants.{Var}
 
 -- the set has this name
 abbrev pub HasName : BTreeSet (List ℕ) → List ℕ → Type 0

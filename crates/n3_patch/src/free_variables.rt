@@ -4,13 +4,13 @@
 //! is that of `n` look-ups in a tree.
 
 ghost use Rattle.std.specs.Prelude.{◌↔◌, IfOk, OnOk, IsTrue};
-ghost use Rattle.rdf_graph.specs.Patch.{IsBound};
-ghost use Rattle.rdf_graph.specs.Pattern.{HasVariable, IsVariableOf};
+ghost use Rattle.graph_patch.specs.Patch.{IsBound};
+ghost use Rattle.graph_patch.specs.Pattern.{HasVariable, IsVariableOf};
 ghost use Rattle.n3_patch.specs.VariableNames.{AddsName, AddsSlot, AddsVariables, AreNamesOf};
 ghost use Rattle.n3_patch.specs.VariableNames.{HasSlot, HasNames};
 
+use graph_patch::{Patch, Pattern, Slot};
 use pod_base::{Mem, Text};
-use rdf_graph::{Patch, Pattern, Slot};
 use std::alloc::Global;
 use std::collections::BTreeSet;
 

@@ -1,7 +1,7 @@
 //! The patch of triples, or the first rule that they break.
 
 ghost use Rattle.std.specs.Prelude.{◌↔◌, IfOk, IfErr, IfSome, IfNone, IsTrue};
-ghost use Rattle.rdf_graph.specs.Patch.{IsBound};
+ghost use Rattle.graph_patch.specs.Patch.{IsBound};
 ghost use Rattle.n3_patch.specs.Parts.{IsPatchOf};
 ghost use Rattle.n3_patch.specs.Rules.{IsJudged, IsFaultOf};
 ghost use Rattle.n3_patch.specs.Progress.{BreaksLast, IsFaultFrom, IsKeptPatch, IsPatch};
@@ -14,8 +14,8 @@ use crate::rules::{broken_test, first_typing};
 use crate::size::is_too_large;
 use crate::triples::{PatchNode, PatchTriple};
 use crate::vocabulary::Part;
+use graph_patch::Patch;
 use pod_base::{Mem, NoMemory};
-use rdf_graph::Patch;
 use std::alloc::Global;
 
 /// The patch of a resource.

@@ -17,7 +17,7 @@ pub fn one_spelled_patch()
     ensures { HasOneSpelledPatch }
 {}
 
-/// A text has at most one first fault of syntax, which is at the least position of all its faults.
+/// A patch document has at most one first fault of syntax: that at the least position.
 pub fn first_fault()
     ensures one { HasOneFirstFault }
     ensures least { PlacesAscend }

@@ -14,7 +14,7 @@
 //! (clauses `patch`, `fault`; `specs/Parts.antt`, `specs/Rules.antt`, `specs/Size.antt`). Each part
 //! is a set, in the order of the first occurrences of its patterns. Where the text parses to a
 //! patch and no bracket is too deep, the result is that patch, or out of memory (clause `only`).
-//! The result of both meets what `rdf_graph::instantiate` requires (clause `bound`). [`laws`] has
+//! The result of both meets what `graph_patch::instantiate` requires (clause `bound`). [`laws`] has
 //! what follows from the definitions.
 //!
 //! A document whose triples count more than [`KEPT_BYTES_LIMIT`] is answered out of memory.
@@ -23,11 +23,11 @@
 //! names its unnamed nodes, and on `rdf_graph` for terms and patches.
 #![tactic(auto)]
 
+mod collected_triples;
 mod fault;
 mod free_variables;
 mod judging;
 pub mod laws;
-mod made;
 mod pattern_ref;
 mod patterns;
 mod reading;

@@ -6,10 +6,10 @@ ghost use Rattle.std.specs.Cmp.{eq_by_cmp_equiv, partial_order_from_total, parti
 ghost use Rattle.std.specs.Cmp.Rules.{comparing};
 ghost use Rattle.std.specs.Ordering.{as_partial_cmp, eq_by_cmp};
 ghost use Rattle.rdf_graph.specs.Term.{text};
-ghost use Rattle.rdf_graph.specs.TermOrder.{pattern_cmp, slot_cmp};
-ghost use Rattle.rdf_graph.specs.TermOrderLaws.{pattern_cmp_total};
+ghost use Rattle.graph_patch.specs.PatternOrder.{pattern_cmp, slot_cmp};
+ghost use Rattle.graph_patch.specs.PatternOrderLaws.{pattern_cmp_total};
 ghost use Rattle.rdf_graph.specs.Triple.{bytes_cmp};
-ghost use Rattle.rdf_graph.specs.declared.pattern.Slot.TheVariants.{Fixed, Var};
+ghost use Rattle.graph_patch.specs.declared.pattern.Slot.TheVariants.{Fixed, Var};
 ghost use Rattle.n3_patch.specs.Progress.{slot_like};
 
 use crate::triples::{PatchNode, PatchTriple};
@@ -25,7 +25,7 @@ pub(crate) struct PatternRef<'a> {
 }
 
 impl<'a> Model for PatternRef<'a> {
-    ghost use Rattle.rdf_graph.specs.declared.pattern.Pattern.{Pattern};
+    ghost use Rattle.graph_patch.specs.declared.pattern.Pattern.{Pattern};
     ghost use Rattle.n3_patch.specs.Progress.{pattern_like};
 
     ghost Value = { Pattern };
@@ -66,7 +66,7 @@ impl<'a> Ord for PatternRef<'a> {
 
     ghost matches_eq = { Prim.search (comparing, rules) };
 
-    #[tactic(auto, unfolding(rdf_graph::specs::TermOrder::pattern_cmp))]
+    #[tactic(auto, unfolding(graph_patch::specs::PatternOrder::pattern_cmp))]
     fn cmp(&self, other: &Self) -> Ordering {
         match cmp_nodes(&self.triple.subject, &other.triple.subject) {
             Ordering::Equal => match cmp_nodes(&self.triple.predicate, &other.triple.predicate) {
@@ -89,7 +89,7 @@ fn cmp_nodes(node: &PatchNode, other: &PatchNode) -> Ordering
     }
 }
 
-#[tactic(auto, unfolding(rdf_graph::specs::TermOrder::slot_cmp, rdf_graph::specs::TermOrder::term_cmp))]
+#[tactic(auto, unfolding(graph_patch::specs::PatternOrder::slot_cmp, rdf_graph::specs::TermOrder::term_cmp))]
 fn cmp_term(term: &Term, other: &PatchNode) -> Ordering
     ensures { result ≡ slot_cmp (Fixed term.now) (slot_like other.now) }
 {
@@ -99,7 +99,7 @@ fn cmp_term(term: &Term, other: &PatchNode) -> Ordering
     }
 }
 
-#[tactic(auto, unfolding(rdf_graph::specs::TermOrder::slot_cmp))]
+#[tactic(auto, unfolding(graph_patch::specs::PatternOrder::slot_cmp))]
 fn cmp_variable(name: &str, other: &PatchNode) -> Ordering
     ensures { result ≡ slot_cmp (Var name.now) (slot_like other.now) }
 {

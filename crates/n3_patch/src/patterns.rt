@@ -4,8 +4,8 @@ ghost use Rattle.std.specs.Prelude.{◌≡◌, ◌++◌, ◌∷◌, ◌||◌, []
 ghost use Rattle.std.specs.BTreeSet.{contains};
 ghost use Rattle.std.specs.Option.{option_copied};
 ghost use Rattle.std.specs.Ordering.{eq_by_cmp};
-ghost use Rattle.rdf_graph.specs.TermOrder.{pattern_cmp};
-ghost use Rattle.rdf_graph.specs.declared.pattern.Pattern.{Pattern};
+ghost use Rattle.graph_patch.specs.PatternOrder.{pattern_cmp};
+ghost use Rattle.graph_patch.specs.declared.pattern.Pattern.{Pattern};
 ghost use Rattle.n3_patch.specs.Nodes.{is_this_formula, pattern_of};
 ghost use Rattle.n3_patch.specs.Parts.{with_formula, object_formula, part_patterns};
 ghost use Rattle.n3_patch.specs.Progress.{AddsPattern, AddsIfInside, pattern_like};
@@ -14,8 +14,8 @@ use crate::pattern_ref::PatternRef;
 use crate::rules::first_formula;
 use crate::triples::{PatchNode, PatchTriple};
 use crate::vocabulary::Part;
+use graph_patch::Pattern;
 use pod_base::{List, Mem, NoMemory};
-use rdf_graph::Pattern;
 use std::alloc::Global;
 use std::collections::BTreeSet;
 

@@ -1,19 +1,19 @@
 //! Parses patch documents.
 
 ghost use Rattle.std.specs.Prelude.{◌≡◌, ◌≢◌, IfOk, IfErr, OnOk};
-ghost use Rattle.rdf_graph.specs.Patch.{IsBound};
+ghost use Rattle.graph_patch.specs.Patch.{IsBound};
 ghost use Rattle.turtle_terms.specs.declared.fault.TurtleFault.TheVariants.{NoMemory as NoMemoryFault};
 ghost use Rattle.n3_patch.specs.Faults.{HasNoFault, HasOnlyPatch, IsFirstFault, IsN3Fault};
 ghost use Rattle.n3_patch.specs.Faults.{told_as};
 ghost use Rattle.n3_patch.specs.Spells.{PatchSpells, SpellsTriples};
 
+use crate::collected_triples::Made;
 use crate::fault::{Judgement, N3Fault};
 use crate::judging::judge;
-use crate::made::Made;
 use crate::triples::PatchTriple;
+use graph_patch::Patch;
 use iri_ref::Iri;
 use pod_base::List;
-use rdf_graph::Patch;
 use std::alloc::Global;
 use turtle_reader::walk;
 use turtle_terms::TurtleFault;

@@ -5,8 +5,9 @@ ghost use Rattle.n3_patch.specs.Nodes.{node_eq, is_iri, is_iri_term, is_formula,
 ghost use Rattle.n3_patch.specs.Nodes.{is_blank_term, slot_of, pattern_from, pattern_of};
 ghost use Rattle.n3_patch.specs.Parts.{is_inside, is_outside};
 
+use graph_patch::{Pattern, Slot};
 use pod_base::{Mem, Text};
-use rdf_graph::{Pattern, Slot, Term};
+use rdf_graph::Term;
 use std::alloc::Global;
 
 /// A node of a triple.

@@ -1,18 +1,18 @@
 -- A patch touches containment under its one solution, or not at all; a fault of it is its refusal.
 use Rattle.std.proofs.Common.{◌≡◌, ℕ, Bool, List, Some, inl, inr, refl, sym, ◌∙◌, subst}
 use Rattle.std.specs.Prelude.{IsTrue}
-use Rattle.rdf_graph.specs.Patch.{HasPredicate, IsFaultOf, IsMappingFault}
-use Rattle.rdf_graph.specs.Pattern.{Binding, SameBinding, slot_term, value_of}
-use Rattle.rdf_graph.specs.Solutions.{HasTwoSolutions, IsOnlySolution}
-use Rattle.rdf_graph.specs.declared.patch.Patch.{Patch}
-use Rattle.rdf_graph.specs.declared.patch.PatchFault.{PatchFault}
-use Rattle.rdf_graph.specs.declared.patch.PatchFault.TheVariants as faults
-use Rattle.rdf_graph.specs.declared.pattern.Pattern.{Pattern}
-use Rattle.rdf_graph.specs.declared.pattern.Slot.{Slot}
-use Rattle.rdf_graph.specs.declared.pattern.Slot.TheVariants.{Fixed, Var}
+use Rattle.graph_patch.specs.Patch.{HasPredicate, IsFaultOf, IsMappingFault}
+use Rattle.graph_patch.specs.Pattern.{Binding, SameBinding, slot_term, value_of}
+use Rattle.graph_patch.specs.Solutions.{HasTwoSolutions, IsOnlySolution}
+use Rattle.graph_patch.specs.declared.patch.Patch.{Patch}
+use Rattle.graph_patch.specs.declared.patch.PatchFault.{PatchFault}
+use Rattle.graph_patch.specs.declared.patch.PatchFault.TheVariants as faults
+use Rattle.graph_patch.specs.declared.pattern.Pattern.{Pattern}
+use Rattle.graph_patch.specs.declared.pattern.Slot.{Slot}
+use Rattle.graph_patch.specs.declared.pattern.Slot.TheVariants.{Fixed, Var}
 use Rattle.rdf_graph.specs.declared.term.Term.{Term}
 use Rattle.rdf_graph.specs.declared.triple.Triple.{Triple}
-use Rattle.rdf_graph.proofs.Patching.{the_solution}
+use Rattle.graph_patch.proofs.Patching.{the_solution}
 use Rattle.patch_outcome.specs.Outcomes.{NamesContainment, HasFixedContainment, HasSolvedContainment, TouchesContainment}
 use Rattle.patch_outcome.specs.Outcomes.{KeepsContainment, IsRefusal, IsRefusedBy, fault_of}
 use Rattle.patch_outcome.specs.declared.refusal.PatchRefusal.{PatchRefusal}

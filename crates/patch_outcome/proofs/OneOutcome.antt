@@ -2,15 +2,15 @@
 use Rattle.std.proofs.Common.{◌≡◌, Bool, false, List, None, Result, Ok, Err, inl, inr, refl, sym, ◌∙◌, ap, subst}
 use Rattle.std.specs.List.{Contains}
 use Rattle.rdf_graph.specs.Graph.{IsGraph, SameSet}
-use Rattle.rdf_graph.specs.Patch.{AreInstances, HasInvalidInsertion, HasPredicate, IsChangeOf, IsInstance, IsTheSolution, LacksDeletion}
-use Rattle.rdf_graph.specs.Pattern.{Binding, IsSolution, SameBinding, slot_term}
-use Rattle.rdf_graph.specs.Solutions.{HasTwoSolutions}
+use Rattle.graph_patch.specs.Patch.{AreInstances, HasInvalidInsertion, HasPredicate, IsChangeOf, IsInstance, IsTheSolution, LacksDeletion}
+use Rattle.graph_patch.specs.Pattern.{Binding, IsSolution, SameBinding, slot_term}
+use Rattle.graph_patch.specs.Solutions.{HasTwoSolutions}
 use Rattle.rdf_graph.specs.Triple.{IsRdf}
 use Rattle.rdf_graph.specs.declared.change.Change.{Change}
-use Rattle.rdf_graph.specs.declared.patch.Patch.{Patch}
-use Rattle.rdf_graph.specs.declared.pattern.Pattern.{Pattern}
-use Rattle.rdf_graph.specs.declared.pattern.Slot.{Slot}
-use Rattle.rdf_graph.specs.declared.pattern.Slot.TheVariants.{Fixed, Var}
+use Rattle.graph_patch.specs.declared.patch.Patch.{Patch}
+use Rattle.graph_patch.specs.declared.pattern.Pattern.{Pattern}
+use Rattle.graph_patch.specs.declared.pattern.Slot.{Slot}
+use Rattle.graph_patch.specs.declared.pattern.Slot.TheVariants.{Fixed, Var}
 use Rattle.rdf_graph.specs.declared.triple.Triple.{Triple}
 use Rattle.rdf_graph.proofs.Graphs.{one_graph}
 use Rattle.sparql_patch.specs.declared.named.Named.{Named}

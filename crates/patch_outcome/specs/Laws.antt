@@ -1,7 +1,7 @@
 -- What follows from the definitions. Each law is the contract of a function of `laws`.
 use Rattle.std.specs.Prelude.{◌≡◌, Bool, List, Result}
 use Rattle.rdf_graph.specs.declared.change.Change.{Change}
-use Rattle.rdf_graph.specs.declared.patch.Patch.{Patch}
+use Rattle.graph_patch.specs.declared.patch.Patch.{Patch}
 use Rattle.rdf_graph.specs.declared.triple.Triple.{Triple}
 use Rattle.sparql_patch.specs.declared.named.Named.{Named}
 use Rattle.patch_outcome.specs.Outcomes.{HasGraphs, IsOutcome}

@@ -4,12 +4,12 @@ use Rattle.std.specs.Prelude.{◌⊎◌, ℕ, Bool, IsTrue, List, Option, Some, 
 use Rattle.std.specs.Prelude.{codes}
 use Rattle.pod_rows.specs.Vocabulary.{ldp_contains}
 use Rattle.rdf_graph.specs.Graph.{IsGraph}
-use Rattle.rdf_graph.specs.Patch.{HasPredicate, IsChangeOf, IsFaultOf, IsTheSolution}
-use Rattle.rdf_graph.specs.Pattern.{Binding}
+use Rattle.graph_patch.specs.Patch.{HasPredicate, IsChangeOf, IsFaultOf, IsTheSolution}
+use Rattle.graph_patch.specs.Pattern.{Binding}
 use Rattle.rdf_graph.specs.declared.change.Change.{Change}
-use Rattle.rdf_graph.specs.declared.patch.Patch.{Patch}
-use Rattle.rdf_graph.specs.declared.patch.PatchFault.{PatchFault}
-use Rattle.rdf_graph.specs.declared.patch.PatchFault.TheVariants as faults
+use Rattle.graph_patch.specs.declared.patch.Patch.{Patch}
+use Rattle.graph_patch.specs.declared.patch.PatchFault.{PatchFault}
+use Rattle.graph_patch.specs.declared.patch.PatchFault.TheVariants as faults
 use Rattle.rdf_graph.specs.declared.triple.Triple.{Triple}
 use Rattle.patch_outcome.specs.declared.refusal.PatchRefusal.{PatchRefusal}
 use Rattle.patch_outcome.specs.declared.refusal.PatchRefusal.TheVariants.{Contains, NoMatch}

@@ -5,7 +5,7 @@ use Rattle.std.specs.List.{list_any}
 use Rattle.pod_rows.specs.Vocabulary.{ldp_contains}
 use Rattle.rdf_graph.specs.Term.{term_eq}
 use Rattle.rdf_graph.specs.declared.change.Change.{Change}
-use Rattle.rdf_graph.specs.declared.patch.Patch.{Patch}
+use Rattle.graph_patch.specs.declared.patch.Patch.{Patch}
 use Rattle.rdf_graph.specs.declared.term.Term.TheVariants.{Iri}
 use Rattle.rdf_graph.specs.declared.triple.Triple.{Triple}
 use Rattle.sparql_patch.specs.NamedUpdate.{IsSpelledAt}

@@ -1,15 +1,16 @@
 //! [`outcome`]: what a patch does to a graph.
 
 ghost use Rattle.std.specs.Prelude.{IfOk, IfErr, IsTrue};
-ghost use Rattle.rdf_graph.specs.Patch.{IsBound, IsChangeOf, IsFaultOf};
-ghost use Rattle.rdf_graph.specs.Pattern.{value_of};
-ghost use Rattle.rdf_graph.specs.Solutions.{IsOnlySolution};
+ghost use Rattle.graph_patch.specs.Patch.{IsBound, IsChangeOf, IsFaultOf};
+ghost use Rattle.graph_patch.specs.Pattern.{value_of};
+ghost use Rattle.graph_patch.specs.Solutions.{IsOnlySolution};
 ghost use Rattle.patch_outcome.specs.Outcomes as spec;
 
 use crate::refusal::{PatchRefusal, refusal_of};
+use graph_patch::{Mapping, Patch, PatchFault, the_mapping};
 use pod_base::Mem;
 use pod_rows::vocabulary::LDP_CONTAINS;
-use rdf_graph::{Change, Graph, Mapping, Patch, PatchFault, the_mapping};
+use rdf_graph::{Change, Graph};
 use std::alloc::Global;
 
 /// The change of a patch under the one mapping of its conditions.

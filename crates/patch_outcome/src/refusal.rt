@@ -3,8 +3,8 @@
 ghost use Rattle.std.specs.Prelude.{◌≡◌, Some, IfOk};
 ghost use Rattle.patch_outcome.specs.Outcomes as spec;
 
+use graph_patch::PatchFault;
 use pod_base::{Mem, NoMemory};
-use rdf_graph::PatchFault;
 
 /// Why a patch, or an update, is refused. It is answered by 409 with this word.
 #[derive(Clone, Copy, Debug, PartialEq, Eq)]

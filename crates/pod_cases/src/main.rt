@@ -22,18 +22,18 @@
 //! cut.
 #![tactic(auto)]
 
-mod asks;
-mod cuts;
-mod ends;
-mod fails;
+mod case_state;
+mod cut_stores;
+mod failing_disks;
+mod followed_store;
 mod frames;
-mod held;
-mod leader;
+mod input_ends;
 mod pipe;
 mod ranges;
 mod responses;
 mod runs;
 mod steps;
+mod store_connections;
 mod stores;
 
 use case_words::known;
@@ -47,10 +47,12 @@ fn case(alloc: Global, fields: &[&str]) -> Mem<String> {
         ["pipe", input] => pipe::in_sizes(alloc, input, &[1, 2, 3, 7, 20, 1_000]),
         ["pipe-large", input] => pipe::in_sizes(alloc, input, &[65_536]),
         ["pipe-ends", input] => pipe::ended_anywhere(alloc, input),
-        ["asks", store, inputs @ ..] => asks::outcomes(alloc, store, inputs),
-        ["fails", side, store, input, look] => fails::outcomes(alloc, side, store, input, look),
-        ["ends", store, input] => ends::outcomes(alloc, store, input),
-        ["cuts", store, input, look] => cuts::outcomes(alloc, store, input, look),
+        ["asks", store, inputs @ ..] => store_connections::outcomes(alloc, store, inputs),
+        ["fails", side, store, input, look] => failing_disks::outcomes(
+            alloc, side, store, input, look,
+        ),
+        ["ends", store, input] => input_ends::outcomes(alloc, store, input),
+        ["cuts", store, input, look] => cut_stores::outcomes(alloc, store, input, look),
         ["store", steps @ ..] => steps::of_store(alloc, steps),
         ["leader", steps @ ..] => steps::of_leader(alloc, steps),
         _ => Ok(String::from_str(alloc, "no case")?),

@@ -20,8 +20,8 @@
 //! write of that sink. PIECES are separated by `|`; each is hexadecimal digits, and after a space
 //! what they are. [`crate::leader`] has the other steps.
 
-use crate::held::{Held, add_record};
-use crate::leader;
+use crate::case_state::{Held, add_record};
+use crate::followed_store;
 use crate::runs::Run;
 use crate::stores::Store;
 use case_words::{bytes, first_word, shown_whole};
@@ -86,7 +86,7 @@ fn change(alloc: Global, held: &mut Held, word: &str, rest: &str) -> Mem<&'stati
             held.tokens = bytes(alloc, rest)?;
             Ok("tokens")
         }
-        _ => leader::change(alloc, held, word, rest),
+        _ => followed_store::change(alloc, held, word, rest),
     }
 }
 
@@ -100,7 +100,9 @@ fn step(alloc: Global, held: &mut Held, field: &str) -> Mem<String> {
             command(alloc, held, words, fault)
         }
         "bytes" => Ok(format!(in alloc; "{}", held.len(rest))?),
-        "serve" | "load" | "ship" | "follow" | "same" => leader::step(alloc, held, word, rest),
+        "serve" | "load" | "ship" | "follow" | "same" => followed_store::step(
+            alloc, held, word, rest,
+        ),
         _ => {
             let done = change(alloc, held, word, rest)?;
             Ok(String::from_str(alloc, done)?)

@@ -1,7 +1,2 @@
 pub mod Bare
 pub mod Encodable
-pub mod Storable
-pub mod StoredForms
--- internal: cited by private clauses alone
-pub mod Readers
-pub mod Reading

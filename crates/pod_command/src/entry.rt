@@ -3,8 +3,8 @@ ghost use Rattle.std.specs.Prelude.{◌≡◌, IfOk};
 ghost use Rattle.pod_command.specs.Bare.{bare_entry};
 
 use crate::basis::Basis;
+use crate::copies::copy_list;
 use crate::edit::Edit;
-use crate::stored::copy_list;
 use pod_base::{Agent, List, Mem, Method, Moment};
 use pod_path::Path;
 use std::alloc::Global;

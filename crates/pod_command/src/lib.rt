@@ -1,42 +1,29 @@
-//! What a pod is made of, what a change of it is, and the bytes of both in a store.
+//! What a pod is made of, and what a change of it is.
 //!
 //! ```text
-//! let bytes = encode_entry(alloc, &entry)?;                // format 2, `entry_size(&entry)` bytes
-//! let again = decode_entry(alloc, bytes.as_slice())?;      // an equal entry
-//! let old = decode_entry_1(alloc, stored)?;                // format 1: an entry without bases
-//! let snapshot = decode_snapshot(alloc, first_record)?;    // the whole pod
+//! let row = Row { path, kind: Kind::Graph, content: Content::Graph(graph), modified };
+//! let edits = List::from_vec(edits);                        // `Edit::Put(row)`, ..
+//! let entry = Entry { seq, conn, number, agent, moment, method, path, edits, bases };
+//! let again = entry.copy(alloc)?;                           // shares texts and bytes
 //! ```
 //!
-//! Encoding gives the form of the value (clause `form`), and decoding the only value that has the
-//! form (`form`, `only`); `NotCanonical` comes exactly where there is none (`refused`). What is
-//! decoded can be encoded (`encodable`), and what is encoded can be decoded (`storable`). [`laws`]
-//! says that no two values have one form. The forms are `specs/StoredForms.antt`; which values have
-//! one is `specs/Storable.antt`. The crate stands on `pod_base`, `iri_ref`, `pod_path` and
-//! `rdf_graph`.
+//! A [`Row`] is a resource, an [`Edit`] a step of a change, an [`Entry`] a change with the request
+//! that made it and the [`Basis`] of each of its needs, and a [`Snapshot`] a whole pod. A contract
+//! sees them as records of the same fields. Proved: a copy is equal, but for the spare room of its
+//! lists (`specs/Bare.antt`). `specs/Encodable.antt` says which entries and snapshots can be stored:
+//! `stored_forms` has their bytes. The crate stands on `rdf_graph`, `pod_path`, `iri_ref` and
+//! `pod_base`.
 #![tactic(auto)]
 
 mod basis;
-mod basis_form;
+mod copies;
 mod edit;
-mod edit_form;
 mod entry;
-mod entry_form;
-mod graph_form;
-pub mod laws;
-mod read_back;
-mod reading;
 mod row;
-mod row_form;
 mod snapshot;
-mod snapshot_form;
-mod stored;
-mod writing;
 
 pub use basis::{Basis, Who};
 pub use edit::Edit;
 pub use entry::Entry;
-pub use entry_form::{decode_entry, decode_entry_1, encode_entry, entry_size};
-pub use read_back::ReadBack;
 pub use row::{Content, Kind, Row};
 pub use snapshot::Snapshot;
-pub use snapshot_form::{decode_snapshot, encode_snapshot};

@@ -2,8 +2,8 @@
 ghost use Rattle.std.specs.Prelude.{◌≡◌, IfOk};
 ghost use Rattle.pod_command.specs.Bare.{bare_snapshot};
 
+use crate::copies::copy_list;
 use crate::row::Row;
-use crate::stored::copy_list;
 use iri_ref::Iri;
 use pod_base::{List, Mem, Text};
 use rdf_graph::copy_iri;

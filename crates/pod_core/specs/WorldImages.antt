@@ -4,7 +4,7 @@ use Rattle.journal_log.specs.Frames.{framed_of, opened}
 use Rattle.journal_log.specs.Gates.{IsClosed, IsOpening}
 use Rattle.journal_log.specs.Heads.{encoded_head}
 use Rattle.pod_base.specs.Listed.{listed}
-use Rattle.pod_command.specs.StoredForms.{entry_bytes, snapshot_bytes}
+use Rattle.stored_forms.specs.StoredForms.{entry_bytes, snapshot_bytes}
 use Rattle.pod_command.specs.declared.entry.Entry.{Entry}
 use Rattle.pod_command.specs.declared.snapshot.Snapshot.{Snapshot}
 use Rattle.pod_core.specs.History.{History}

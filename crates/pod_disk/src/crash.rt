@@ -6,8 +6,8 @@ ghost use Rattle.pod_disk.specs.Tears.{image_torn, first_of, used_up, tears_left
 ghost use Rattle.pod_disk.specs.Tears.{left_torn, crash_of};
 
 use crate::call::{Call, NotedCall};
+use crate::call_effects::perform;
 use crate::tear::{Tear, tear_call};
-use crate::write::perform;
 use pod_base::Mem;
 use std::alloc::Global;
 

@@ -5,6 +5,7 @@
 #![tactic(auto)]
 
 mod call;
+mod call_effects;
 mod crash;
 mod disk;
 mod file_disk;
@@ -12,7 +13,6 @@ mod lazy_file;
 mod mem_disk;
 mod place;
 mod tear;
-mod write;
 
 pub use call::{Call, NotedCall};
 pub use disk::{Disk, LENGTH_LIMIT};

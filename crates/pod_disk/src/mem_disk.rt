@@ -15,10 +15,10 @@ ghost use Rattle.pod_disk.specs.NotedCalls.{MakesCall, LeavesContent};
 ghost use Rattle.pod_disk.specs.Tears.{crash_of};
 
 use crate::call::{Call, NotedCall};
+use crate::call_effects::perform;
 use crate::crash::crashed;
 use crate::disk::{Disk, LENGTH_LIMIT};
 use crate::tear::Tear;
-use crate::write::perform;
 use pod_base::{Bytes, Mem};
 use pod_io::{Calls, Failed};
 use std::alloc::Global;

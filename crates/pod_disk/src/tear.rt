@@ -4,7 +4,7 @@ ghost use Rattle.std.specs.Prelude.{◌≡◌, OnOk};
 ghost use Rattle.pod_disk.specs.Tears.{lengthened, written_at, torn_write, torn_cut, torn_by};
 
 use crate::call::Call;
-use crate::write::put;
+use crate::call_effects::put;
 use pod_base::Mem;
 use std::alloc::Global;
 

@@ -10,12 +10,12 @@ use Rattle.pod_command.specs.declared.entry.Entry.{Entry}
 use Rattle.pod_io.specs.Counts.{next_count}
 use Rattle.pod_pages.specs.State.{VersionState, states_after}
 use Rattle.pod_feed.specs.News.{IsNews, notices_of}
-use Rattle.pod_feed.specs.declared.news.News.{News}
-use Rattle.pod_feed.specs.declared.news.News.TheVariants as news
+use Rattle.pod_feed.specs.declared.notices_due.News.{News}
+use Rattle.pod_feed.specs.declared.notices_due.News.TheVariants as news
 use Rattle.pod_live.specs.Visits.{IsTurnedAway, Looked, Visit}
 use Rattle.published_view.specs.LookerState.{CountIncreasedByOne}
 use Rattle.pod_feed.specs.Feeds.{AllReport, Continues, CountsRefused, CountsWire, EndsBy, IsFed, Reports, WireView, next_of, notices_from, polls_after}
-use Rattle.pod_feed.specs.Turns.{FailsAfter, IsClosedAfter, IsFedThrough, IsLastTurn, IsTurn}
+use Rattle.pod_feed.specs.Turns.{FailsAfter, IsClosedAfter, IsFedThrough, IsLastTurn, IsFeedTurn}
 use Rattle.pod_feed.specs.declared.feed_end.FeedEnd.{FeedEnd}
 use Rattle.pod_feed.specs.declared.feed_end.FeedEnd.TheVariants as ends
 
@@ -106,7 +106,7 @@ module _ (opened : VersionState) (topic : List ℕ) (agent : Agent) where
     polled_more : new.polls ≡ option_map next_count mid.polls → new.polls ≡ option_map (polls_after (length later)) old.polls
     polled_more e = maps_join (polls_after (length s.turns)) next_count (polls_after (length later)) old.polls mid.polls new.polls s.polls e (λ count. polls_more s.turns after.seen count)
 
-    pub goes_on : (next : ℕ) → IsTurn opened topic agent last now after mid new next → IsFedThrough opened topic agent first next before after old new
+    pub goes_on : (next : ℕ) → IsFeedTurn opened topic agent last now after mid new next → IsFedThrough opened topic agent first next before after old new
     goes_on next t = record {
       turns = later;
       seen = continues_more before.seen s.turns now.seen after.seen s.seen t.looked.later;

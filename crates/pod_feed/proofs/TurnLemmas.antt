@@ -11,20 +11,20 @@ use Rattle.pod_io.specs.declared.wire.Polled.TheVariants.{Nothing, Closed}
 use Rattle.pod_io.specs.declared.wire.WireFault.{WireFault}
 use Rattle.pod_pages.specs.State.{VersionState, states_after}
 use Rattle.pod_feed.specs.News.{IsNews}
-use Rattle.pod_feed.specs.declared.news.News.{News}
-use Rattle.pod_feed.specs.declared.news.News.TheVariants as news
+use Rattle.pod_feed.specs.declared.notices_due.News.{News}
+use Rattle.pod_feed.specs.declared.notices_due.News.TheVariants as news
 use Rattle.pod_live.specs.Visits.{IsTurnedAway, Looked, Visit}
 use Rattle.published_view.specs.LookerState.{NotNoPlace, OnNoPlace}
 use Rattle.published_view.specs.declared.fault.ViewFault.{ViewFault}
 use Rattle.published_view.specs.declared.fault.ViewFault.TheVariants as views
 use Rattle.pod_feed.specs.Feeds.{WireView}
-use Rattle.pod_feed.specs.Turns.{EndsAtLook, EndsAtWire, EndsByNews, IsLastTurn, IsPolled, IsReport, IsReportOf, IsReported, IsSentAndPolled, IsTold, IsTurn, end_of, polled_so}
+use Rattle.pod_feed.specs.Turns.{EndsAtLook, EndsAtWire, EndsByNews, IsLastTurn, IsPolled, IsReport, IsReportOf, ComesOfNews, IsSentAndPolled, IsTold, IsFeedTurn, end_of_fault, polled_so}
 use Rattle.pod_feed.specs.declared.feed_end.FeedEnd.{FeedEnd}
 use Rattle.pod_feed.specs.declared.feed_end.FeedEnd.TheVariants as ends
-use Rattle.pod_feed.specs.declared.report.Report.{Report}
+use Rattle.pod_feed.specs.declared.version_report.Report.{Report}
 
 module _ (version : VersionState) (last : ℕ) (topic : List ℕ) (agent : Agent) where
-  pub reports_so : (told : News) (next : ℕ) (result : Result Report FeedEnd) → IsNews version last topic agent told → next ≡ version.next → IsReported told next result → IfOk result (IsReportOf version last topic agent)
+  pub reports_so : (told : News) (next : ℕ) (result : Result Report FeedEnd) → IsNews version last topic agent told → next ≡ version.next → ComesOfNews told next result → IfOk result (IsReportOf version last topic agent)
   reports_so (news.Notices notices) next (Ok report) n e r = record {
     reads = n.0;
     kept = n.1;
@@ -37,7 +37,7 @@ module _ (version : VersionState) (last : ℕ) (topic : List ℕ) (agent : Agent
   reports_so (news.Lagged from oldest) next (Ok report) n e r = absurd r
   reports_so (news.Lagged from oldest) next (Err end) n e r = tt
 
-  pub ends_so : (told : News) (next : ℕ) (result : Result Report FeedEnd) → IsNews version last topic agent told → IsReported told next result → IfErr result (EndsByNews version last topic agent)
+  pub ends_so : (told : News) (next : ℕ) (result : Result Report FeedEnd) → IsNews version last topic agent told → ComesOfNews told next result → IfErr result (EndsByNews version last topic agent)
   ends_so (news.Notices notices) next (Ok report) n r = tt
   ends_so (news.Notices notices) next (Err end) n r = absurd r
   ends_so news.Revoked next (Ok report) n r = absurd r
@@ -66,13 +66,13 @@ module _ (opened : VersionState) (last : ℕ) (topic : List ℕ) (agent : Agent)
   look_ends version (Err end) e l r = look_end version end e l r
 
   -- a look that gave no version
-  pub look_fails : (X : Type 0) (fault : ViewFault) (end : FeedEnd) → end ≡ end_of fault → NotNoPlace {X = X} (Err fault) (Looked before after) → OnNoPlace {X = X} (Err fault) (IsTurnedAway before after) → EndsAtLook opened last topic agent before after end
+  pub look_fails : (X : Type 0) (fault : ViewFault) (end : FeedEnd) → end ≡ end_of_fault fault → NotNoPlace {X = X} (Err fault) (Looked before after) → OnNoPlace {X = X} (Err fault) (IsTurnedAway before after) → EndsAtLook opened last topic agent before after end
   look_fails X views.NoMemory end e looked away = subst (EndsAtLook opened last topic agent before after) (sym e) (looked, tt)
   look_fails X views.NoPlace end e looked away = subst (EndsAtLook opened last topic agent before after) (sym e) away
 
   module _ (old new : WireView) where
     -- the report was told
-    pub turn_so : (report : Report) (result : Result ℕ FeedEnd) → IsReport opened last topic agent before after report → IfOk result (IsTold report old new) → IfOk result (IsTurn opened topic agent last before after old new)
+    pub turn_so : (report : Report) (result : Result ℕ FeedEnd) → IsReport opened last topic agent before after report → IfOk result (IsTold report old new) → IfOk result (IsFeedTurn opened topic agent last before after old new)
     turn_so report (Ok next) r t = record {
       looked = r.looked;
       reports = (r.report_is.reads, r.report_is.kept);

@@ -9,7 +9,7 @@ use Rattle.pod_command.specs.declared.entry.Entry.{Entry}
 use Rattle.pod_io.specs.Counts.{next_count}
 use Rattle.pod_pages.specs.State.{VersionState, states_after}
 use Rattle.pod_feed.specs.News.{IsNews, MayRead, notices_of}
-use Rattle.pod_feed.specs.declared.news.News.TheVariants as news
+use Rattle.pod_feed.specs.declared.notices_due.News.TheVariants as news
 use Rattle.published_view.specs.LookerState.{CountIncreasedByOne}
 use Rattle.pod_live.specs.Visits.{Visit}
 use Rattle.pod_feed.specs.declared.feed_end.FeedEnd.{FeedEnd}

@@ -10,8 +10,8 @@ use Rattle.pod_access.specs.PodGrants.{PodGrants}
 use Rattle.pod_pages.specs.State.{VersionState}
 use Rattle.pod_pages.specs.declared.effects.Effect.{Effect}
 use Rattle.pod_feed.specs.Notices.{notice_of}
-use Rattle.pod_feed.specs.declared.news.News.{News}
-use Rattle.pod_feed.specs.declared.news.News.TheVariants.{Notices, Revoked, Lagged}
+use Rattle.pod_feed.specs.declared.notices_due.News.{News}
+use Rattle.pod_feed.specs.declared.notices_due.News.TheVariants.{Notices, Revoked, Lagged}
 
 -- A topic is read by Read on its path; an access list by Control on its subject.
 abbrev pub read_path : List ℕ → List ℕ

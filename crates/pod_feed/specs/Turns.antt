@@ -11,8 +11,8 @@ use Rattle.pod_io.specs.declared.wire.Polled.{Polled}
 use Rattle.pod_io.specs.declared.wire.Polled.TheVariants.{Nothing, Closed}
 use Rattle.pod_pages.specs.State.{VersionState, states_after}
 use Rattle.pod_feed.specs.News.{IsNews, MayRead, notices_of}
-use Rattle.pod_feed.specs.declared.news.News.{News}
-use Rattle.pod_feed.specs.declared.news.News.TheVariants as news
+use Rattle.pod_feed.specs.declared.notices_due.News.{News}
+use Rattle.pod_feed.specs.declared.notices_due.News.TheVariants as news
 use Rattle.published_view.specs.declared.fault.ViewFault.{ViewFault}
 use Rattle.published_view.specs.declared.fault.ViewFault.TheVariants as views
 use Rattle.pod_live.specs.Visits.{IsTurnedAway, Looked, Visit}
@@ -20,7 +20,7 @@ use Rattle.pod_feed.specs.Feeds.{AllReport, Continues, Reports, WireView, next_o
 use Rattle.pod_feed.specs.Feeds.{polls_after}
 use Rattle.pod_feed.specs.declared.feed_end.FeedEnd.{FeedEnd}
 use Rattle.pod_feed.specs.declared.feed_end.FeedEnd.TheVariants as ends
-use Rattle.pod_feed.specs.declared.report.Report.{Report}
+use Rattle.pod_feed.specs.declared.version_report.Report.{Report}
 
 -- ---- a look
 
@@ -41,17 +41,17 @@ EndsByNews version last topic agent ends.NoMemory = Unit {0}
 EndsByNews version last topic agent _ = ⊥
 
 -- what comes of news, at a version whose next change has that number
-abbrev pub IsReported : News → ℕ → Result Report FeedEnd → Type 0
-IsReported (news.Notices notices) next (Ok report) =
+abbrev pub ComesOfNews : News → ℕ → Result Report FeedEnd → Type 0
+ComesOfNews (news.Notices notices) next (Ok report) =
     (report.notices ≡ notices) × (report.next ≡ next)
-IsReported news.Revoked next (Err end) = end ≡ ends.Revoked
-IsReported (news.Lagged from oldest) next (Err end) = end ≡ ends.Lagged from oldest
-IsReported told next result = ⊥
+ComesOfNews news.Revoked next (Err end) = end ≡ ends.Revoked
+ComesOfNews (news.Lagged from oldest) next (Err end) = end ≡ ends.Lagged from oldest
+ComesOfNews told next result = ⊥
 
 -- the end by a look that gave no version
-abbrev pub end_of : ViewFault → FeedEnd
-end_of views.NoPlace = ends.NoPlace
-end_of views.NoMemory = ends.NoMemory
+abbrev pub end_of_fault : ViewFault → FeedEnd
+end_of_fault views.NoPlace = ends.NoPlace
+end_of_fault views.NoMemory = ends.NoMemory
 
 -- one look, and the report of the version that it gave
 pub record IsReport (opened : VersionState) (last : ℕ) (topic : List ℕ) (agent : Agent)
@@ -134,7 +134,7 @@ IsTold report old new next = (next ≡ report.next) × IsSentAndPolled report.no
 -- ---- turns
 
 -- a turn after which the feed goes on from `next`
-pub record IsTurn (opened : VersionState) (topic : List ℕ) (agent : Agent) (last : ℕ)
+pub record IsFeedTurn (opened : VersionState) (topic : List ℕ) (agent : Agent) (last : ℕ)
     (before after : Visit) (old new : WireView) (next : ℕ) : Type 0 where
   pub looked : Looked before after
   pub reports : Reports opened topic agent last after.seen

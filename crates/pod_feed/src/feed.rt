@@ -1,10 +1,10 @@
 //! [`serve_feed`]: the changes to a topic, told as they are published.
 ghost use Rattle.std.specs.Prelude.{IfErr, IfOk};
 ghost use Rattle.pod_feed.specs.Feeds.{IsFed, wire_view_of};
-ghost use Rattle.pod_feed.specs.Turns.{IsLastTurn, IsTurn};
+ghost use Rattle.pod_feed.specs.Turns.{IsLastTurn, IsFeedTurn};
 
 use crate::feed_end::FeedEnd;
-use crate::report::look_for_news;
+use crate::version_report::look_for_news;
 use crate::wire_turn::send_and_poll;
 use pod_base::Agent;
 use pod_io::Wire;
@@ -24,7 +24,7 @@ fn turn<N: ViewName<CommittedEntry> + StoreName, W: Wire>(
     topic: &Path,
     agent: &Agent,
 ) -> Result<u64, FeedEnd>
-    ensures turned { IfOk result (IsTurn N.opened topic.now agent.now last session.old session.new
+    ensures turned { IfOk result (IsFeedTurn N.opened topic.now agent.now last session.old session.new
         (wire_view_of W.sent W.polls W.faults W.closed wire.old)
         (wire_view_of W.sent W.polls W.faults W.closed wire.new)) }
     ensures ended { IfErr result (IsLastTurn N.opened topic.now agent.now last session.old session.new

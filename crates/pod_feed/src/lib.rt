@@ -31,13 +31,13 @@
 mod feed;
 mod feed_end;
 pub mod laws;
-mod news;
 mod notice_text;
-mod reading;
-mod report;
+mod notices_due;
+mod read_access;
+mod version_report;
 mod wire_turn;
 
 pub use feed::serve_feed;
 pub use feed_end::FeedEnd;
-pub use news::{News, notices_after};
 pub use notice_text::notice;
+pub use notices_due::{News, notices_after};

@@ -5,7 +5,7 @@ ghost use Rattle.pod_feed.specs.Feeds.{wire_view_of};
 ghost use Rattle.pod_feed.specs.Turns.{EndsAtWire, IsPolled, IsTold, SendsTexts, polled_so};
 
 use crate::feed_end::FeedEnd;
-use crate::report::Report;
+use crate::version_report::Report;
 use pod_base::Text;
 use pod_io::{Polled, Wire, WireFault};
 

@@ -2,9 +2,9 @@
 use Rattle.std.proofs.Common.{◌≡◌, ℕ, ◌+◌, ◌^◌, ◌<◌, List, ◌++◌, length, length-append, Option, Some, None, refl, sym, ap, ◌∙◌, arith}
 use Rattle.std.specs.Prelude.{IfSome}
 use Rattle.std.specs.Option.{option_map}
-use Rattle.pod_command.specs.Readers.{piece_at}
-use Rattle.pod_command.specs.StoredForms.{number_bytes, text_bytes}
-use Rattle.pod_command.proofs.ReadLaws.{IsBytes, piece_reads}
+use Rattle.stored_forms.specs.Readers.{piece_at}
+use Rattle.stored_forms.specs.StoredForms.{number_bytes, text_bytes}
+use Rattle.stored_forms.proofs.ReadLaws.{IsBytes, piece_reads}
 use Rattle.pod_follow.specs.Frames.{HasNoFrame, frame_of}
 
 text_frame : (body : List ℕ) → text_bytes body ≡ frame_of body

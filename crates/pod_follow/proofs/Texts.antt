@@ -1,8 +1,8 @@
 -- The entry and the snapshot of a text.
 use Rattle.std.proofs.Common.{◌≡◌, ◌≤◌, ◌^◌, ◌⊎◌, inl, inr, ℕ, ◌==◌, if◌then◌else◌, Bool, true, false, List, Result, Ok, Err, IfOk, refl, sym, ap, ◌∙◌, subst, rules, arith}
 use Rattle.pod_command.specs.Bare.{bare_snapshot}
-use Rattle.pod_command.specs.Storable.{IsStorableSnapshot}
-use Rattle.pod_command.specs.StoredForms.{entry_bytes, entry_1_bytes, snapshot_bytes}
+use Rattle.stored_forms.specs.Storable.{IsStorableSnapshot}
+use Rattle.stored_forms.specs.StoredForms.{entry_bytes, entry_1_bytes, snapshot_bytes}
 use Rattle.pod_command.specs.declared.entry.Entry.{Entry}
 use Rattle.pod_command.specs.declared.snapshot.Snapshot.{Snapshot}
 use Rattle.pod_records.specs.Readings.{IsEntryOf, IsEntryRead, IsSnapshotOf}

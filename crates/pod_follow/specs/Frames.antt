@@ -1,7 +1,7 @@
 -- Frames, in which records are sent one after the other.
 use Rattle.std.specs.Prelude.{◌≡◌, ℕ, List, ◌++◌, length}
 use Rattle.std.specs.List.{flat_map}
-use Rattle.pod_command.specs.StoredForms.{number_bytes}
+use Rattle.stored_forms.specs.StoredForms.{number_bytes}
 
 -- the length of a body, a number of eight bytes with the greatest first, and the body
 abbrev pub frame_of : List ℕ → List ℕ

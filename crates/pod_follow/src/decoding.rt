@@ -5,8 +5,8 @@ ghost use Rattle.pod_follow.specs.Followed.{IsEntryText, IsTheEntry};
 
 use pod_base::Mem;
 use pod_command::Entry;
-use pod_command::laws::one_form;
 use std::alloc::Global;
+use stored_forms::laws::one_form;
 
 /// The entry of a text in either format; none where it is the text of none.
 pub(crate) fn read_entry(alloc: Global, text: &[u8]) -> Mem<Option<Entry>>

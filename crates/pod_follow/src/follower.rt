@@ -13,13 +13,14 @@ ghost use Rattle.token_table.specs.Credentials.{asked_view};
 
 use crate::decoding::read_entry;
 use pod_base::{Bytes, Mem, Moment, NoMemory, Request, Response, Stamp};
-use pod_command::{Entry, ReadBack, Snapshot, decode_snapshot, encode_snapshot};
+use pod_command::{Entry, Snapshot};
 use pod_core::{Replied, answer};
 use pod_pages::Version;
 use pod_records::fits;
 use pod_rows::{PodState, StateFault, snapshot};
 use std::alloc::Global;
 use std::marker::Model;
+use stored_forms::{ReadBack, decode_snapshot, encode_snapshot};
 use thiserror::Error;
 use token_table::Asked;
 

@@ -1,12 +1,12 @@
 //! Frames: a length and a body.
 ghost use Rattle.std.specs.Prelude.{◌≡◌, ◌++◌, IfSome, None};
 ghost use Rattle.std.specs.Option.{option_map};
-ghost use Rattle.pod_command.specs.Readers.{number_at, piece_at};
-ghost use Rattle.pod_command.specs.StoredForms.{number_bytes};
+ghost use Rattle.stored_forms.specs.Readers.{number_at, piece_at};
+ghost use Rattle.stored_forms.specs.StoredForms.{number_bytes};
 ghost use Rattle.pod_follow.specs.Frames.{HasNoFrame, frame_of};
 
 /// The length of a body, as its frame begins: eight bytes, the greatest first.
-#[tactic(auto, unfolding(pod_command::specs::StoredForms::number_bytes))]
+#[tactic(auto, unfolding(stored_forms::specs::StoredForms::number_bytes))]
 pub fn frame_head(len: u64) -> [u8; 8]
     ensures { result ≡ number_bytes len }
 {
@@ -15,7 +15,7 @@ pub fn frame_head(len: u64) -> [u8; 8]
 
 /// A number with which bytes begin, and what follows it; none where there are fewer than eight
 /// bytes.
-#[tactic(auto, unfolding(pod_command::specs::Readers::number_at))]
+#[tactic(auto, unfolding(stored_forms::specs::Readers::number_at))]
 pub fn split_number(bytes: &[u8]) -> Option<(u64, &[u8])>
     ensures { option_map (λ r. (r.0, r.1.now)) result ≡ number_at bytes.entry.now }
 {
@@ -28,7 +28,7 @@ pub fn split_number(bytes: &[u8]) -> Option<(u64, &[u8])>
 }
 
 /// So many bytes after their number, and what follows them; none where they aren't all there.
-#[tactic(auto, unfolding(pod_command::specs::Readers::piece_at))]
+#[tactic(auto, unfolding(stored_forms::specs::Readers::piece_at))]
 pub fn split_piece(bytes: &[u8]) -> Option<(&[u8], &[u8])>
     ensures { option_map (λ r. (r.0.now, r.1.now)) result ≡ piece_at bytes.entry.now }
 {

@@ -12,8 +12,8 @@ use Rattle.journal_pair.specs.Writes.{Writes, Moves, IsLeftBefore, IsLeftByWrite
 use Rattle.journal_pair.proofs.TogetherRuns.{together_weaker}
 use Rattle.journal_pair.specs.PairMoments.{ThroughOpenings}
 use Rattle.journal_pair.proofs.Reopening.{openings_weaker}
-use Rattle.pod_command.specs.Storable.{IsStorable}
-use Rattle.pod_command.specs.StoredForms.{entry_bytes}
+use Rattle.stored_forms.specs.Storable.{IsStorable}
+use Rattle.stored_forms.specs.StoredForms.{entry_bytes}
 use Rattle.pod_command.specs.declared.entry.Entry.{Entry}
 use Rattle.pod_core.specs.History.{History, end_of, longer}
 use Rattle.pod_core.proofs.Histories.{pod_at_end, replayed_next}

@@ -10,8 +10,8 @@ use Rattle.journal_pair.specs.Writes.{Writes}
 use Rattle.journal_pair.specs.PairMoments.{ThroughOpenings}
 use Rattle.pod_base.specs.Counts.{CountIncreased}
 use Rattle.pod_command.specs.Bare.{bare_entry}
-use Rattle.pod_command.specs.Storable.{IsStorable}
-use Rattle.pod_command.specs.StoredForms.{entry_bytes, origin_bytes, request_bytes}
+use Rattle.stored_forms.specs.Storable.{IsStorable}
+use Rattle.stored_forms.specs.StoredForms.{entry_bytes, origin_bytes, request_bytes}
 use Rattle.pod_command.specs.declared.entry.Entry.{Entry}
 use Rattle.pod_core.specs.History.{History, longer}
 use Rattle.pod_keeper.specs.Commits.{IsGrown, IsLeftFaulted, LeavesPodsOf}

@@ -7,7 +7,7 @@ use Rattle.pod_command.specs.declared.entry.Entry.{Entry}
 use Rattle.pod_core.specs.History.{History, longer}
 use Rattle.pod_core.specs.KeeperSteps.{Holder, Phase, KeeperView, KeeperEvent, KeeperRun, TakesChange, IsReplyAtEnd, item_at_end, held_by, free, taken, written, opened, take, repair, body, gate}
 use Rattle.pod_keeper.specs.Commits.{FollowsReply, IsCommitted, IsCommitFaulted, IsLeftInDoubt}
-use Rattle.pod_keeper.specs.CommitEvents.{entry_in_doubt, view_of, StandsForView, events_done, events_failed, repairs, at_repair, at_body, at_gate, IsDoneByEvents, IsFailedByEvents}
+use Rattle.pod_keeper.specs.CommitEvents.{entry_in_doubt, view_of, StandsForView, events_done, events_failed, repair_events, at_repair, at_body, at_gate, IsDoneByEvents, IsFailedByEvents}
 use Rattle.pod_keeper.specs.Kept.{Doubt, certain, entered, checkpointed, IsKept}
 use Rattle.pod_keeper.specs.KeeperState.{KeeperState}
 use Rattle.pod_reply.specs.Replies.{Reply}
@@ -74,7 +74,7 @@ module _ (history : History) (request : Request) (asked : AskedAgent) (stamp : S
       )
 
       -- the repair, where an entry is in doubt, and what follows it
-      repaired : (d : Doubt) (events : List KeeperEvent) (after : KeeperView) → KeeperRun (seen history None (taken holder)) events after → KeeperRun (seen history (entry_in_doubt d) (taken holder)) (repairs d ++ events) after
+      repaired : (d : Doubt) (events : List KeeperEvent) (after : KeeperView) → KeeperRun (seen history None (taken holder)) events after → KeeperRun (seen history (entry_in_doubt d) (taken holder)) (repair_events d ++ events) after
       repaired certain events after run = run
       repaired (entered other) events after run = (
         seen history None (taken holder),

@@ -5,7 +5,7 @@ use Rattle.journal_log.specs.declared.fault.Side.{Side}
 use Rattle.journal_log.specs.declared.fault.Side.TheVariants.{First}
 use Rattle.journal_pair.specs.PairState.{PairState}
 use Rattle.journal_pair.specs.Stores.{StoreStands}
-use Rattle.first_rows.specs.FirstPods.{first_pod, FirstPodsAreWellFormed}
+use Rattle.pod_rows.specs.FirstPods.{first_pod, FirstPodsAreWellFormed}
 use Rattle.pod_base.specs.declared.moment.Moment.{Moment}
 use Rattle.pod_command.specs.declared.snapshot.Snapshot.{Snapshot}
 use Rattle.pod_keeper.specs.CrashedPods.{StandsFor}

@@ -17,7 +17,7 @@ use Rattle.pod_keeper.specs.Stored.{history_of}
 use Rattle.pod_keeper.proofs.Places.{held_history, held_from_start}
 use Rattle.pod_pages.specs.State.{VersionState}
 use Rattle.pod_records.proofs.ReadSteps.{read_pod, read_number}
-use Rattle.pod_records.specs.Readings.{IsReadTo}
+use Rattle.pod_records.specs.Readings.{AreRecordsRead}
 
 -- a result whose value is this one
 pub if_ok_is : {T E X : Type 0} (r : Result T E) (of : T → X) (x : X) (P : X → Type 0) → IfOk r (λ t. of t ≡ x) → P x → IfOk r (λ t. P (of t))
@@ -28,7 +28,7 @@ module _ {D : Type 0} (image : D → List ℕ → Type 0) (first second : D) (pa
   abbrev pub keeper_at : KeeperState D
   keeper_at = record { first = first; second = second; pair = pair; pod = version.pod; next = version.next; effects = version.effects; oldest = version.oldest; last = last }
 
-  pub is_opened : (content content_2 : Option (List ℕ)) (bodies : List (List ℕ)) → IsReadTo pair.journal.format bodies version last → IsPairClean image first second pair bodies
+  pub is_opened : (content content_2 : Option (List ℕ)) (bodies : List (List ℕ)) → AreRecordsRead pair.journal.format bodies version last → IsPairClean image first second pair bodies
       → IfBothVisible content content_2 (StoreStands pair.active pair.journal.format pair.journal.epoch bodies) → IsOpened image content content_2 bodies keeper_at
   is_opened content content_2 bodies read clean stands =
       let history = history_of read.snapshot read.entries in record {

@@ -35,16 +35,16 @@ pub record StandsForView {D : Type 0} (image : D → List ℕ → Type 0) (keepe
 -- ---- the events of a commit
 
 -- the repair of an entry in doubt
-abbrev pub repairs : Doubt → List KeeperEvent
-repairs certain = []
-repairs (entered entry) = repair true ∷ []
-repairs checkpointed = []
+abbrev pub repair_events : Doubt → List KeeperEvent
+repair_events certain = []
+repair_events (entered entry) = repair true ∷ []
+repair_events checkpointed = []
 
 -- Of one that succeeded: the change is taken, and where its reply has an entry, an entry in doubt
 -- is repaired, the record is written, and its gate is opened.
 abbrev pub events_done : Doubt → KeeperEvent → Option Entry → List KeeperEvent
 events_done doubt taking None = taking ∷ []
-events_done doubt taking (Some entry) = taking ∷ (repairs doubt ++ (body true ∷ gate true ∷ []))
+events_done doubt taking (Some entry) = taking ∷ (repair_events doubt ++ (body true ∷ gate true ∷ []))
 
 -- The step at which a disk failed. The body has the checkpoint that is made before it, and the
 -- closing of a gate of a checkpoint in doubt.
@@ -56,8 +56,8 @@ pub data FailedStep : Type 0 where
 -- Of one that failed there.
 abbrev pub events_failed : Doubt → KeeperEvent → FailedStep → List KeeperEvent
 events_failed doubt taking at_repair = taking ∷ repair false ∷ []
-events_failed doubt taking at_body = taking ∷ (repairs doubt ++ (body false ∷ []))
-events_failed doubt taking at_gate = taking ∷ (repairs doubt ++ (body true ∷ gate false ∷ []))
+events_failed doubt taking at_body = taking ∷ (repair_events doubt ++ (body false ∷ []))
+events_failed doubt taking at_gate = taking ∷ (repair_events doubt ++ (body true ∷ gate false ∷ []))
 
 module _ {D : Type 0} (image : D → List ℕ → Type 0) (new : KeeperState D) (history : History)
     (doubt : Doubt) (request : Request) (asked : AskedAgent) (stamp : Stamp) where

@@ -1,6 +1,6 @@
 -- A new store, and its history.
 use Rattle.std.specs.Prelude.{ℕ, List, [], ◌∷◌}
-use Rattle.first_rows.specs.FirstPods.{first_pod}
+use Rattle.pod_rows.specs.FirstPods.{first_pod}
 use Rattle.journal_log.specs.Heads.{IsClosedHead}
 use Rattle.journal_log.specs.declared.fault.Side.TheVariants.{First}
 use Rattle.journal_pair.specs.Stores.{StoreStands}

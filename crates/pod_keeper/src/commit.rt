@@ -114,7 +114,7 @@ impl<D: Disk> Keeper<D> {
         ensures counted { OnErr result (IncreasesFaults D.faults self.old self.new) }
     {
         match next {
-            Some(planned) => match self.carry(planned) {
+            Some(planned) => match self.write_planned(planned) {
                 Ok(_entry) => Ok(()),
                 Err(DiskFault) => Err(DiskFault),
             },

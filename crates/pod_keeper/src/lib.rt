@@ -8,7 +8,7 @@
 //! ```
 //!
 //! A commit is two calls, for callers that do something between them: [`Keeper::plan`] answers the
-//! change and takes all memory, and [`Keeper::carry`] writes the planned entry and takes none.
+//! change and takes all memory, and [`Keeper::write_planned`] writes the planned entry and takes none.
 //!
 //! `specs/Kept.antt` defines which histories a keeper represents (`IsKept`), `specs/Commits.antt`
 //! what its calls do to them, and `specs/Plans.antt` what is planned. Proved, for every disk: a
@@ -33,7 +33,6 @@
 //! inside a call.
 #![tactic(auto)]
 
-mod carry;
 mod checkpoint;
 mod commit;
 mod crash_openings;
@@ -43,6 +42,7 @@ mod laws;
 mod new_store;
 mod opening;
 mod plan;
+mod planned_write;
 
 pub use crash_openings::{openings_give_what_stands, opens_after, opens_after_a_crash};
 pub use fault::{CommitFault, Done, NotOpened};

@@ -7,19 +7,19 @@ ghost use Rattle.pod_base.specs.Counts.{CountIncreased};
 ghost use Rattle.pod_io.specs.Visible.{IfVisible};
 ghost use Rattle.pod_keeper.specs.CrashedPods.{StandsFor};
 ghost use Rattle.pod_keeper.specs.NewStores.{new_history, IsNewStore};
-ghost use Rattle.first_rows.specs.FirstPods.{first_pod};
+ghost use Rattle.pod_rows.specs.FirstPods.{first_pod};
 ghost use Rattle.pod_records.specs.Records.{IsSnapshotText};
 ghost use Rattle.pod_rows.specs.Base.{is_base};
 
 use crate::fault::CommitFault;
 use crate::keeper::Keeper;
-use first_rows::{first_pods_are_well_formed, first_snapshot};
 use iri_ref::Iri;
 use journal_log::{DiskFault, Framed};
 use journal_pair::Pair;
 use pod_base::{Mem, Moment, NoMemory, Text};
 use pod_disk::{Disk, Disks};
 use pod_records::record_of;
+use pod_rows::{first_pods_are_well_formed, first_snapshot};
 use std::alloc::Global;
 
 /// The IRI that a text is.

@@ -5,8 +5,8 @@ ghost use Rattle.std.specs.Arc.{arc_value};
 ghost use Rattle.std.specs.Option.{option_map};
 ghost use Rattle.pod_command.specs.Bare.{bare_entry};
 ghost use Rattle.pod_command.specs.Encodable.{IsEncodable};
-ghost use Rattle.pod_command.specs.Storable.{IsStorable};
-ghost use Rattle.pod_command.specs.StoredForms.{entry_bytes};
+ghost use Rattle.stored_forms.specs.Storable.{IsStorable};
+ghost use Rattle.stored_forms.specs.StoredForms.{entry_bytes};
 ghost use Rattle.pod_keeper.specs.Commits.{later};
 ghost use Rattle.pod_keeper.specs.KeeperState.{IsCheckpointDue};
 ghost use Rattle.pod_keeper.specs.Plans.{planned_entry, IsPlan, IsPlannedAt};
@@ -131,7 +131,7 @@ fn prepare(alloc: Global, pair: &Pair, version: &Version, entry: &Entry) -> Mem<
 
 impl<D: Disk> Keeper<D> {
     /// Answers a change at the current version, with the greater of the stamp's moment and the last
-    /// entry's, and makes all that its commit writes and keeps. [`carry`](Keeper::carry) then takes
+    /// entry's, and makes all that its commit writes and keeps. [`write_planned`](Keeper::write_planned) then takes
     /// no memory.
     pub fn plan(
         &self,
@@ -144,7 +144,7 @@ impl<D: Disk> Keeper<D> {
             stamp plan) }
     {
         let stamp = stamp_after(stamp, self.last);
-        let replied = self.ask(alloc, request, asked, stamp)?;
+        let replied = self.reply_at_end(alloc, request, asked, stamp)?;
         let Replied { response, entry } = replied;
         let place = self.seq();
         let next = self.plan_entry(alloc, entry)?;
@@ -156,7 +156,13 @@ impl<D: Disk> Keeper<D> {
     }
 
     /// The reply to a change at the current version.
-    fn ask(&self, alloc: Global, request: &Request, asked: &Asked<'_>, stamp: Stamp) -> Mem<Replied>
+    fn reply_at_end(
+        &self,
+        alloc: Global,
+        request: &Request,
+        asked: &Asked<'_>,
+        stamp: Stamp,
+    ) -> Mem<Replied>
         ensures reply { IfOk result (λ replied. IsReply self.now.pod request.now
             (asked_view asked.now) self.now.next stamp (reply_of replied)) }
         ensures applies { IfOk result (λ replied. IfSome replied.entry

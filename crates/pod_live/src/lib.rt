@@ -30,16 +30,16 @@
 
 mod laws;
 mod live;
-mod locked;
-mod names;
-mod read;
+mod locked_store;
+mod published_version;
+mod read_answers;
 mod session;
-mod shown;
+mod store_names;
 
 pub use laws::moments_are_of_changes;
 pub use live::{Live, NotLive, Rounds};
-pub use names::{Changes, Faults, KeeperName, Names, StoreName};
 pub use pod_keeper::{CommitFault, Done, Keeper, NotOpened, Version};
-pub use read::{PlacedResponse, answer_read};
+pub use published_version::{CommittedEntry, PodTold, Shown};
+pub use read_answers::{PlacedResponse, answer_read};
 pub use session::{Seat, Session};
-pub use shown::{CommittedEntry, PodTold, Shown};
+pub use store_names::{Changes, Faults, KeeperName, Names, StoreName};

@@ -19,11 +19,11 @@ ghost use Rattle.pod_live.specs.Stores.{Covers, IsSafe, KeptSome};
 ghost use Rattle.pod_live.specs.Takes.{TakenItem, Took, TookChanges};
 ghost use Rattle.pod_live.specs.Visits.{Changed, FaultedAt, IsFaulted, IsNewVisit, Meets};
 
-use crate::locked::Locked;
-use crate::names::{Changes, Faults, KeeperName, Names, StoreName};
-use crate::read::PlacedResponse;
+use crate::locked_store::Locked;
+use crate::published_version::{CommittedEntry, PodTold, Shown};
+use crate::read_answers::PlacedResponse;
 use crate::session::{Seat, Session};
-use crate::shown::{CommittedEntry, PodTold, Shown};
+use crate::store_names::{Changes, Faults, KeeperName, Names, StoreName};
 use pod_base::{List, Mem, NoMemory, Request, Response, Stamp};
 use pod_disk::Disk;
 use pod_keeper::{CommitFault, Keeper, Version};

@@ -6,8 +6,8 @@ ghost use Rattle.pod_pages.specs.State.{states_after};
 ghost use Rattle.published_view.specs.LookerState.{IsNewLooker, NotNoPlace, OnNoPlace};
 ghost use Rattle.pod_live.specs.Visits.{IsNewVisit, IsTurnedAway, Looked, Meets};
 
-use crate::names::{Changes, Faults, StoreName};
-use crate::shown::{CommittedEntry, Shown};
+use crate::published_version::{CommittedEntry, Shown};
+use crate::store_names::{Changes, Faults, StoreName};
 use iri_ref::Iri;
 use pod_pages::Version;
 use published_view::{Front, Looker, ViewFault, ViewName};

@@ -17,8 +17,8 @@ use Rattle.row_pages.specs.Items.{Placed, item_at, rows_of}
 use Rattle.pod_pages.specs.Lists.{list_at}
 use Rattle.pod_pages.specs.Marks.{how_of, mark, mark_by, own_if, own_of, own_number, first_number, text_mark, path_mark}
 use Rattle.pod_pages.specs.Numbering.{ArePlain, is_freed, AreMarked, AreNumbered, AreReady, AreResolved, HaveMarks, IsGoverned, IsListOf, IsMarked, IsTree, Places, changed_of, is_below, list_rules}
-use Rattle.pod_pages.specs.declared.lists.AccessList.{AccessList}
-use Rattle.pod_pages.specs.declared.numbers.Mark.{Mark}
+use Rattle.pod_pages.specs.declared.list_table.AccessList.{AccessList}
+use Rattle.pod_pages.specs.declared.row_marks.Mark.{Mark}
 use Rattle.pod_pages.proofs.Placing.{found_is}
 use Rattle.pod_pages.proofs.Freeing.{ready}
 use Rattle.pod_pages.proofs.Marking.{none_done}

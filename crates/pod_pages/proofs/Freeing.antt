@@ -17,7 +17,7 @@ use Rattle.row_pages.specs.Items.{Placed, rows_of}
 use Rattle.pod_pages.specs.Lists.{list_at}
 use Rattle.pod_pages.specs.Marks.{own_number}
 use Rattle.pod_pages.specs.Numbering.{AreNumbered, AreReady, ArePlain, IsListOf, Places, frees, is_freed, is_number}
-use Rattle.pod_pages.specs.declared.lists.AccessList.{AccessList}
+use Rattle.pod_pages.specs.declared.list_table.AccessList.{AccessList}
 
 -- ---- one more subject
 

@@ -15,7 +15,7 @@ use Rattle.row_pages.specs.Items.{Placed, AreItemsInOrder, item_at, put_item, ro
 use Rattle.pod_pages.specs.Lists.{list_at}
 use Rattle.pod_pages.specs.Marks.{own_if, own_of, own_number}
 use Rattle.pod_pages.specs.Numbering.{AreNumbered, IsListOf, IsNumberFor, IsTree, Places, list_rules}
-use Rattle.pod_pages.specs.declared.lists.AccessList.{AccessList}
+use Rattle.pod_pages.specs.declared.list_table.AccessList.{AccessList}
 use Rattle.pod_pages.proofs.Found.{put_found, found_path}
 use Rattle.pod_pages.proofs.Placing.{row_of, found_rows, found_is, rows_put, rows_order, put_same}
 

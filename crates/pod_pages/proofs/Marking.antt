@@ -9,7 +9,7 @@ use Rattle.pod_rows.specs.Pod.{is_row}
 use Rattle.row_pages.specs.Items.{Placed, AreItemsInOrder, item_at, items_below, put_item, rows_of}
 use Rattle.pod_pages.specs.Marks.{mark, path_mark, with_mark}
 use Rattle.pod_pages.specs.Numbering.{AreMarked, HaveMarks, IsMarked, is_below}
-use Rattle.pod_pages.specs.declared.numbers.Mark.{Mark}
+use Rattle.pod_pages.specs.declared.row_marks.Mark.{Mark}
 use Rattle.pod_pages.proofs.Found.{find_kept, found_path}
 use Rattle.pod_pages.proofs.Listing.{path_of, remarked, remarked_beside, remarked_found, remarked_rows}
 use Rattle.pod_pages.proofs.Placing.{found_is, put_again}

@@ -30,9 +30,9 @@ use Rattle.pod_pages.specs.Placings.{IsEditPlacing, IsPlacing, mark_found, row_i
 use Rattle.pod_pages.specs.State.{VersionState, state_after, with_effects}
 use Rattle.pod_pages.specs.Versions.{IsVersion, path_of_edit, state_of}
 use Rattle.pod_pages.specs.declared.effects.Effect.{Effect}
-use Rattle.pod_pages.specs.declared.lists.AccessList.{AccessList}
-use Rattle.pod_pages.specs.declared.numbers.Mark.{Mark}
-use Rattle.pod_pages.specs.declared.one_row.Placing.{Placing}
+use Rattle.pod_pages.specs.declared.list_table.AccessList.{AccessList}
+use Rattle.pod_pages.specs.declared.row_marks.Mark.{Mark}
+use Rattle.pod_pages.specs.declared.single_put.Placing.{Placing}
 use Rattle.pod_pages.proofs.Found.{put_found}
 use Rattle.pod_pages.proofs.Listing.{path_of}
 use Rattle.pod_pages.proofs.Placing.{found_is, found_rows, row_of, rows_put}

@@ -17,9 +17,9 @@ use Rattle.row_pages.specs.Items.{Placed, item_at, rows_of}
 use Rattle.pod_pages.specs.Edited.{AreMarkedBy, placed_by, list_if, own_mark_if}
 use Rattle.pod_pages.specs.Lists.{list_at}
 use Rattle.pod_pages.specs.Marks.{how_of, own_if, own_of, own_number}
-use Rattle.pod_pages.specs.Numbering.{AreReady, AreResolved, IsKept, IsTree, Places, changed_of, differ, is_changed}
+use Rattle.pod_pages.specs.Numbering.{AreReady, AreResolved, HasRightMark, IsTree, Places, changed_of, differ, is_changed}
 use Rattle.pod_pages.specs.Versions.{unmarked}
-use Rattle.pod_pages.specs.declared.lists.AccessList.{AccessList}
+use Rattle.pod_pages.specs.declared.list_table.AccessList.{AccessList}
 use Rattle.pod_pages.proofs.Placing.{found_is, marked_found}
 use Rattle.pod_pages.proofs.Resolution.{governing_has, resolved_has, resolved_lists, some_is, none_is}
 use Rattle.pod_pages.proofs.Trees.{row_path}
@@ -127,7 +127,7 @@ ready_after base old places first touched before r tree m beside = record {
         by_row true h = sym (same_number old first q m h) ∙ e
         by_row false h = let none : None ≡ Some k = sym (no_item first q h) ∙ e in absurd cc
 
-    by_kept : (p : List ℕ) (i : Placed) → item_at first p ≡ Some i → is_listed touched p ≡ false → is_reached (changed_of (rows_of old) (rows_of first) (list_subjects touched)) p ≡ false → IsKept first p i
+    by_kept : (p : List ℕ) (i : Placed) → item_at first p ≡ Some i → is_listed touched p ≡ false → is_reached (changed_of (rows_of old) (rows_of first) (list_subjects touched)) p ≡ false → HasRightMark first p i
     by_kept p i e untouched reach =
         let k = marked_at old first p m (sym (found_is first p) ∙ ap is_some e) in
         let is : Some (placed_by old k.row) ≡ Some i = sym k.item ∙ e in

@@ -14,7 +14,7 @@ use Rattle.access_index.proofs.Governance.{about_path, container_plain, no_subje
 use Rattle.row_pages.specs.Items.{Placed, item_at, rows_of}
 use Rattle.pod_pages.specs.Marks.{how_of, mark, mark_by, own_if, own_of, own_number, or_number, first_number, path_mark, container_number}
 use Rattle.pod_pages.specs.Numbering.{IsTree, IsListOf, IsGoverned, AreResolved}
-use Rattle.pod_pages.specs.declared.lists.AccessList.{AccessList}
+use Rattle.pod_pages.specs.declared.list_table.AccessList.{AccessList}
 use Rattle.pod_pages.proofs.Placing.{found_is}
 
 -- a path that is no access list and no description

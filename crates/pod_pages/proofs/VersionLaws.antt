@@ -31,8 +31,8 @@ use Rattle.pod_pages.specs.Numbering.{AreReady, AreResolved, IsTree, Places, lis
 use Rattle.pod_pages.specs.State.{VersionState, first_state, state_after}
 use Rattle.pod_pages.specs.Versions.{IsVersion, state_of, path_of_edit, unmarked}
 use Rattle.pod_pages.specs.declared.effects.Effect.{Effect}
-use Rattle.pod_pages.specs.declared.lists.AccessList.{AccessList}
-use Rattle.pod_pages.specs.declared.numbers.Mark.{Mark}
+use Rattle.pod_pages.specs.declared.list_table.AccessList.{AccessList}
+use Rattle.pod_pages.specs.declared.row_marks.Mark.{Mark}
 use Rattle.pod_pages.proofs.Children.{one_child}
 use Rattle.pod_pages.proofs.EditSteps.{beside_edits, kept_all}
 use Rattle.pod_pages.proofs.Placing.{map_filter, row_of}

@@ -15,7 +15,7 @@ use Rattle.row_pages.specs.Items.{Placed, AreItemsInOrder, item_at, items_below,
 use Rattle.row_pages.proofs.Ordered.{order_cons, order_first, order_nil, order_rest}
 use Rattle.pod_pages.specs.Marks.{first_number, mark, mark_by, marked_by, number_within, own_number, own_of, path_mark, text_above, text_mark, with_mark}
 use Rattle.pod_pages.specs.Numbering.{AreMarked, HaveMarks, IsMarked}
-use Rattle.pod_pages.specs.declared.numbers.Mark.{Mark}
+use Rattle.pod_pages.specs.declared.row_marks.Mark.{Mark}
 use Rattle.pod_pages.proofs.Found.{found_path}
 use Rattle.pod_pages.proofs.Listing.{path_of}
 use Rattle.pod_pages.proofs.Placing.{found_is, self_found}

@@ -8,7 +8,7 @@ use Rattle.pod_path.specs.Hierarchy.{is_container, subject_of, without_last_slas
 use Rattle.pod_rows.specs.Access.{about}
 use Rattle.pod_rows.specs.Tree.{ancestors}
 use Rattle.row_pages.specs.Items.{Placed, item_at}
-use Rattle.pod_pages.specs.declared.numbers.Mark.{Mark}
+use Rattle.pod_pages.specs.declared.row_marks.Mark.{Mark}
 
 abbrev pub how_of : Bool → How
 how_of true = Own

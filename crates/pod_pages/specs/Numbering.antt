@@ -16,7 +16,7 @@ use Rattle.access_index.specs.Tables.{list_subjects}
 use Rattle.row_pages.specs.Items.{Placed, item_at, rows_of}
 use Rattle.pod_pages.specs.Lists.{list_at}
 use Rattle.pod_pages.specs.Marks.{how_of, mark, own_number, path_mark}
-use Rattle.pod_pages.specs.declared.lists.AccessList.{AccessList}
+use Rattle.pod_pages.specs.declared.list_table.AccessList.{AccessList}
 
 -- The rules of the access list of a path.
 abbrev pub list_rules : List ℕ → List Row → List ℕ → List Rule
@@ -140,7 +140,7 @@ HaveMarks numbers = (path : List ℕ) → is_row (rows_of numbers) path ≡ true
     → is_some (path_mark numbers path) ≡ true
 
 -- The item is marked with the number of the list that governs its path.
-pub record IsKept (first : List Placed) (path : List ℕ) (item : Placed) : Type 0 where
+pub record HasRightMark (first : List Placed) (path : List ℕ) (item : Placed) : Type 0 where
   pub at : List ℕ
   pub governs : effective_of (rows_of first) path ≡ Some (governed at (how_of item.own))
   pub number : own_number first at ≡ Some item.list
@@ -173,4 +173,4 @@ pub record AreReady (base : List ℕ) (old : List Placed) (places : Places) (fir
       → list.rules.list ≡ list_rules base (rows_of first) list.at
   pub kept : (path : List ℕ) (item : Placed) → item_at first path ≡ Some item
       → is_listed touched path ≡ false
-      → is_reached (changed_among old first touched) path ≡ false → IsKept first path item
+      → is_reached (changed_among old first touched) path ≡ false → HasRightMark first path item

@@ -10,8 +10,8 @@ use Rattle.pod_rows.specs.Pod.{row_at}
 use Rattle.row_pages.specs.Items.{Placed, item_at, rows_of}
 use Rattle.pod_pages.specs.Marks.{mark, path_mark}
 use Rattle.pod_pages.specs.Versions.{path_of_edit}
-use Rattle.pod_pages.specs.declared.numbers.Mark.{Mark}
-use Rattle.pod_pages.specs.declared.one_row.Placing.{Placing}
+use Rattle.pod_pages.specs.declared.row_marks.Mark.{Mark}
+use Rattle.pod_pages.specs.declared.single_put.Placing.{Placing}
 
 -- The row that an edit puts in place of this one, if it puts a row.
 abbrev pub row_made : Edit → Option Row → Option Row

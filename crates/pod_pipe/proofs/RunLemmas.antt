@@ -20,7 +20,7 @@ use Rattle.journal_log.specs.Refusals.{open_status}
 use Rattle.pod_pipe.specs.StoreRuns.{RunsKeeper, Streams}
 use Rattle.pod_pipe.specs.StoredPods.{LeavesKeeper, stored_faults}
 use Rattle.pod_pipe.specs.Tables.{IsAsked, TokenSource}
-use Rattle.pod_pipe.specs.declared.stored.StoredPod.{StoredPod}
+use Rattle.pod_pipe.specs.declared.stored_pod.StoredPod.{StoredPod}
 
 module _ {D : Type 0} (image : D → List ℕ → Type 0) (moment : D → ℕ) (left_since : D → ℕ → List ℕ → Type 0) (may_give : ℕ → Type 0) where
   -- a pod of a store, as a holder

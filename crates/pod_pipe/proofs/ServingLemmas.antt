@@ -25,7 +25,7 @@ use Rattle.pod_pipe.specs.Streams.{Reads, AtEnd, AddsReads, MeetsEnd, CountsInpu
 use Rattle.pod_pipe.specs.Served.{IsServed, IsStopped}
 use Rattle.pod_io.specs.Writing.{AddsOrPart, AddsPart, ExtendsBy}
 use Rattle.pod_io.proofs.Extending.{extends_more, nothing_added}
-use Rattle.pod_pipe.specs.Statuses.{HearsFirst, IsDone, IsHeard, IsWritten, Pipes, ComesOf, Tells, end_line}
+use Rattle.pod_pipe.specs.Statuses.{HearsFirst, IsDone, IsHeard, IsWritten, Pipes, ComesOf, ReportsEnd, end_line}
 use Rattle.pod_pipe.specs.declared.status.PipeEnd.{PipeEnd}
 use Rattle.pod_pipe.specs.declared.status.PipeEnd.TheVariants.{Peer, Cut, Closed, Limit, Upgraded, Bad, ReadFault, WriteFault, NoMemory, ReadLimit}
 use Rattle.pod_pipe.proofs.EndingsLemmas.{served_longer, served_stops}
@@ -359,11 +359,11 @@ line_since : (line : List ℕ) (old new : Option (List ℕ)) (first middle last 
 line_since line old new first middle last le (inl whole) = inl whole
 line_since line old new first middle last le (inr part) = inr (part_since line old new first middle last le part)
 
-fault_since : (old new : Option (List ℕ)) (first middle last : ℕ) → first ≤ middle → Tells WriteFault old new middle last → Tells WriteFault old new first last
+fault_since : (old new : Option (List ℕ)) (first middle last : ℕ) → first ≤ middle → ReportsEnd WriteFault old new middle last → ReportsEnd WriteFault old new first last
 fault_since old new first middle last le (inl same) = inl same
 fault_since old new first middle last le (inr part) = inr (part.0, part.1, part_since (end_line part.0) old new first middle last le part.2)
 
-pub tells_since : (end : PipeEnd) (old new : Option (List ℕ)) (first middle last : ℕ) → first ≤ middle → Tells end old new middle last → Tells end old new first last
+pub tells_since : (end : PipeEnd) (old new : Option (List ℕ)) (first middle last : ℕ) → first ≤ middle → ReportsEnd end old new middle last → ReportsEnd end old new first last
 tells_since Peer old new first middle last le t = t
 tells_since Closed old new first middle last le t = t
 tells_since Limit old new first middle last le t = t

@@ -4,9 +4,9 @@ use Rattle.pod_pipe.specs.Streams.{Reads}
 use Rattle.conn_talk.specs.declared.agents.Agents.TheVariants.{Owner, Table}
 use Rattle.token_table.specs.TableLines.{lines_of}
 use Rattle.token_table.specs.declared.table_line.TokenEntry.{TokenEntry}
-use Rattle.pod_pipe.specs.Tables.{HasAgentsCause, HasTableCause, IsAsked, IsFaultOf, IsReadToEnd, IsTable, IsUnread, TokenSource}
-use Rattle.pod_pipe.specs.declared.tokens.TableFault.{TableFault}
-use Rattle.pod_pipe.specs.declared.tokens.TableFault.TheVariants.{Line, NoMemory, ReadFault, ReadLimit}
+use Rattle.pod_pipe.specs.Tables.{HasAgentsCause, HasTableCause, IsAsked, IsFaultOf, IsTableRead, IsTable, IsUnread, TokenSource}
+use Rattle.pod_pipe.specs.declared.token_file.TableFault.{TableFault}
+use Rattle.pod_pipe.specs.declared.token_file.TableFault.TheVariants.{Line, NoMemory, ReadFault, ReadLimit}
 
 -- before any read
 pub nothing_read : (rest : Option (List ℕ)) → Reads [] rest rest
@@ -14,7 +14,7 @@ nothing_read None = refl
 nothing_read (Some bytes) = refl
 
 -- a fault of the text that was read
-pub cause_of : (fault : TableFault) (text : List ℕ) (source : TokenSource) → IsReadToEnd text source → IsFaultOf fault (lines_of text) → HasTableCause fault source
+pub cause_of : (fault : TableFault) (text : List ℕ) (source : TokenSource) → IsTableRead text source → IsFaultOf fault (lines_of text) → HasTableCause fault source
 cause_of (Line number) text source read first = (text, read, first)
 cause_of NoMemory text source read first = inr read.once
 cause_of ReadFault text source read first = absurd first

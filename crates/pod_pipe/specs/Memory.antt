@@ -5,7 +5,7 @@ use Rattle.pod_core.specs.History.{History, IsHistory, end_of, moment_before, po
 use Rattle.pod_core.specs.Session.{Item}
 use Rattle.pod_rows.specs.Pod.{Pod}
 use Rattle.pod_pipe.specs.Holders.{DiskFaults, Faults}
-use Rattle.pod_pipe.specs.declared.memory.MemoryPod.{MemoryPod}
+use Rattle.pod_pipe.specs.declared.memory_pod.MemoryPod.{MemoryPod}
 
 -- The pod is the one at the end of the history, with the number of the next entry and the moment of
 -- the last one, 0 where there is none.

@@ -119,18 +119,18 @@ end_line _ = []
 -- What the error sink has after the trail: the line of the end, or a part of it where its count
 -- increased. A line of status 0 that fails makes the end a write fault; another that fails changes
 -- nothing. After another write fault no line follows.
-abbrev pub Tells : PipeEnd → Option (List ℕ) → Option (List ℕ) → ℕ → ℕ → Type 0
-Tells Peer old new before after = ExtendsBy (end_line Peer) old new
-Tells Closed old new before after = ExtendsBy (end_line Closed) old new
-Tells Limit old new before after = ExtendsBy (end_line Limit) old new
-Tells Upgraded old new before after = ExtendsBy (end_line Upgraded) old new
-Tells (Cut rest) old new before after = AddsOrPart (end_line (Cut rest)) old new before after
-Tells (Bad status) old new before after = AddsOrPart (end_line (Bad status)) old new before after
-Tells WriteFault old new before after = (new ≡ old) ⊎ ((end : PipeEnd) × (status_of end ≡ 0)
+abbrev pub ReportsEnd : PipeEnd → Option (List ℕ) → Option (List ℕ) → ℕ → ℕ → Type 0
+ReportsEnd Peer old new before after = ExtendsBy (end_line Peer) old new
+ReportsEnd Closed old new before after = ExtendsBy (end_line Closed) old new
+ReportsEnd Limit old new before after = ExtendsBy (end_line Limit) old new
+ReportsEnd Upgraded old new before after = ExtendsBy (end_line Upgraded) old new
+ReportsEnd (Cut rest) old new before after = AddsOrPart (end_line (Cut rest)) old new before after
+ReportsEnd (Bad status) old new before after = AddsOrPart (end_line (Bad status)) old new before after
+ReportsEnd WriteFault old new before after = (new ≡ old) ⊎ ((end : PipeEnd) × (status_of end ≡ 0)
     × AddsPart (end_line end) old new before after)
-Tells NoMemory old new before after = new ≡ old
-Tells ReadFault old new before after = new ≡ old
-Tells ReadLimit old new before after = new ≡ old
+ReportsEnd NoMemory old new before after = new ≡ old
+ReportsEnd ReadFault old new before after = new ≡ old
+ReportsEnd ReadLimit old new before after = new ≡ old
 
 -- whether the end has a line
 abbrev pub IsTold : PipeEnd → Type 0
@@ -149,10 +149,10 @@ IsDone Upgraded = Unit {0}
 IsDone _ = ⊥
 
 -- internal: its line has a number
-abbrev pub HasNumber : PipeEnd → Type 0
-HasNumber (Cut rest) = Unit {0}
-HasNumber (Bad status) = Unit {0}
-HasNumber _ = ⊥
+abbrev pub LineHasNumber : PipeEnd → Type 0
+LineHasNumber (Cut rest) = Unit {0}
+LineHasNumber (Bad status) = Unit {0}
+LineHasNumber _ = ⊥
 
 -- How a connection ends that ended so: where the line of an end of status 0 can't be written, that
 -- is a write fault.
@@ -168,7 +168,7 @@ module _ (may_give : ℕ → Type 0) (asking : Request → AskedAgent) (trails :
     pub trailed : Option (List ℕ)
     pub pipes : Pipes may_give asking trails begun leaves end old_input new_input old_output
         new_output old_errors trailed
-    pub tells : Tells end trailed new_errors before after
+    pub tells : ReportsEnd end trailed new_errors before after
     pub over_all : (all : List Heard) (rest : ℕ) → Messages pipes.read all rest
         → (stops : IsStopped may_give asking trails begun leaves all pipes.written pipes.trail)
         × (stops.session ≡ written_session may_give asking trails begun leaves end pipes.heard

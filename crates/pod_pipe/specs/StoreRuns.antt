@@ -19,8 +19,8 @@ use Rattle.journal_log.specs.Refusals.{TellsRefusal, open_status}
 use Rattle.pod_pipe.specs.StoredPods.{LeavesKeeper}
 use Rattle.pod_pipe.specs.Tables.{HasAgentsCause, IsAsked, IsUnread, TokenSource, table_line}
 use Rattle.pod_pipe.specs.Tables.{table_status}
-use Rattle.pod_pipe.specs.declared.tokens.TableFault.{TableFault}
-use Rattle.pod_pipe.specs.declared.tokens.TableFault.TheVariants.{Line}
+use Rattle.pod_pipe.specs.declared.token_file.TableFault.{TableFault}
+use Rattle.pod_pipe.specs.declared.token_file.TableFault.TheVariants.{Line}
 
 -- the line of a faulty line of the token table; of another refusal there is none
 abbrev pub fault_line : TableFault → List ℕ

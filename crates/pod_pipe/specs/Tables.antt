@@ -8,9 +8,9 @@ use Rattle.conn_talk.specs.declared.agents.Agents.{Agents}
 use Rattle.conn_talk.specs.declared.agents.Agents.TheVariants.{Owner, Table}
 use Rattle.token_table.specs.TableLines.{AreSound, IsFirstFault, entries, lines_of}
 use Rattle.token_table.specs.declared.table_line.TokenEntry.{TokenEntry}
-use Rattle.pod_pipe.specs.declared.tokens.TableFault.{TableFault}
-use Rattle.pod_pipe.specs.declared.tokens.TableFault.TheVariants.{Line, NoMemory, ReadFault}
-use Rattle.pod_pipe.specs.declared.tokens.TableFault.TheVariants.{ReadLimit}
+use Rattle.pod_pipe.specs.declared.token_file.TableFault.{TableFault}
+use Rattle.pod_pipe.specs.declared.token_file.TableFault.TheVariants.{Line, NoMemory, ReadFault}
+use Rattle.pod_pipe.specs.declared.token_file.TableFault.TheVariants.{ReadLimit}
 
 -- what the source of the token table was before a run and after it, and its counts
 pub record TokenSource : Type 0 where
@@ -46,7 +46,7 @@ pub record IsUnread (source : TokenSource) : Type 0 where
 
 -- A source was read to its end, and this is its text. One read found the end, and nothing was read
 -- after it.
-pub record IsReadToEnd (text : List ℕ) (source : TokenSource) : Type 0 where
+pub record IsTableRead (text : List ℕ) (source : TokenSource) : Type 0 where
   pub reads : Reads text source.old source.new
   pub all : AtEnd source.new
   pub once : source.new_ends ≡ next_count source.old_ends
@@ -62,7 +62,7 @@ pub record IsReadToLimit (source : TokenSource) : Type 0 where
 -- the table of the lines of the source's text, none of which is faulty
 pub record IsTable (tokens : List TokenEntry) (source : TokenSource) : Type 0 where
   pub text : List ℕ
-  pub read : IsReadToEnd text source
+  pub read : IsTableRead text source
   pub table : tokens ≡ entries (lines_of text)
   pub sound : AreSound (lines_of text)
 
@@ -76,7 +76,7 @@ table_status ReadLimit = 14
 -- Why there is no table: the first faulty line of the source's text; a read failed; or the limit on
 -- reads was reached.
 abbrev pub HasTableCause : TableFault → TokenSource → Type 0
-HasTableCause (Line number) source = (text : List ℕ) × IsReadToEnd text source
+HasTableCause (Line number) source = (text : List ℕ) × IsTableRead text source
     × IsFirstFault (lines_of text) number
 HasTableCause ReadFault source = CountIncreased source.old_faults source.new_faults
     × (source.new_ends ≡ source.old_ends)

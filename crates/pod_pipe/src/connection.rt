@@ -8,11 +8,11 @@ ghost use Rattle.pod_pipe.specs.Served.{Leaves, WritesSession};
 ghost use Rattle.pod_pipe.specs.Statuses.{PipesAndTells};
 ghost use Rattle.pod_pipe.specs.Streams.{CountsInput};
 
-use crate::held::Held;
+use crate::end_line_text::write_end_line;
+use crate::held_answers::Held;
 use crate::holder::PodHolder;
+use crate::input_loop::serve;
 use crate::options::PipeOptions;
-use crate::report_end::write_end_line;
-use crate::serve::serve;
 use crate::status::PipeEnd;
 use pod_io::{Clock, Sink, Source};
 use std::alloc::Global;

@@ -43,24 +43,24 @@
 #![tactic(auto)]
 
 mod connection;
-mod held;
+mod end_line_text;
+mod held_answers;
 mod holder;
-mod lines;
-mod memory;
+mod input_loop;
+mod memory_pod;
 mod options;
-mod report_end;
-mod serve;
-mod serving;
+mod refusal_lines;
 mod status;
-mod stored;
-mod tokens;
+mod store_pipe;
+mod stored_pod;
+mod token_file;
 
 pub use conn_talk::{Agents, Answer, clock_moment};
 pub use connection::{Piped, pipe};
 pub use holder::{HolderFault, PodHolder};
-pub use lines::{refuse, tell_table};
-pub use memory::{MemoryPod, moment_after};
+pub use memory_pod::{MemoryPod, moment_after};
 pub use options::PipeOptions;
-pub use serving::pipe_store;
+pub use refusal_lines::{refuse, refuse_table};
 pub use status::{PipeEnd, Status};
-pub use tokens::{TableFault, read_table};
+pub use store_pipe::pipe_store;
+pub use token_file::{TableFault, read_table};

@@ -14,7 +14,7 @@ use Rattle.pod_rows.specs.Apply.{is_before, put_row, remove_row}
 use Rattle.pod_rows.specs.Pod.{is_at, row_at, is_row}
 use Rattle.pod_rows.proofs.OrderedRows.{order_first, order_rest, none_after}
 use Rattle.pod_records.specs.Made.{added, gone, is_added, is_gone}
-use Rattle.pod_records.specs.declared.made.Made.{Made}
+use Rattle.pod_records.specs.declared.edited_rows.Made.{Made}
 
 abbrev pub one_if : Bool → ℕ
 one_if true = 1

@@ -26,7 +26,7 @@ use Rattle.pod_edits.proofs.Transfer.{IsPlaced, IsRight, placed, placed_at, righ
 use Rattle.pod_edits.proofs.Trees.{path_of_norm, auxiliary_parent, subject_plain, two_auxiliaries}
 use Rattle.pod_records.specs.Made.{HasMade, added, gone, latest, row_now, found_in}
 use Rattle.pod_records.specs.Touched.{is_there, is_there_of, is_subject_there, is_placed, none_there, lacks_children, lacks_auxiliaries, is_kept, is_free, is_right, keeps_guard, is_row_fine, is_fine_with, is_fine, has_room}
-use Rattle.pod_records.specs.declared.made.Made.{Made}
+use Rattle.pod_records.specs.declared.edited_rows.Made.{Made}
 use Rattle.pod_records.proofs.Latest.{latest_all}
 
 -- ---- tests of what is found, as tests of rows

@@ -7,7 +7,7 @@ use Rattle.std.proofs.lemmas.Slice.Eq.{bytes_eq-Decides}
 use Rattle.pod_command.specs.declared.row.Row.{Row}
 use Rattle.pod_rows.specs.Pod.{row_at}
 use Rattle.pod_records.specs.Made.{latest, row_now, found_in}
-use Rattle.pod_records.specs.declared.made.Made.{Made}
+use Rattle.pod_records.specs.declared.edited_rows.Made.{Made}
 
 -- after one more
 pub found_more : (old : List Row) (made : List Made) (one : Made) (path : List ℕ) → found_in old (one ∷ made) path ≡ cond (bytes_eq one.path path) one.row (found_in old made path)

@@ -19,7 +19,7 @@ use Rattle.pod_rows.proofs.OrderedRows.{order_put, order_filter}
 use Rattle.pod_rows.proofs.Steps.{edits_append, edits_more, edits_stopped}
 use Rattle.pod_edits.proofs.FoundRows.{found_path, is_found, put_found, removed_found}
 use Rattle.pod_records.specs.Made.{HasMade, added, gone, found_in, made_by, made_by_change, made_by_touch, made_by_removal, made_of, path_of, replaced}
-use Rattle.pod_records.specs.declared.made.Made.{Made}
+use Rattle.pod_records.specs.declared.edited_rows.Made.{Made}
 use Rattle.pod_records.proofs.Counts.{one_if, put_count, removed_count, added_more, gone_more}
 use Rattle.pod_records.proofs.Latest.{found_more}
 

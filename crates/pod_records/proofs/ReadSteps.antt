@@ -2,7 +2,7 @@
 use Rattle.std.proofs.Common.{◌≡◌, inl, inr, ℕ, ◌+◌, List, [], ◌∷◌, ◌++◌, length, map, Option, Some, None, refl, sym, ap, subst, ◌∙◌, arith, rules, length-append}
 use Rattle.std.specs.List.{AllByRecursion}
 use Rattle.pod_base.specs.declared.moment.Moment.{Moment}
-use Rattle.pod_command.specs.StoredForms.{snapshot_bytes}
+use Rattle.stored_forms.specs.StoredForms.{snapshot_bytes}
 use Rattle.pod_command.specs.declared.entry.Entry.{Entry}
 use Rattle.pod_command.specs.declared.snapshot.Snapshot.{Snapshot}
 use Rattle.pod_rows.specs.Apply.{Applies, AllApply, applied, replayed, after_edits, with_rows_if}
@@ -11,7 +11,7 @@ use Rattle.pod_rows.specs.WellFormed.{pod_of}
 use Rattle.pod_records.specs.PodStores.{BreaksAfter}
 use Rattle.pod_pages.specs.State.{VersionState, first_state, state_after, states_after}
 use Rattle.pod_pages.proofs.History.{pod_replayed, next_replayed}
-use Rattle.pod_records.specs.Readings.{IsReadTo, IsSnapshotOf, IsSnapshotRead, IsEntryOf, IsEntryRead, HasNoEntry}
+use Rattle.pod_records.specs.Readings.{AreRecordsRead, IsSnapshotOf, IsSnapshotRead, IsEntryOf, IsEntryRead, HasNoEntry}
 use Rattle.pod_records.specs.Records.{entry_text, Holds, IsEntryIn, IsReadable}
 use Rattle.pod_records.proofs.Entries.{replayed_more, last_more, apply_more, apply_split, all_more, all_split, map_more, ends_in}
 
@@ -71,14 +71,14 @@ states_more v [] entry = refl
 states_more v (one ∷ more) entry = states_more (state_after v one) more entry
 
 -- its pod, and the number of its next change
-pub read_pod : (format : ℕ) (bodies : List (List ℕ)) (version : VersionState) (last : Option Moment) (h : IsReadTo format bodies version last) → version.pod ≡ replayed (pod_of h.snapshot) h.entries
+pub read_pod : (format : ℕ) (bodies : List (List ℕ)) (version : VersionState) (last : Option Moment) (h : AreRecordsRead format bodies version last) → version.pod ≡ replayed (pod_of h.snapshot) h.entries
 read_pod format bodies version last h = ap (λ (v : VersionState). v.pod) h.version_is ∙ pod_replayed (first_state h.snapshot) h.entries
 
-pub read_number : (format : ℕ) (bodies : List (List ℕ)) (version : VersionState) (last : Option Moment) (h : IsReadTo format bodies version last) → version.next ≡ h.snapshot.seq + length h.entries
+pub read_number : (format : ℕ) (bodies : List (List ℕ)) (version : VersionState) (last : Option Moment) (h : AreRecordsRead format bodies version last) → version.next ≡ h.snapshot.seq + length h.entries
 read_number format bodies version last h = ap (λ (v : VersionState). v.next) h.version_is ∙ next_replayed (first_state h.snapshot) h.entries
 
 -- the next record is read
-pub read_more : (format : ℕ) (bodies : List (List ℕ)) (text : List ℕ) (version : VersionState) (last : Option Moment) (entry : Entry) (new : VersionState) → IsReadTo format bodies version last → IsEntryRead format text entry → Applies version.pod version.next entry → new ≡ state_after version entry → IsReadTo format (bodies ++ text ∷ []) new (Some entry.moment)
+pub read_more : (format : ℕ) (bodies : List (List ℕ)) (text : List ℕ) (version : VersionState) (last : Option Moment) (entry : Entry) (new : VersionState) → AreRecordsRead format bodies version last → IsEntryRead format text entry → Applies version.pod version.next entry → new ≡ state_after version entry → AreRecordsRead format (bodies ++ text ∷ []) new (Some entry.moment)
 read_more format bodies text version last entry new h is applies new_is =
     let s = h.snapshot in
     let es = h.entries in
@@ -100,7 +100,7 @@ read_more format bodies text version last entry new h is applies new_is =
     }
 
 -- and where it has no entry that applies, the records with it hold nothing
-pub not_read : (format : ℕ) (bodies : List (List ℕ)) (text : List ℕ) (version : VersionState) (last : Option Moment) → IsReadTo format bodies version last → HasNoEntry format text version.pod version.next → IsReadable format (bodies ++ text ∷ []) → ⊥
+pub not_read : (format : ℕ) (bodies : List (List ℕ)) (text : List ℕ) (version : VersionState) (last : Option Moment) → AreRecordsRead format bodies version last → HasNoEntry format text version.pod version.next → IsReadable format (bodies ++ text ∷ []) → ⊥
 not_read format bodies text version last h none readable =
     let s = h.snapshot in
     let es = h.entries in
@@ -121,7 +121,7 @@ applies_alike pod next entry other same a = record {
 }
 
 -- the first record is read
-pub read_first : (format : ℕ) (text : List ℕ) (version : VersionState) → IsSnapshotRead text version → IsReadTo format (text ∷ []) version None
+pub read_first : (format : ℕ) (text : List ℕ) (version : VersionState) → IsSnapshotRead text version → AreRecordsRead format (text ∷ []) version None
 read_first format text version h = record {
   snapshot = h.snapshot;
   entries = [];
@@ -148,7 +148,7 @@ first_not_read format text none readable =
     none readable.0 (record { form = search (rules, e); stored = held.stored; well_formed = held.well_formed })
 
 -- damage at the next record
-pub breaks_next : (format : ℕ) (bodies rest : List (List ℕ)) (text : List ℕ) (version : VersionState) (last : Option Moment) → IsReadTo format bodies version last → HasNoEntry format text version.pod version.next → BreaksAfter format (bodies ++ text ∷ rest) bodies
+pub breaks_next : (format : ℕ) (bodies rest : List (List ℕ)) (text : List ℕ) (version : VersionState) (last : Option Moment) → AreRecordsRead format bodies version last → HasNoEntry format text version.pod version.next → BreaksAfter format (bodies ++ text ∷ rest) bodies
 breaks_next format bodies rest text version last h none = record {
   bad = text;
   rest = rest;

@@ -4,8 +4,8 @@ use Rattle.std.specs.List.{AllByRecursion, list_all}
 use Rattle.std.proofs.lemmas.Bool.{and_parts, false≢true}
 use Rattle.pod_command.specs.Bare.{bare_snapshot}
 use Rattle.pod_command.specs.Encodable.{FitsKind, HasFittingContent, IsEncodableSnapshot}
-use Rattle.pod_command.specs.Storable.{IsStorableSnapshot}
-use Rattle.pod_command.specs.StoredForms.{snapshot_bytes}
+use Rattle.stored_forms.specs.Storable.{IsStorableSnapshot}
+use Rattle.stored_forms.specs.StoredForms.{snapshot_bytes}
 use Rattle.pod_command.specs.declared.row.Content.{Content}
 use Rattle.pod_command.specs.declared.row.Content.TheVariants as contents
 use Rattle.pod_command.specs.declared.row.Kind.{Kind}

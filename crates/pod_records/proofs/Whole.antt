@@ -8,7 +8,7 @@ use Rattle.pod_rows.specs.Pod.{Pod}
 use Rattle.pod_rows.specs.WellFormed.{WellFormed}
 use Rattle.pod_edits.specs.Refusals.{lacks_number}
 use Rattle.pod_records.specs.Made.{HasMade, EditsFit}
-use Rattle.pod_records.specs.declared.made.Made.{Made}
+use Rattle.pod_records.specs.declared.edited_rows.Made.{Made}
 
 pub no_number : (next : ℕ) → next < 2 ^ 63 → lacks_number next ≡ true → ⊥
 unfolding lacks_number

@@ -11,7 +11,7 @@ use Rattle.rdf_graph.specs.declared.change.Change.{Change}
 use Rattle.pod_rows.specs.Apply.{after_edits, changed_row, with_moment, with_rows}
 use Rattle.pod_rows.specs.Pod.{Pod, row_at}
 use Rattle.pod_rows.specs.WellFormed.{WellFormed}
-use Rattle.pod_records.specs.declared.made.Made.{Made}
+use Rattle.pod_records.specs.declared.edited_rows.Made.{Made}
 
 -- Was this made of the path?
 abbrev pub is_made_at : List ℕ → Made → Bool

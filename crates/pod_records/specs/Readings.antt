@@ -1,22 +1,22 @@
 -- What is known while the records of a journal are read.
 use Rattle.std.specs.Prelude.{◌≡◌, ℕ, ◌+◌, List, length, Option, None}
 use Rattle.pod_base.specs.declared.moment.Moment.{Moment}
-use Rattle.pod_command.specs.Storable.{IsStorableSnapshot}
-use Rattle.pod_command.specs.StoredForms.{snapshot_bytes}
+use Rattle.stored_forms.specs.Storable.{IsStorableSnapshot}
+use Rattle.stored_forms.specs.StoredForms.{snapshot_bytes}
 use Rattle.pod_command.specs.declared.entry.Entry.{Entry}
 use Rattle.pod_command.specs.declared.snapshot.Snapshot.{Snapshot}
 use Rattle.pod_pages.specs.State.{VersionState, first_state, states_after}
 use Rattle.pod_records.specs.PodStores.{BreaksAfter, gate_after}
 use Rattle.pod_records.specs.Records.{entry_text, last_after, Holds, IsEntryIn}
-use Rattle.pod_records.specs.declared.reading.RecordFault.{RecordFault}
-use Rattle.pod_records.specs.declared.reading.RecordFault.TheVariants.{Damaged, NoMemory}
+use Rattle.pod_records.specs.declared.record_reading.RecordFault.{RecordFault}
+use Rattle.pod_records.specs.declared.record_reading.RecordFault.TheVariants.{Damaged, NoMemory}
 use Rattle.pod_rows.specs.Apply.{Applies, replayed}
 use Rattle.pod_rows.specs.Pod.{Pod}
 use Rattle.pod_rows.specs.WellFormed.{IsWellFormedSnapshot, pod_of}
 
 -- The records were read: they hold a snapshot and entries, and with these this is the version and
 -- the last moment. Whatever they hold has its pod and its number.
-pub record IsReadTo (format : ℕ) (bodies : List (List ℕ)) (version : VersionState)
+pub record AreRecordsRead (format : ℕ) (bodies : List (List ℕ)) (version : VersionState)
     (last : Option Moment) : Type 0 where
   pub snapshot : Snapshot
   pub entries : List Entry

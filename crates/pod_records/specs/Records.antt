@@ -2,8 +2,8 @@
 use Rattle.std.specs.Prelude.{◌≡◌, ℕ, ◌==◌, if◌then◌else◌, List, [], ◌∷◌, map, Option, Some}
 use Rattle.std.specs.List.{AllByRecursion}
 use Rattle.pod_base.specs.declared.moment.Moment.{Moment}
-use Rattle.pod_command.specs.Storable.{IsStorable, IsStorableSnapshot}
-use Rattle.pod_command.specs.StoredForms.{entry_1_bytes, entry_bytes, snapshot_bytes}
+use Rattle.stored_forms.specs.Storable.{IsStorable, IsStorableSnapshot}
+use Rattle.stored_forms.specs.StoredForms.{entry_1_bytes, entry_bytes, snapshot_bytes}
 use Rattle.pod_command.specs.declared.entry.Entry.{Entry}
 use Rattle.pod_command.specs.declared.snapshot.Snapshot.{Snapshot}
 use Rattle.pod_rows.specs.Apply.{AllApply}

@@ -12,7 +12,7 @@ use Rattle.pod_rows.specs.WellFormed.{has_normal_path, has_right_kind, guards_co
 use Rattle.pod_rows.specs.WellFormed.{lacks_stored_containment}
 use Rattle.pod_rows.specs.declared.limits.TheConstants.{ROWS_LIMIT}
 use Rattle.pod_records.specs.Made.{added, gone}
-use Rattle.pod_records.specs.declared.made.Made.{Made}
+use Rattle.pod_records.specs.declared.edited_rows.Made.{Made}
 
 -- What is found at each path.
 abbrev pub is_there : (List ℕ → Option Row) → List ℕ → Bool

@@ -5,9 +5,9 @@ ghost use Rattle.pod_command.specs.declared.edit.Edit.{Edit};
 ghost use Rattle.pod_rows.specs.Apply.{Applies, after_edits, with_rows_if};
 ghost use Rattle.pod_rows.specs.WellFormed.{WellFormed};
 
-use crate::made::{Made, all_made};
-use crate::replaced::{may_replace, replacement};
-use crate::touched::{are_fine, has_room};
+use crate::edited_rows::{Made, all_made};
+use crate::row_checks::{are_fine, has_room};
+use crate::row_replacement::{may_replace, replacement};
 use pod_base::Mem;
 use pod_command::Entry;
 use pod_edits::lacks_number;

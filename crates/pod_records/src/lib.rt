@@ -20,15 +20,15 @@
 //! alone of a row in place of another costs one look-up and no memory.
 #![tactic(auto)]
 
+mod edited_rows;
 mod fitting;
-mod made;
 mod opening;
-mod reading;
-mod replaced;
-mod texts;
-mod touched;
+mod record_reading;
+mod record_texts;
+mod row_checks;
+mod row_replacement;
 
 pub use fitting::fits;
 pub use opening::{OpenedStore, open_store};
-pub use reading::{Reading, RecordFault, read_entry, read_records};
-pub use texts::{entry_record, record_of, snapshot_record};
+pub use record_reading::{Reading, RecordFault, read_entry, read_records};
+pub use record_texts::{entry_record, record_of, snapshot_record};

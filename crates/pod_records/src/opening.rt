@@ -6,9 +6,9 @@ ghost use Rattle.journal_pair.specs.PairMoments.{LeavesPairs, IsWhileStoreOpened
 ghost use Rattle.journal_pair.specs.Stores.{StoreStands};
 ghost use Rattle.pod_records.specs.OpenedStores.{HasPodCause, HasContentCause};
 ghost use Rattle.pod_records.specs.PodStores.{gate_after};
-ghost use Rattle.pod_records.specs.Readings.{IsReadTo, HasRecordCause};
+ghost use Rattle.pod_records.specs.Readings.{AreRecordsRead, HasRecordCause};
 
-use crate::reading::{Reading, RecordFault, read_records};
+use crate::record_reading::{Reading, RecordFault, read_records};
 use journal_log::{OpenFault, Side};
 use journal_pair::Pair;
 use pod_base::{Bytes, List};
@@ -46,7 +46,7 @@ pub fn open_store<D: Disk>(
         (λ opened. IfBothVisible (D.content first.old) (D.content second.old)
         (StoreStands opened.pair.active opened.pair.journal.format opened.pair.journal.epoch
         opened.records.items)) }
-    ensures read { IfOk result (λ opened. IsReadTo opened.pair.journal.format opened.records.items
+    ensures read { IfOk result (λ opened. AreRecordsRead opened.pair.journal.format opened.records.items
         opened.reading.version opened.reading.last) }
     ensures later_first { D.moment first.old ≤ D.moment first.new }
     ensures later_second { D.moment second.old ≤ D.moment second.new }
@@ -70,7 +70,7 @@ fn read_pair(alloc: Global, pair: Pair, records: List<Bytes>) -> Result<OpenedSt
     requires room { gate_after records.items < 2 ^ 64 }
     ensures pair { IfOk result (λ opened. opened.pair ≡ pair) }
     ensures records { IfOk result (λ opened. opened.records.items ≡ records.items) }
-    ensures read { IfOk result (λ opened. IsReadTo pair.journal.format records.items
+    ensures read { IfOk result (λ opened. AreRecordsRead pair.journal.format records.items
         opened.reading.version opened.reading.last) }
     ensures cause { IfErr result
         (HasContentCause pair.active pair.journal.format records.items) }
@@ -94,7 +94,7 @@ fn read_all(alloc: Global, format: u8, records: &[Bytes]) -> Result<Reading, Rec
     requires format { (format ≡ 1) ⊎ (format ≡ 2) }
     requires some { 0 < length records.now }
     requires room { gate_after records.now < 2 ^ 64 }
-    ensures read { IfOk result (λ reading. IsReadTo format records.now
+    ensures read { IfOk result (λ reading. AreRecordsRead format records.now
         reading.version reading.last) }
     ensures cause { IfErr result (HasRecordCause format records.now) }
 {

@@ -2,7 +2,7 @@
 use Rattle.std.proofs.Common.{◌≡◌, Bool, true, false, cond, Result, Ok, Err, refl, ap, ◌∙◌}
 use Rattle.pod_base.specs.declared.response.Response.{Response}
 use Rattle.pod_command.specs.Bare.{bare_entry}
-use Rattle.pod_command.specs.StoredForms.{entry_bytes, origin_bytes, request_bytes}
+use Rattle.stored_forms.specs.StoredForms.{entry_bytes, origin_bytes, request_bytes}
 use Rattle.pod_command.specs.declared.entry.Entry.{Entry}
 use Rattle.pod_reply.specs.EntrySize.{is_too_large, size_refusal, sized}
 use Rattle.pod_reply.specs.Replies.{changed_by, change_reply}

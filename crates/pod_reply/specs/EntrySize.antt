@@ -1,7 +1,7 @@
 -- Entries are stored in a bounded form.
 use Rattle.std.specs.Prelude.{Bool, nat_lt, if◌then◌else◌, length, Result, Ok, Err, codes}
 use Rattle.pod_base.specs.declared.response.Response.{Response}
-use Rattle.pod_command.specs.StoredForms.{entry_bytes}
+use Rattle.stored_forms.specs.StoredForms.{entry_bytes}
 use Rattle.pod_command.specs.declared.entry.Entry.{Entry}
 use Rattle.pod_responses.specs.Responses.{refusal}
 use Rattle.pod_reply.specs.declared.entry_size.TheConstants.{ENTRY_BYTES_LIMIT}

@@ -17,7 +17,7 @@ use Rattle.pod_path.specs.Hierarchy.{is_container}
 use Rattle.pod_responses.specs.Responses.{changed}
 use Rattle.pod_rows.specs.GraphSets.{changed_graph}
 use Rattle.pod_rows.specs.Pod.{Pod, row_at, is_row}
-use Rattle.rdf_graph.specs.Patch.{IsBound}
+use Rattle.graph_patch.specs.Patch.{IsBound}
 use Rattle.rdf_graph.specs.declared.change.Change.{Change}
 use Rattle.rdf_graph.specs.declared.triple.Triple.{Triple}
 use Rattle.request_body.specs.declared.body.RequestBody.{RequestBody}

@@ -15,7 +15,7 @@ use Rattle.pod_representations.specs.Preconditions.{read_verdict}
 use Rattle.pod_representations.specs.ReadResponses.{read_response}
 use Rattle.pod_representations.specs.Representations.{represented}
 use Rattle.pod_representations.specs.declared.media.Media.{Media}
-use Rattle.pod_representations.specs.declared.shown.Shown.{Shown}
+use Rattle.pod_representations.specs.declared.representation.Shown.{Shown}
 use Rattle.pod_responses.specs.Responses.{refusal, not_modified, upgraded}
 use Rattle.pod_rows.specs.Pod.{Pod, row_at}
 use Rattle.request_fields.specs.Upgrades.{upgrade_key}

@@ -4,9 +4,10 @@ ghost use Rattle.std.specs.Prelude.{◌≡◌, IfOk};
 ghost use Rattle.pod_reply.specs.EntrySize as spec;
 
 use pod_base::{Mem, Response};
-use pod_command::{Entry, entry_size};
+use pod_command::Entry;
 use pod_responses::refusal;
 use std::alloc::Global;
+use stored_forms::entry_size;
 
 /// The most bytes of an entry's stored form, its bases counted.
 pub const ENTRY_BYTES_LIMIT: u64 = 16_777_216;

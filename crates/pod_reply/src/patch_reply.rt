@@ -92,7 +92,7 @@ fn has_graphs(outcome: &Result<Change, PatchRefusal>)
 }
 
 /// The graph after a change.
-fn change_graph(alloc: Global, graph: &Graph, change: &Change) -> Mem<Graph>
+fn graph_after_change(alloc: Global, graph: &Graph, change: &Change) -> Mem<Graph>
     ensures { IfOk result (λ new. new ≡ spec.triples_after graph.now change.now) }
 {
     let _old = graph.as_slice();
@@ -111,7 +111,7 @@ fn refuse_guard<S: PodState>(context: &Context<'_, S>, graph: &Graph, change: &C
     if !is_root_list(context.path) {
         return Ok(());
     }
-    let after = change_graph(context.alloc, graph, change)?;
+    let after = graph_after_change(context.alloc, graph, change)?;
     let breaks = breaks_guard(context.state, context.path, after.as_slice());
     refuse_if(context.alloc, breaks, 409, b"owner")
 }
@@ -130,7 +130,7 @@ fn change_at<S: PodState>(
 {
     match place {
         Some(place) => {
-            let graph = change_graph(context.alloc, &Graph::new(context.alloc), &change)?;
+            let graph = graph_after_change(context.alloc, &Graph::new(context.alloc), &change)?;
             make(context, Some(place), bases, Content::Graph(graph))
         }
         None => {

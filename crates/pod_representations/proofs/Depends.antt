@@ -19,7 +19,7 @@ use Rattle.pod_representations.specs.Preconditions.{change_verdict, offered_tags
 use Rattle.pod_representations.specs.Representations.{graph_shown, represented, content_as, graph_as, bytes_as, graph_tag, bytes_tag}
 use Rattle.pod_representations.specs.declared.media.Media.{Media}
 use Rattle.pod_representations.specs.declared.media.Media.TheVariants.{Turtle, JsonLd, Stored}
-use Rattle.pod_representations.specs.declared.shown.Shown.{Shown}
+use Rattle.pod_representations.specs.declared.representation.Shown.{Shown}
 
 -- the graph of a container, and of another row
 pub container_graph : (pod : Pod) (row : Row) → is_container_kind row.kind ≡ true → graph_shown pod row ≡ view_of pod row.path

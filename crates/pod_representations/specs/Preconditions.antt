@@ -12,7 +12,7 @@ use Rattle.pod_command.specs.declared.row.Row.{Row}
 use Rattle.pod_rows.specs.Pod.{Pod}
 use Rattle.pod_representations.specs.Offers.{offers}
 use Rattle.pod_representations.specs.Representations.{represented}
-use Rattle.pod_representations.specs.declared.shown.Shown.{Shown}
+use Rattle.pod_representations.specs.declared.representation.Shown.{Shown}
 
 -- what a GET or HEAD compares with
 abbrev pub read_validators : Shown → Validators

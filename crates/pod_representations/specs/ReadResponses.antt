@@ -10,12 +10,12 @@ use Rattle.pod_base.specs.declared.response.Body.{Body}
 use Rattle.pod_base.specs.declared.response.Body.TheVariants.{Whole, LengthOnly}
 use Rattle.pod_base.specs.declared.response.Response.{Response}
 use Rattle.pod_responses.specs.Responses.{shown, partial, unsatisfiable}
-use Rattle.pod_responses.specs.declared.representation.Representation.{Representation}
+use Rattle.pod_responses.specs.declared.read_responses.Representation.{Representation}
 use Rattle.range_req.specs.Multipart.{free_boundary, multipart_text}
 use Rattle.range_req.specs.RangeSets as sets
 use Rattle.range_req.specs.declared.byte_range.Part.{Part}
 use Rattle.request_fields.specs.PartFields.{range, allows_ranges}
-use Rattle.pod_representations.specs.declared.shown.Shown.{Shown}
+use Rattle.pod_representations.specs.declared.representation.Shown.{Shown}
 
 -- Parts are requested by GET alone, and of bytes.
 abbrev pub takes_ranges : Method → Bool → Bool

@@ -4,7 +4,7 @@
 use Rattle.std.specs.Prelude.{ℕ, true, false, if◌then◌else◌, List}
 use Rattle.conditional_req.specs.Tags.{tag_text}
 use Rattle.conditional_req.specs.declared.tag.Tag.{Tag}
-use Rattle.jsonld_write.specs.Document.{document_text}
+use Rattle.jsonld_expanded.specs.Document.{document_text}
 use Rattle.pod_base.specs.declared.moment.Moment.{Moment}
 use Rattle.pod_command.specs.declared.row.Content.{Content}
 use Rattle.pod_command.specs.declared.row.Content.TheVariants as contents
@@ -17,7 +17,7 @@ use Rattle.rdf_graph.specs.declared.triple.Triple.{Triple}
 use Rattle.pod_representations.specs.Offers.{turtle_type, json_ld_type}
 use Rattle.pod_representations.specs.declared.media.Media.{Media}
 use Rattle.pod_representations.specs.declared.media.Media.TheVariants.{Turtle, JsonLd, Stored}
-use Rattle.pod_representations.specs.declared.shown.Shown.{Shown}
+use Rattle.pod_representations.specs.declared.representation.Shown.{Shown}
 
 -- the graph that a row shows: the view of a container, and the own triples of every other row
 unfoldable pub graph_shown : Pod → Row → List Triple

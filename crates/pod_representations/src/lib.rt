@@ -22,14 +22,14 @@
 //! fields of a request, and on `pod_responses` for the fields of responses.
 #![tactic(auto)]
 
-mod judging;
 pub mod laws;
 mod media;
-mod parts;
-mod reading;
-mod shown;
+mod preconditions;
+mod read_response;
+mod representation;
+mod selected_parts;
 
-pub use judging::{change_verdict, read_verdict};
 pub use media::{Media, chosen, offers};
-pub use reading::show;
-pub use shown::{Shown, represent};
+pub use preconditions::{change_verdict, read_verdict};
+pub use read_response::show;
+pub use representation::{Shown, represent};

@@ -12,7 +12,7 @@ use Rattle.pod_path.specs.Hierarchy.{is_container, uri_of}
 use Rattle.http_out.specs.Calendar.{date_text}
 use Rattle.pod_responses.specs.Allow.{allow_text, methods, names_of, put_types}
 use Rattle.pod_responses.specs.Links.{field, type_links, about_links}
-use Rattle.pod_responses.specs.declared.representation.Representation.{Representation}
+use Rattle.pod_responses.specs.declared.read_responses.Representation.{Representation}
 
 abbrev pub response : ℕ → List Field → Body → Response
 response status fields body = record { status = status; fields = fields; body = body }

@@ -16,18 +16,18 @@
 //! base64 of the SHA-1 of the key and the standard's GUID.
 #![tactic(auto)]
 
-mod accept;
 mod allow;
 mod capabilities;
-mod changes;
+mod change_responses;
 mod field;
 mod links;
+mod read_responses;
 mod refusals;
-mod representation;
+mod websocket_accept;
 
-pub use accept::accept_of;
 pub use allow::is_allowed;
 pub use capabilities::{options, options_of_server};
-pub use changes::{changed, created};
+pub use change_responses::{changed, created};
+pub use read_responses::{Representation, partial, shown, upgraded};
 pub use refusals::{not_allowed, not_modified, refusal, unauthorized, unsatisfiable, unsupported};
-pub use representation::{Representation, partial, shown, upgraded};
+pub use websocket_accept::accept_of;

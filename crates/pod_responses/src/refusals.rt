@@ -6,7 +6,7 @@ ghost use Rattle.pod_responses.specs.Responses as spec;
 
 use crate::allow::{add_accept_patch, add_accept_put, add_allow};
 use crate::field::{add, add_static};
-use crate::representation::{add_validators, add_vary};
+use crate::read_responses::{add_validators, add_vary};
 use conditional_req::Tag;
 use pod_base::{Body, Bytes, BytesBuilder, Fields, Mem, Method, Moment, Response};
 use pod_path::Path;

@@ -12,7 +12,7 @@ use Rattle.pod_path.proofs.NormalPaths.{parts_of}
 use Rattle.pod_path.proofs.Subjects.{subject_path}
 use Rattle.pod_command.specs.declared.row.Row.{Row}
 use Rattle.pod_rows.specs.Access.{list_path, has_own_list, Governs, governed, inherited, governs, effective_of, about, rules_at}
-use Rattle.pod_rows.specs.AclLists.{lists_of, is_list_of, first_list, IsKept}
+use Rattle.pod_rows.specs.AclLists.{lists_of, is_list_of, first_list, KeepsLists}
 use Rattle.pod_rows.specs.Pod.{Pod, row_at}
 use Rattle.pod_rows.specs.State.{NumberedPod}
 use Rattle.pod_rows.specs.Tree.{ancestors, beginnings}
@@ -112,21 +112,21 @@ above_governs pod path o h e =
 
 -- ---- the same of a state in memory
 
-pub kept_own : (state : NumberedPod) (kept lists : List AclList) (path text : List ℕ) (l : AclList) → IsKept state kept → lists ≡ kept → text ≡ about path (subject_of path)
+pub kept_own : (state : NumberedPod) (kept lists : List AclList) (path text : List ℕ) (l : AclList) → KeepsLists state kept → lists ≡ kept → text ≡ about path (subject_of path)
     → find (is_list_of text) lists ≡ Some l → (effective_of state.pod.rows path ≡ Some (governed l.at Own)) × (l.rules.list ≡ rules_at state.pod l.at)
 kept_own state kept lists path text l k same is found =
     let here : find (is_list_of (about path (subject_of path))) (lists_of state.pod.base state.pod.rows) ≡ Some l =
     ap (λ (t : List ℕ). find (is_list_of t) (lists_of state.pod.base state.pod.rows)) (sym is) ∙ ap (find (is_list_of text)) (sym (same ∙ k.lists)) ∙ found in
     (own_governs state.pod path l here, own_rules state.pod (about path (subject_of path)) l here)
 
-pub kept_above : (state : NumberedPod) (kept lists : List AclList) (path text : List ℕ) (o : Option AclList) → IsKept state kept → lists ≡ kept → text ≡ about path (subject_of path)
+pub kept_above : (state : NumberedPod) (kept lists : List AclList) (path text : List ℕ) (o : Option AclList) → KeepsLists state kept → lists ≡ kept → text ≡ about path (subject_of path)
     → find (is_list_of text) lists ≡ None → first_list lists (ancestors text) ≡ o → effective_of state.pod.rows path ≡ inherited (option_map (λ (l : AclList). l.at) o)
 kept_above state kept lists path text o k same is none found =
     above_governs state.pod path o
     (ap (λ (t : List ℕ). find (is_list_of t) (lists_of state.pod.base state.pod.rows)) (sym is) ∙ ap (find (is_list_of text)) (sym (same ∙ k.lists)) ∙ none)
     (ap (λ (t : List ℕ). first_list (lists_of state.pod.base state.pod.rows) (ancestors t)) (sym is) ∙ ap (λ (ls : List AclList). first_list ls (ancestors text)) (sym (same ∙ k.lists)) ∙ found)
 
-pub kept_rules : (state : NumberedPod) (kept lists : List AclList) (text : List ℕ) (l : AclList) → IsKept state kept → lists ≡ kept
+pub kept_rules : (state : NumberedPod) (kept lists : List AclList) (text : List ℕ) (l : AclList) → KeepsLists state kept → lists ≡ kept
     → first_list lists (ancestors text) ≡ Some l → l.rules.list ≡ rules_at state.pod l.at
 kept_rules state kept lists text l k same found =
     first_rules state.pod (ancestors text) l (ap (λ (ls : List AclList). first_list ls (ancestors text)) (sym (same ∙ k.lists)) ∙ found)

@@ -11,3 +11,6 @@ pub mod DefinitionLaws
 pub mod Relations
 pub mod SubjectRuns
 pub mod Listed
+pub mod Appending
+pub mod FirstPodLaws
+pub mod OwnerTriples

@@ -41,7 +41,7 @@ abbrev pub container_list : List AclList → List ℕ → Option AclList
 container_list lists path = if is_container path then find (is_list_of path) lists else None
 
 -- What a state in memory keeps: a well-formed pod, and its access lists.
-pub record IsKept (state : NumberedPod) (kept : List AclList) : Type 0 where
+pub record KeepsLists (state : NumberedPod) (kept : List AclList) : Type 0 where
   pub number : state.next ≤ 2 ^ 63
   pub well_formed : WellFormed state.pod
   pub lists : kept ≡ lists_of state.pod.base state.pod.rows

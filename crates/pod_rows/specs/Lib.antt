@@ -5,6 +5,7 @@ pub mod View
 pub mod Access
 pub mod Members
 pub mod Base
+pub mod FirstPods
 pub mod Guard
 pub mod WellFormed
 pub mod Apply

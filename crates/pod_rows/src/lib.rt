@@ -15,33 +15,41 @@
 //! force and members are those of the definitions (the clauses of [`PodState`]); a view is the
 //! graph of what a container shows; `fits` is true exactly where an entry applies (`sound`,
 //! `complete`), and `after` is what it makes of the pod (`pod`, `next`). [`laws`] says what follows
-//! from the definitions. The crate stands on `pod_command`, `acl_rules`, `slug_naming`,
+//! from the definitions.
+//!
+//! A new pod is [`first_snapshot`]: the root, and its access list, which gives the owner every mode.
+//! It has the pod of the definition `first_pod` (`pod`) and no change yet (`number`);
+//! [`first_pods_are_well_formed`] is the law that such a pod is well-formed, where its base has the
+//! form that a base has. The crate stands on `pod_command`, `acl_rules`, `slug_naming`,
 //! `rdf_graph`, `pod_path`, `iri_ref` and `pod_base`.
 #![tactic(auto)]
 
 mod acl_list;
-mod base;
+mod base_form;
+mod container_graph;
 mod edits;
+mod first_pod;
 mod fitting;
-mod guard;
 pub mod laws;
 mod limits;
-mod plain;
-mod search;
+mod owner_rule;
+mod plain_rows;
+mod root_guard;
+mod row_search;
 mod state;
-mod view;
 pub mod vocabulary;
 mod well_formed;
 
 pub use acl_list::about;
-pub use base::is_base;
+pub use base_form::is_base;
+pub use container_graph::container_view;
 pub use edits::{changed_row, with_moment};
+pub use first_pod::{first_pods_are_well_formed, first_snapshot};
 pub use fitting::{fits, snapshot};
-pub use guard::guards;
 pub use limits::{BASE_BYTES_LIMIT, CONTENT_TYPE_BYTES_LIMIT, ROWS_LIMIT};
-pub use plain::{PlainRows, StateFault, is_child_of, is_snapshot_well_formed, states_member};
+pub use plain_rows::{PlainRows, StateFault, is_child_of, is_snapshot_well_formed, states_member};
+pub use root_guard::guards;
 pub use state::{Effective, PodState};
-pub use view::container_view;
 pub use well_formed::{
     has_normal_path, has_right_kind, is_well_formed, lacks_containment, lacks_stored_containment,
 };

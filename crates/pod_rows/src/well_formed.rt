@@ -19,10 +19,10 @@ ghost use Rattle.pod_rows.specs.WellFormed.{lacks_containment, lacks_contained};
 ghost use Rattle.pod_rows.specs.WellFormed.{lacks_stored_containment};
 ghost use Rattle.pod_rows.specs.declared.limits.TheConstants.{ROWS_LIMIT};
 
-use crate::base::is_base;
-use crate::guard::guards;
+use crate::base_form::is_base;
 use crate::limits::{CONTENT_TYPE_BYTES_LIMIT, ROWS_LIMIT};
-use crate::search::{is_row, is_row_of, row_in};
+use crate::root_guard::guards;
+use crate::row_search::{is_row, is_row_of, row_in};
 use crate::vocabulary::LDP_CONTAINS;
 use acl_rules::vocabulary::is_iri;
 use iri_ref::Iri;

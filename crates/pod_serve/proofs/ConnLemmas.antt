@@ -24,13 +24,13 @@ use Rattle.published_view.specs.LookerState.{CountIncreasedByOne}
 use Rattle.token_table.specs.Credentials.{AskedAgent}
 use Rattle.pod_core.specs.Session.{IsRefused, Item, requests_of}
 use Rattle.world_laws.proofs.WorldLists.{nothing_more}
-use Rattle.pod_serve.specs.Served.{HasCause, IsAllWritten, IsHeard, IsWritten, Items, LinkView}
+use Rattle.pod_serve.specs.Served.{HasCause, IsAllWritten, AreEventsRead, IsWritten, Items, LinkView}
 use Rattle.pod_serve.specs.Turns.{IsNoted}
 use Rattle.pod_serve.specs.declared.upgrade.Upgrade.{Upgrade}
 use Rattle.pod_serve.specs.Serving.{IsLeft, IsLinkServed, SeatPasses, SeatTurns}
 use Rattle.pod_serve.specs.declared.requests_end.RequestsEnd.{RequestsEnd}
 use Rattle.pod_serve.specs.declared.requests_end.RequestsEnd.TheVariants as ends
-use Rattle.pod_serve.proofs.SeatedLemmas.{chain_notes, chain_walks}
+use Rattle.pod_serve.proofs.StoreAnswerLemmas.{chain_notes, chain_walks}
 use Rattle.pod_serve.proofs.WorldRunLemmas.{is_run}
 
 -- what a session has seen and counted stays
@@ -64,7 +64,7 @@ same_heard : (read : List ℕ) (events all : List Heard) (left rest : ℕ) → M
 same_heard read events all left rest h m = ([], append-nil events ∙ (messages_one read events all left rest h m).0)
 
 -- what was heard comes first in all that there is to hear
-heard_within : (end : RequestsEnd) (read : List ℕ) (events : List Heard) (left : Option (List ℕ)) → IsHeard end read events left → (all : List Heard) (rest : ℕ) → Messages read all rest → IsPrefix events all
+heard_within : (end : RequestsEnd) (read : List ℕ) (events : List Heard) (left : Option (List ℕ)) → AreEventsRead end read events left → (all : List Heard) (rest : ℕ) → Messages read all rest → IsPrefix events all
 heard_within ends.PeerEnded read events left h all rest m = same_heard read events all 0 rest h.0 m
 heard_within (ends.CutShort cut) read events left h all rest m = same_heard read events all cut rest h.0 m
 heard_within ends.Closed read events left h all rest m = same_heard read events all 0 rest h.0 m

@@ -14,8 +14,8 @@ use Rattle.pod_serve.specs.Desks.{Conns, DeskServed, EachDeskServed, GateView, I
 use Rattle.pod_serve.specs.Connections.{ConnServed}
 use Rattle.pod_serve.specs.Served.{LinkView}
 use Rattle.pod_serve.specs.Turns.{IsOneServed, NextServed}
-use Rattle.pod_serve.specs.declared.conn_end.ConnEnd.{ConnEnd}
-use Rattle.pod_serve.specs.declared.conn_end.ConnEnd.TheVariants as ends
+use Rattle.pod_serve.specs.declared.connection_end.ConnEnd.{ConnEnd}
+use Rattle.pod_serve.specs.declared.connection_end.ConnEnd.TheVariants as ends
 use Rattle.pod_serve.specs.declared.desk.DeskEnd.{DeskEnd}
 use Rattle.pod_serve.specs.declared.desk.DeskEnd.TheVariants.{GateEnded, GateFailed, NoMemory}
 use Rattle.pod_serve.specs.declared.desk.Next.TheVariants.{Over}

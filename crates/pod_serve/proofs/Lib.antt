@@ -4,7 +4,7 @@ mod DeskLemmas
 mod LinkLemmas
 mod PieceLemmas
 mod PoddLemmas
-mod SeatedLemmas
+mod StoreAnswerLemmas
 mod SentLemmas
 mod WorldRunLemmas
 mod WorldStepLemmas

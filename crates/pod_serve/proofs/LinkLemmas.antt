@@ -24,11 +24,11 @@ use Rattle.pod_io.specs.Counts.{next_count}
 use Rattle.pod_live.specs.Visits.{Visit}
 use Rattle.pod_pipe.specs.Statuses.{Hears}
 use Rattle.pod_pipe.specs.Streams.{AtEnd, Reads}
-use Rattle.pod_serve.specs.Served.{HasCause, end_reads, IsAllWritten, IsReadIn, IsTakenUp, IsWritten, Items, LinkView, MeetsEnd}
+use Rattle.pod_serve.specs.Served.{HasCause, end_reads, IsAllWritten, IsReadIn, IsTakenUp, IsWritten, Items, LinkView, MeetsLinkEnd}
 use Rattle.pod_serve.specs.Serving.{AfterTurn, FinishesAs, IsAnswered, IsEnded, IsLinkServed, IsOpenLink, IsReadLink, IsWrittenTo, requests_end_of, taken_with, unsent_end}
 use Rattle.pod_serve.specs.declared.requests_end.RequestsEnd.{RequestsEnd}
 use Rattle.pod_serve.specs.declared.requests_end.RequestsEnd.TheVariants as ends
-use Rattle.pod_serve.specs.declared.conn_end.TheConstants.{QUIET_LIMIT}
+use Rattle.pod_serve.specs.declared.connection_end.TheConstants.{QUIET_LIMIT}
 use Rattle.pod_serve.proofs.ArrivalLemmas.{end_arrives, none_arrives, one_arrives, then_answered}
 use Rattle.pod_serve.proofs.PieceLemmas.{all_requests, has_items, is_whole}
 
@@ -401,7 +401,7 @@ module _ {A : Type 0} (rules : Rules A) (first : A) (start : LinkView) (stage : 
 
       sent_end : (end : RequestsEnd) (e : IsEnded rules end number first after (s.text ++ piece) (s.written ++ out)) → end_reads end ≡ 0
           → ((end ≡ ends.NoPlace → ⊥) → IsWritten end start.counts next.counts (s.text ++ piece) e.events e.items (s.written ++ out))
-          → ((end ≡ ends.NoPlace → ⊥) → (before now_seen : Visit) → HasCause end start.counts next.counts before now_seen) → MeetsEnd end start.counts.ends next.counts.ends → IsLinkServed rules end first after start next
+          → ((end ≡ ends.NoPlace → ⊥) → (before now_seen : Visit) → HasCause end start.counts next.counts before now_seen) → MeetsLinkEnd end start.counts.ends next.counts.ends → IsLinkServed rules end first after start next
       sent_end end e none_ended serves cause met = record {
         read = s.text ++ piece;
         written = s.written ++ out;

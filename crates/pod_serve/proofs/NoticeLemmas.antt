@@ -20,8 +20,8 @@ use Rattle.pod_serve.specs.Connections.{ConnServed, FollowsRequests, IsPlainEnd,
 use Rattle.pod_serve.specs.Served.{LinkView, RequestsServed}
 use Rattle.pod_serve.specs.Turns.{IsFeedOf, IsNoted}
 use Rattle.pod_serve.specs.Upgrades.{IsAbout, last_item}
-use Rattle.pod_serve.specs.declared.conn_end.ConnEnd.{ConnEnd}
-use Rattle.pod_serve.specs.declared.conn_end.ConnEnd.TheVariants as ends
+use Rattle.pod_serve.specs.declared.connection_end.ConnEnd.{ConnEnd}
+use Rattle.pod_serve.specs.declared.connection_end.ConnEnd.TheVariants as ends
 use Rattle.pod_serve.specs.declared.requests_end.RequestsEnd.{RequestsEnd}
 use Rattle.pod_serve.specs.declared.requests_end.RequestsEnd.TheVariants as requests_ends
 use Rattle.pod_serve.specs.declared.upgrade.Upgrade.{Upgrade}

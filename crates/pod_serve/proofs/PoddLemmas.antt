@@ -27,8 +27,8 @@ use Rattle.published_view.specs.declared.fault.ViewFault.{ViewFault}
 use Rattle.published_view.specs.declared.fault.ViewFault.TheVariants as views
 use Rattle.journal_log.specs.Refusals.{open_status}
 use Rattle.pod_pipe.specs.Tables.{HasTableCause, TokenSource, table_status}
-use Rattle.pod_pipe.specs.declared.tokens.TableFault.{TableFault}
-use Rattle.pod_pipe.specs.declared.tokens.TableFault.TheVariants as tables
+use Rattle.pod_pipe.specs.declared.token_file.TableFault.{TableFault}
+use Rattle.pod_pipe.specs.declared.token_file.TableFault.TheVariants as tables
 use Rattle.token_table.specs.Credentials.{AskedAgent}
 use Rattle.token_table.specs.declared.table_line.TokenEntry.{TokenEntry}
 use Rattle.pod_serve.specs.Desks.{EachDeskServed, GateView, IsDeskEnd}

@@ -16,8 +16,8 @@ use Rattle.token_table.specs.Credentials.{AskedAgent}
 use Rattle.conn_talk.specs.Walks.{Walk}
 use Rattle.pod_serve.specs.Served.{Items, LinkView, RequestsServed}
 use Rattle.pod_serve.specs.Upgrades.{IsAbout, last_item}
-use Rattle.pod_serve.specs.declared.conn_end.ConnEnd.{ConnEnd}
-use Rattle.pod_serve.specs.declared.conn_end.ConnEnd.TheVariants as ends
+use Rattle.pod_serve.specs.declared.connection_end.ConnEnd.{ConnEnd}
+use Rattle.pod_serve.specs.declared.connection_end.ConnEnd.TheVariants as ends
 use Rattle.pod_serve.specs.declared.requests_end.RequestsEnd.{RequestsEnd}
 use Rattle.pod_serve.specs.declared.requests_end.RequestsEnd.TheVariants as requests_ends
 

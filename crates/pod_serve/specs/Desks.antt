@@ -16,8 +16,8 @@ use Rattle.token_table.specs.Credentials.{AskedAgent}
 use Rattle.socket_wire.specs.Counted.{WireCounts}
 use Rattle.pod_serve.specs.Connections.{ConnServed}
 use Rattle.pod_serve.specs.Served.{LinkView}
-use Rattle.pod_serve.specs.declared.conn_end.ConnEnd.{ConnEnd}
-use Rattle.pod_serve.specs.declared.conn_end.ConnEnd.TheVariants as ends
+use Rattle.pod_serve.specs.declared.connection_end.ConnEnd.{ConnEnd}
+use Rattle.pod_serve.specs.declared.connection_end.ConnEnd.TheVariants as ends
 use Rattle.pod_serve.specs.declared.desk.DeskEnd.{DeskEnd}
 use Rattle.pod_serve.specs.declared.desk.DeskEnd.TheVariants.{GateEnded, GateFailed, NoMemory}
 use Rattle.pod_serve.specs.declared.desk.TheConstants.{CONNECTION_LIMIT}

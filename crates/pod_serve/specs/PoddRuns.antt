@@ -26,7 +26,7 @@ use Rattle.published_view.specs.declared.fault.ViewFault.TheVariants as views
 use Rattle.journal_log.specs.Refusals.{TellsRefusal, open_status}
 use Rattle.pod_pipe.specs.StoreRuns.{TellsLine, fault_line}
 use Rattle.pod_pipe.specs.Tables.{HasTableCause, IsTable, IsUnread, TokenSource, table_status}
-use Rattle.pod_pipe.specs.declared.tokens.TableFault.{TableFault}
+use Rattle.pod_pipe.specs.declared.token_file.TableFault.{TableFault}
 use Rattle.token_table.specs.Credentials.{AskedAgent}
 use Rattle.token_table.specs.declared.table_line.TokenEntry.{TokenEntry}
 use Rattle.pod_serve.specs.Desks.{DeskServed, GateView}

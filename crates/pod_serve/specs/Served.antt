@@ -26,7 +26,7 @@ use Rattle.token_table.specs.Credentials.{AskedAgent}
 use Rattle.pod_serve.specs.declared.requests_end.RequestsEnd.{RequestsEnd}
 use Rattle.pod_serve.specs.declared.requests_end.RequestsEnd.TheVariants as ends
 use Rattle.pod_serve.specs.WorldRuns.{IsRun}
-use Rattle.pod_serve.specs.declared.conn_end.TheConstants.{QUIET_LIMIT}
+use Rattle.pod_serve.specs.declared.connection_end.TheConstants.{QUIET_LIMIT}
 
 -- What a link shows: the bytes that are left to be read and those that it has sent, where it shows
 -- them, and its counts.
@@ -63,29 +63,29 @@ faults_on (answered place reply) = 0
 faults_on no_memory = 0
 faults_on disk_fault = 1
 
-abbrev pub faults_in : List Item → ℕ
-faults_in [] = 0
-faults_in (item ∷ items) = faults_on item.outcome + faults_in items
+abbrev pub faults_of_items : List Item → ℕ
+faults_of_items [] = 0
+faults_of_items (item ∷ items) = faults_on item.outcome + faults_of_items items
 
 -- ---- what was read
 
 -- The events of the bytes that were read, and the input that is left, by how the connection ended.
 -- Where a write failed, or out of memory, they may be the first of them alone.
-abbrev pub IsHeard : RequestsEnd → List ℕ → List Heard → Option (List ℕ) → Type 0
-IsHeard ends.PeerEnded read heard left = Messages read heard 0 × StaysOpen 0 heard × AtEnd left
-IsHeard (ends.CutShort rest) read heard left = Messages read heard rest × (0 < rest)
+abbrev pub AreEventsRead : RequestsEnd → List ℕ → List Heard → Option (List ℕ) → Type 0
+AreEventsRead ends.PeerEnded read heard left = Messages read heard 0 × StaysOpen 0 heard × AtEnd left
+AreEventsRead (ends.CutShort rest) read heard left = Messages read heard rest × (0 < rest)
     × StaysOpen 0 heard × AtEnd left
-IsHeard ends.Closed read heard left = Messages read heard 0 × IsLastHeard heard
+AreEventsRead ends.Closed read heard left = Messages read heard 0 × IsLastHeard heard
     × (length (requests_of heard) < REQUEST_LIMIT)
-IsHeard ends.LimitReached read heard left = Messages read heard 0 × IsLastHeard heard
+AreEventsRead ends.LimitReached read heard left = Messages read heard 0 × IsLastHeard heard
     × (length (requests_of heard) ≡ REQUEST_LIMIT)
-IsHeard ends.Upgraded read heard left = (rest : ℕ) × Messages read heard rest
-IsHeard (ends.BadMessage status) read heard left = Messages read heard 0
+AreEventsRead ends.Upgraded read heard left = (rest : ℕ) × Messages read heard rest
+AreEventsRead (ends.BadMessage status) read heard left = Messages read heard 0
     × (bad_status heard ≡ Some status)
-IsHeard ends.Quiet read heard left = (rest : ℕ) × Messages read heard rest × StaysOpen 0 heard
-IsHeard ends.NoPlace read heard left = (rest : ℕ) × Messages read heard rest
-IsHeard ends.LinkFault read heard left = Hears read heard
-IsHeard ends.NoMemory read heard left = HearsFirst read heard
+AreEventsRead ends.Quiet read heard left = (rest : ℕ) × Messages read heard rest × StaysOpen 0 heard
+AreEventsRead ends.NoPlace read heard left = (rest : ℕ) × Messages read heard rest
+AreEventsRead ends.LinkFault read heard left = Hears read heard
+AreEventsRead ends.NoMemory read heard left = HearsFirst read heard
 
 -- ---- the reads of a connection
 
@@ -200,10 +200,10 @@ HasCause _ old new before after = Unit {0}
 
 -- The reads that found the end: the last read of a connection that ended there, and no other. So
 -- nothing is read after the end.
-abbrev pub MeetsEnd : RequestsEnd → ℕ → ℕ → Type 0
-MeetsEnd ends.PeerEnded old new = new ≡ next_count old
-MeetsEnd (ends.CutShort rest) old new = new ≡ next_count old
-MeetsEnd _ old new = new ≡ old
+abbrev pub MeetsLinkEnd : RequestsEnd → ℕ → ℕ → Type 0
+MeetsLinkEnd ends.PeerEnded old new = new ≡ next_count old
+MeetsLinkEnd (ends.CutShort rest) old new = new ≡ next_count old
+MeetsLinkEnd _ old new = new ≡ old
 
 -- ---- a connection
 
@@ -228,7 +228,7 @@ module _ (kept : History → Type 0) (first : ℕ) (may_give : ℕ → Type 0)
     pub run : (all : List Heard) (rest : ℕ) → Messages read all rest → (place : ℕ)
         → place ≤ first + length before.seen → IsRun kept may_give asking conn after.seen place
         arrivals.pieces items.list items.refusal read all
-    pub hears : IsHeard end read events new.rest
+    pub hears : AreEventsRead end read events new.rest
     pub walk : Walk kept first conn may_give before.seen items.list after.seen
     pub session : (history : History) → kept history → (list : List Entry)
         → IsPrefix after.seen list → IsSession may_give asking events
@@ -238,6 +238,6 @@ module _ (kept : History → Type 0) (first : ℕ) (may_give : ℕ → Type 0)
     pub serves : IsWritten end old.counts new.counts read events items written
     pub looks : after.looks ≡ before.looks + looks_in items.list
     pub changes : after.changes ≡ before.changes + changes_in items.list
-    pub faults : after.faults ≡ before.faults + faults_in items.list
+    pub faults : after.faults ≡ before.faults + faults_of_items items.list
     pub cause : HasCause end old.counts new.counts before after
-    pub ended : MeetsEnd end old.counts.ends new.counts.ends
+    pub ended : MeetsLinkEnd end old.counts.ends new.counts.ends

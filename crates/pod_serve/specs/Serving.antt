@@ -24,8 +24,8 @@ use Rattle.pod_live.specs.Visits.{IsTurnedAway, Visit}
 use Rattle.pod_pipe.specs.Streams.{Reads}
 use Rattle.reply_laws.specs.Granted.{is_change}
 use Rattle.token_table.specs.Credentials.{AskedAgent}
-use Rattle.pod_serve.specs.Served.{HasCause, IsAllWritten, IsHeard, IsWritten, IsWrittenUpTo, Items}
-use Rattle.pod_serve.specs.Served.{IsReadIn, LinkView, MeetsEnd, changes_in, end_reads, faults_in, faults_on, looks_in}
+use Rattle.pod_serve.specs.Served.{HasCause, IsAllWritten, AreEventsRead, IsWritten, IsWrittenUpTo, Items}
+use Rattle.pod_serve.specs.Served.{IsReadIn, LinkView, MeetsLinkEnd, changes_in, end_reads, faults_of_items, faults_on, looks_in}
 use Rattle.pod_serve.specs.Served.{looks_on}
 use Rattle.pod_serve.specs.declared.requests_end.RequestsEnd.{RequestsEnd}
 use Rattle.pod_serve.specs.declared.requests_end.RequestsEnd.TheVariants as ends
@@ -45,7 +45,7 @@ pub record SessionTurn (kept : History → Type 0) (first conn clock : ℕ) (old
   pub refused : old.refused ≤ new.refused
 
 -- A request that is no change found no place.
-pub record IsPassed (request : Request) (old new : Visit) : Type 0 where
+pub record FoundNoPlace (request : Request) (old new : Visit) : Type 0 where
   pub no_change : is_change request.method ≡ false
   pub away : IsTurnedAway old new
 
@@ -55,7 +55,7 @@ pub record SessionWalk (kept : History → Type 0) (first conn : ℕ) (may_give 
   pub walk : Walk kept first conn may_give old.seen items new.seen
   pub looks : new.looks ≡ old.looks + looks_in items
   pub changes : new.changes ≡ old.changes + changes_in items
-  pub faults : new.faults ≡ old.faults + faults_in items
+  pub faults : new.faults ≡ old.faults + faults_of_items items
   pub refused : old.refused ≤ new.refused
 
 -- What holds a session and a note by reference: their names, and what contracts see of them.
@@ -69,7 +69,7 @@ module _ {A X Y : Type 0} (name : A → X) (mark : A → Y) (visit : A → Visit
 
     abbrev pub SeatPasses : Request → A → A → Type 0
     SeatPasses request old new = (name old ≡ name new) × (mark old ≡ mark new)
-        × IsPassed request (visit old) (visit new)
+        × FoundNoPlace request (visit old) (visit new)
 
 -- ---- a link that holds bytes back
 
@@ -162,7 +162,7 @@ module _ {A : Type 0} (rules : Rules A) where
       : Type 0 where
     pub events : List Heard
     pub items : Items
-    pub hears : (left : Option (List ℕ)) → IsHeard end read events left
+    pub hears : (left : Option (List ℕ)) → AreEventsRead end read events left
     pub mid : A
     pub are_items : AreItems rules first mid items.list
     pub left : IsLeft end mid new events items written
@@ -232,7 +232,7 @@ module _ {A : Type 0} (rules : Rules A) where
     pub items : Items
     pub arrivals : IsReadIn (length items.list) (end_reads end) read old.counts.reads
         now.counts.reads
-    pub hears : IsHeard end read events now.rest
+    pub hears : AreEventsRead end read events now.rest
     pub mid : A
     pub are_items : AreItems rules first mid items.list
     pub left : IsLeft end mid new events items written
@@ -243,7 +243,7 @@ module _ {A : Type 0} (rules : Rules A) where
         → IsWritten end old.counts now.counts read events items written
     pub cause : (end ≡ ends.NoPlace → ⊥) → (before after : Visit)
         → HasCause end old.counts now.counts before after
-    pub ended : MeetsEnd end old.counts.ends now.counts.ends
+    pub ended : MeetsLinkEnd end old.counts.ends now.counts.ends
 
   -- what a turn of reading leads to
   abbrev pub AfterTurn : Option RequestsEnd → A → LinkView → ParserState → A → ℕ → ℕ → List ℕ → LinkView

@@ -18,7 +18,7 @@ use Rattle.socket_wire.specs.Passing.{PassesLink}
 use Rattle.pod_serve.specs.Connections.{ConnServed, wire_of}
 use Rattle.pod_serve.specs.Served.{LinkView, RequestsServed}
 use Rattle.pod_serve.specs.Upgrades.{IsAbout, last_item}
-use Rattle.pod_serve.specs.declared.conn_end.ConnEnd.{ConnEnd}
+use Rattle.pod_serve.specs.declared.connection_end.ConnEnd.{ConnEnd}
 use Rattle.pod_serve.specs.declared.desk.DeskEnd.TheVariants.{GateEnded, GateFailed, NoMemory}
 use Rattle.pod_serve.specs.declared.desk.Next.{Next}
 use Rattle.pod_serve.specs.declared.desk.Next.TheVariants.{Served, Over}

@@ -6,8 +6,8 @@ ghost use Rattle.pod_serve.specs.Desks.{AreDesksServed, DeskServed, IsDeskServed
 ghost use Rattle.pod_serve.specs.Turns.{NextServed};
 ghost use Rattle.pod_serve.specs.Served.{link_view_of};
 
-use crate::conn::serve_conn;
-use crate::conn_end::ConnEnd;
+use crate::connection::serve_conn;
+use crate::connection_end::ConnEnd;
 use conn_talk::Agents;
 use pod_io::{Clock, Failed, Gate};
 use pod_live::{CommittedEntry, Rounds, Seat, Session, StoreName};
@@ -53,7 +53,7 @@ fn has_starved(before: bool, end: ConnEnd) -> bool
 }
 
 /// How a desk ends whose gate ended so.
-fn end_of(out_of_memory: bool, end: DeskEnd) -> DeskEnd
+fn end_of_desk(out_of_memory: bool, end: DeskEnd) -> DeskEnd
     ensures { result ≡ (if out_of_memory then DeskEnd.NoMemory else end) }
 {
     if out_of_memory {
@@ -126,10 +126,10 @@ fn serve_gate<N: ViewName<CommittedEntry> + StoreName, L: Rounds<N>, G: Gate, C:
                 out_of_memory = has_starved(out_of_memory, end);
                 number += step;
             }
-            Next::Over(end) => return end_of(out_of_memory, end),
+            Next::Over(end) => return end_of_desk(out_of_memory, end),
         }
     }
-    end_of(out_of_memory, DeskEnd::GateEnded)
+    end_of_desk(out_of_memory, DeskEnd::GateEnded)
 }
 
 /// Serves one desk, and notes how it ended.

@@ -12,19 +12,19 @@
 //! a listener's gates, serves them, and gives the gates and the disks back.
 #![tactic(auto)]
 
-mod conn;
-mod conn_end;
+mod connection;
+mod connection_end;
 mod desk;
 mod link_output;
 mod notices;
-mod piece;
+mod piece_answers;
 mod podd;
 mod requests_end;
-mod seated;
+mod store_answers;
 mod upgrade;
 
-pub use conn::serve_conn;
-pub use conn_end::{ConnEnd, QUIET_LIMIT};
+pub use connection::serve_conn;
+pub use connection_end::{ConnEnd, QUIET_LIMIT};
 pub use desk::{CONNECTION_LIMIT, Desk, DeskEnd, Post, serve};
 pub use pod_feed::{FeedEnd, serve_feed};
 pub use pod_pipe::Status;

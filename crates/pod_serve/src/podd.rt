@@ -26,7 +26,7 @@ use pod_disk::{Disk, Disks, Place};
 use pod_io::{Clock, Gate, Listen, ListenFault, Sink, Source};
 use pod_keeper::{Keeper, NotOpened};
 use pod_live::{CommittedEntry, KeeperName, Live, Names, NotLive, Seat, Session, StoreName};
-use pod_pipe::{Status, read_table, refuse, tell_table};
+use pod_pipe::{Status, read_table, refuse, refuse_table};
 use program_words::{Settings, read_settings};
 use published_view::{Places, ViewFault, ViewName};
 use std::alloc::Global;
@@ -55,7 +55,7 @@ fn turned<G>(gates: List<G>) -> List<G>
 }
 
 /// Desks for these sessions and gates, in the order of the gates, in a list that has the room.
-fn seat_all<N: ViewName<CommittedEntry> + StoreName, G: Gate>(
+fn make_desks<N: ViewName<CommittedEntry> + StoreName, G: Gate>(
     alloc: Global,
     sessions: List<Session<N>>,
     gates: List<G>,
@@ -213,7 +213,7 @@ where
         (listen_view_of O.back O.faults listen.old) (listen_view_of O.back O.faults listen.new)
         result.0.0 }
 {
-    let mut desks = seat_all(alloc, sessions, gates, desks);
+    let mut desks = make_desks(alloc, sessions, gates, desks);
     let keeper = serve_desks(rt, alloc, live, agents, desks.as_mut_slice(), clock);
     let status = status_of_desks(desks.as_slice());
     close_desks(listen, desks);
@@ -381,7 +381,7 @@ where
 {
     match read_table(alloc, tokens) {
         Ok(table) => run_listener(rt, alloc, settings, keeper, table, listen, places, clock),
-        Err(fault) => (tell_table(fault, errors), keeper),
+        Err(fault) => (refuse_table(fault, errors), keeper),
     }
 }
 

@@ -3,16 +3,16 @@ use Rattle.std.proofs.Common.{◌≡◌, inl, inr, ℕ, IfSome, List, Option, So
 use Rattle.program_words.specs.declared.command.Asking.TheVariants.{ByTokens, Owner, Fresh}
 use Rattle.program_words.specs.declared.command.Command.{Command}
 use Rattle.program_words.specs.declared.command.Command.TheVariants.{Init, Pipe, Check, Audit, Load, Report, Ship, Follow}
-use Rattle.podctl_commands.specs.Ends.{IsInitEnd, status_of}
-use Rattle.podctl_commands.specs.declared.ends.StoreEnd.{StoreEnd}
-use Rattle.podctl_commands.specs.declared.ends.StoreEnd.TheVariants.{Done, WriteFault, Damaged, DiskFault, NoMemory, NotEmpty, Empty}
+use Rattle.podctl_commands.specs.Ends.{IsInitEnd, status_of_store_end}
+use Rattle.podctl_commands.specs.declared.store_end.StoreEnd.{StoreEnd}
+use Rattle.podctl_commands.specs.declared.store_end.StoreEnd.TheVariants.{Done, WriteFault, Damaged, DiskFault, NoMemory, NotEmpty, Empty}
 use Rattle.pod_pipe.specs.StoreRuns.{Streams}
 use Rattle.pod_pipe.specs.Tables.{IsUnread, TokenSource}
 use Rattle.pod_tool.specs.Runs.{Runs}
 use Rattle.pod_tool.specs.Stores.{IsIdle, IsUnbegun}
 
 -- the one end of status 6
-pub is_disk_fault : (end : StoreEnd) → status_of end ≡ 6 → end ≡ DiskFault
+pub is_disk_fault : (end : StoreEnd) → status_of_store_end end ≡ 6 → end ≡ DiskFault
 is_disk_fault DiskFault is = refl
 is_disk_fault Done is = absurd (omega (arith, is))
 is_disk_fault WriteFault is = absurd (omega (arith, is))
@@ -22,7 +22,7 @@ is_disk_fault NotEmpty is = absurd (omega (arith, is))
 is_disk_fault Empty is = absurd (omega (arith, is))
 
 -- no end of a making is by a fault of a stream
-pub init_reads : (end : StoreEnd) → IsInitEnd end → status_of end ≡ 3 → ⊥
+pub init_reads : (end : StoreEnd) → IsInitEnd end → status_of_store_end end ≡ 3 → ⊥
 init_reads Done h is = absurd (omega (arith, is))
 init_reads DiskFault h is = absurd (omega (arith, is))
 init_reads NoMemory h is = absurd (omega (arith, is))
@@ -31,7 +31,7 @@ init_reads WriteFault h is = absurd h
 init_reads (Damaged side at) h is = absurd h
 init_reads Empty h is = absurd h
 
-pub init_writes : (end : StoreEnd) → IsInitEnd end → status_of end ≡ 4 → ⊥
+pub init_writes : (end : StoreEnd) → IsInitEnd end → status_of_store_end end ≡ 4 → ⊥
 init_writes Done h is = absurd (omega (arith, is))
 init_writes DiskFault h is = absurd (omega (arith, is))
 init_writes NoMemory h is = absurd (omega (arith, is))

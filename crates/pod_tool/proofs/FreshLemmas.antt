@@ -1,7 +1,7 @@
 -- A connection of a new pod in memory.
 use Rattle.std.proofs.Common.{◌≡◌, ℕ, Bool, List, Option, None, refl, ap, subst, arith}
-use Rattle.first_rows.specs.FirstPods.{first_pod}
-use Rattle.first_rows.proofs.FirstPodLaws.{first_pods_well_formed}
+use Rattle.pod_rows.specs.FirstPods.{first_pod}
+use Rattle.pod_rows.proofs.FirstPodLaws.{first_pods_well_formed}
 use Rattle.pod_base.specs.declared.request.Request.{Request}
 use Rattle.pod_core.specs.History.{IsHistory}
 use Rattle.pod_core.specs.Session.{IsClockMoment, Item}
@@ -12,7 +12,7 @@ use Rattle.pod_pipe.specs.Served.{Leaves, WritesSession}
 use Rattle.pod_pipe.specs.Statuses.{PipesAndTells, status_of}
 use Rattle.pod_pipe.specs.Streams.{CountsInput}
 use Rattle.conn_talk.specs.declared.agents.Agents.TheVariants.{Owner}
-use Rattle.pod_pipe.specs.declared.memory.MemoryPod.{MemoryPod}
+use Rattle.pod_pipe.specs.declared.memory_pod.MemoryPod.{MemoryPod}
 use Rattle.pod_pipe.specs.declared.options.PipeOptions.{PipeOptions}
 use Rattle.pod_pipe.specs.declared.status.PipeEnd.{PipeEnd}
 use Rattle.pod_pipe.specs.declared.status.PipeEnd.TheVariants.{Peer, Cut, Closed, Limit, Upgraded, Bad, ReadFault, WriteFault, NoMemory, ReadLimit}

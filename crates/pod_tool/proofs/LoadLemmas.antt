@@ -8,7 +8,7 @@ use Rattle.token_table.specs.Credentials.{AskedAgent}
 use Rattle.conn_talk.specs.Agents.{asking_of}
 use Rattle.pod_pipe.specs.Statuses.{IsTold, PipesAndTells}
 use Rattle.conn_talk.specs.declared.agents.Agents.TheVariants.{Owner}
-use Rattle.pod_pipe.specs.declared.memory.MemoryPod.{MemoryPod}
+use Rattle.pod_pipe.specs.declared.memory_pod.MemoryPod.{MemoryPod}
 use Rattle.pod_pipe.specs.declared.options.PipeOptions.{PipeOptions}
 use Rattle.pod_pipe.specs.declared.status.PipeEnd.{PipeEnd}
 use Rattle.pod_pipe.proofs.Weaker.{pipes_weaker}

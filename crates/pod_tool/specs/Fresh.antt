@@ -1,6 +1,6 @@
 -- A new pod in memory.
 use Rattle.std.specs.Prelude.{◌≡◌, ℕ, Bool, List, [], codes}
-use Rattle.first_rows.specs.FirstPods.{first_pod}
+use Rattle.pod_rows.specs.FirstPods.{first_pod}
 use Rattle.pod_base.specs.declared.request.Request.{Request}
 use Rattle.pod_core.specs.History.{History}
 use Rattle.pod_core.specs.Session.{IsClockMoment, Item}

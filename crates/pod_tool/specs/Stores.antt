@@ -11,11 +11,11 @@ use Rattle.pod_io.specs.Visible.{IfVisible}
 use Rattle.pod_keeper.specs.CrashedPods.{StandsFor}
 use Rattle.pod_keeper.specs.NewStores.{new_history, IsNewStore}
 use Rattle.pod_keeper.specs.OpenedPods.{OpensDisks}
-use Rattle.podctl_commands.specs.Ends.{IsInitEnd, status_of}
+use Rattle.podctl_commands.specs.Ends.{IsInitEnd, status_of_store_end}
 use Rattle.podctl_commands.specs.Making.{HoldsBytes}
-use Rattle.podctl_commands.specs.Prints.{Prints, Tells}
-use Rattle.podctl_commands.specs.declared.ends.StoreEnd.{StoreEnd}
-use Rattle.podctl_commands.specs.declared.ends.StoreEnd.TheVariants.{Done, NoMemory, NotEmpty}
+use Rattle.podctl_commands.specs.Prints.{Prints, ReportsDamage}
+use Rattle.podctl_commands.specs.declared.store_end.StoreEnd.{StoreEnd}
+use Rattle.podctl_commands.specs.declared.store_end.StoreEnd.TheVariants.{Done, NoMemory, NotEmpty}
 use Rattle.pod_pipe.specs.StoreRuns.{IsUnserved, RunsStore, Streams}
 use Rattle.pod_pipe.specs.Tables.{IsUnread, TokenSource}
 
@@ -58,7 +58,7 @@ module _ {D : Type 0} (content : D → Option (List ℕ)) (image : D → List �
     pub record Makes (may_give : ℕ → Type 0) (base owner : List ℕ) (status : ℕ) : Type 0 where
       pub end : StoreEnd
       pub is_end : IsInitEnd end
-      pub status_is : status ≡ status_of end
+      pub status_is : status ≡ status_of_store_end end
       pub made : end ≡ Done → (made : ℕ) × IsClockMoment may_give made
           × EachPair (image first_new) (image second_new)
           (StandsFor (new_history base owner (record { 0 = made })))
@@ -87,9 +87,9 @@ module _ {D : Type 0} (content : D → Option (List ℕ)) (image : D → List �
         (old_output new_output old_errors new_errors : Option (List ℕ)) (before after status : ℕ)
         : Type 0 where
       pub end : StoreEnd
-      pub status_is : status ≡ status_of end
+      pub status_is : status ≡ status_of_store_end end
       pub prints : Prints text (content first) (content second) old_output new_output end
-      pub tells : Tells end old_errors new_errors before after
+      pub tells : ReportsDamage end old_errors new_errors before after
       pub disks : OpensDisks image moment left_since faults first second first_new second_new
 
     -- The frames of the store were written, or why not. The disks are as an opening leaves them.
@@ -97,9 +97,9 @@ module _ {D : Type 0} (content : D → Option (List ℕ)) (image : D → List �
         (old_output new_output old_errors new_errors : Option (List ℕ)) (before after status : ℕ)
         : Type 0 where
       pub end : StoreEnd
-      pub status_is : status ≡ status_of end
+      pub status_is : status ≡ status_of_store_end end
       pub ships : Ships (content first) (content second) old_output new_output end
-      pub tells : Tells end old_errors new_errors before after
+      pub tells : ReportsDamage end old_errors new_errors before after
       pub disks : OpensDisks image moment left_since faults first second first_new second_new
 
     -- The text was printed, or why not; or memory ran out before.

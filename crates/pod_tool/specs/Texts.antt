@@ -3,8 +3,8 @@ use Rattle.std.specs.Prelude.{ℕ, List}
 use Rattle.podctl_commands.specs.Lines.{report_text}
 use Rattle.pod_command.specs.declared.entry.Entry.{Entry}
 use Rattle.pod_command.specs.declared.snapshot.Snapshot.{Snapshot}
-use Rattle.pod_tool.specs.declared.stores.Printing.{Printing}
-use Rattle.pod_tool.specs.declared.stores.Printing.TheVariants.{Counts, Entries, Report}
+use Rattle.pod_tool.specs.declared.store_commands.Printing.{Printing}
+use Rattle.pod_tool.specs.declared.store_commands.Printing.TheVariants.{Counts, Entries, Report}
 use Rattle.podctl_commands.specs.Texts.{audit_text, check_text}
 
 -- internal: the text of each

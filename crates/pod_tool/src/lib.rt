@@ -18,16 +18,16 @@
 //! `load_generator`.
 #![tactic(auto)]
 
-mod following;
-mod fresh;
-mod loading;
+mod follow_command;
+mod fresh_pipe;
+mod load_command;
 mod podctl;
-mod stores;
+mod store_commands;
 
 pub use pod_pipe::Status;
 pub use podctl::run_podctl;
 
 #[cfg(test)]
-mod dialogue;
+mod test_dialogue;
 #[cfg(test)]
 mod tests;

@@ -9,10 +9,10 @@ ghost use Rattle.pod_tool.specs.Runs.{Runs, streams_of};
 ghost use Rattle.program_words.specs.Readings.{IsSound, reading};
 ghost use Rattle.pod_pipe.specs.Tables.{tokens_of};
 
-use crate::following::follow_streams;
-use crate::fresh::pipe_fresh;
-use crate::loading::load;
-use crate::stores::{Printing, init_store, print_store, report_store, ship_store};
+use crate::follow_command::follow_streams;
+use crate::fresh_pipe::pipe_fresh;
+use crate::load_command::load;
+use crate::store_commands::{Printing, init_store, print_store, report_store, ship_store};
 use pod_disk::{Disk, Place};
 use pod_io::{Clock, Sink, Source};
 use pod_pipe::{PipeEnd, Status, pipe_store};

@@ -3,7 +3,7 @@
 ghost use Rattle.std.specs.Prelude.{IfOk, IsSome};
 
 use super::*;
-use crate::dialogue::{Listener, Speaker};
+use crate::test_dialogue::{Listener, Speaker};
 use pod_base::Mem;
 use pod_disk::{Disks, MemDisk, Place};
 use pod_io::{MemSink, MemSource, SetClock, Sink, Source, StdSink, StdSource};

@@ -12,9 +12,9 @@ use Rattle.pod_keeper.specs.KeeperState.{KeeperState}
 use Rattle.pod_keeper.specs.OpenedPods.{IsOpened}
 use Rattle.pod_records.specs.OpenedStores.{HasPodCause}
 use Rattle.podctl_commands.specs.Ends.{refused_end}
-use Rattle.podctl_commands.specs.Prints.{Prints, Tells}
-use Rattle.podctl_commands.specs.declared.ends.StoreEnd.{StoreEnd}
-use Rattle.podctl_commands.specs.declared.ends.StoreEnd.TheVariants as ends
+use Rattle.podctl_commands.specs.Prints.{Prints, ReportsDamage}
+use Rattle.podctl_commands.specs.declared.store_end.StoreEnd.{StoreEnd}
+use Rattle.podctl_commands.specs.declared.store_end.StoreEnd.TheVariants as ends
 use Rattle.podctl_commands.proofs.Refused.{store_of}
 use Rattle.podctl_commands.specs.Endings.{AreStored, IsReportedSo, written_end}
 use Rattle.podctl_commands.specs.Ships.{Ships}
@@ -61,7 +61,7 @@ module _ {D : Type 0} (image : D → List ℕ → Type 0) (first second : Option
   prints text ends.NotEmpty w = absurd w
   prints text ends.Empty w = absurd w
 
-pub written_told : (written : Result (Unit {0}) Failed) (old : Option (List ℕ)) (before after : ℕ) → Tells (written_end written) old old before after
+pub written_told : (written : Result (Unit {0}) Failed) (old : Option (List ℕ)) (before after : ℕ) → ReportsDamage (written_end written) old old before after
 written_told (Ok done) old before after = refl
 written_told (Err failed) old before after = refl
 
@@ -79,7 +79,7 @@ pub written_so : (written : Result (Unit {0}) Failed) (text : List ℕ) (old new
 written_so (Ok done) text old new w = w.whole
 written_so (Err failed) text old new w = w.part
 
-pub reported_told : (end : StoreEnd) (text : List ℕ) (from to : Option (List ℕ)) → IsReportedSo text from to end → (old : Option (List ℕ)) (before after : ℕ) → Tells end old old before after
+pub reported_told : (end : StoreEnd) (text : List ℕ) (from to : Option (List ℕ)) → IsReportedSo text from to end → (old : Option (List ℕ)) (before after : ℕ) → ReportsDamage end old old before after
 reported_told ends.Done text from to w old before after = refl
 reported_told ends.WriteFault text from to w old before after = refl
 reported_told ends.NoMemory text from to w old before after = refl

@@ -3,7 +3,7 @@ use Rattle.std.proofs.Common.{◌≡◌, ◌⊎◌, inl, inr, ℕ, ◌+◌, List
 use Rattle.std.specs.List.{AllByRecursion}
 use Rattle.journal_log.specs.declared.fault.Side.{Side}
 use Rattle.journal_pair.specs.PairLaws.{StoreStandsOnce, StoreStandsOrDamaged, StoreEmptyOnly, StoreDamagedOnce}
-use Rattle.pod_command.specs.StoredForms.{snapshot_bytes}
+use Rattle.stored_forms.specs.StoredForms.{snapshot_bytes}
 use Rattle.pod_command.specs.declared.entry.Entry.{Entry}
 use Rattle.pod_command.specs.declared.snapshot.Snapshot.{Snapshot}
 use Rattle.pod_records.specs.PodStores.{BreaksAfter, HasBadContent, gate_after}

@@ -9,9 +9,9 @@ use Rattle.pod_rows.specs.State.{NumberedPod}
 use Rattle.podctl_commands.specs.FollowEnds.{NeverEnds}
 use Rattle.podctl_commands.specs.Following.{Follows, FollowsAll, IsRefused}
 use Rattle.podctl_commands.specs.Steps.{FollowedOne, FollowedTo, Leaves, Stopped, StoppedIn}
-use Rattle.podctl_commands.specs.declared.following.FrameFault.{FrameFault}
-use Rattle.podctl_commands.specs.declared.following.FrameFault.TheVariants as faults
-use Rattle.podctl_commands.specs.declared.following.Following.{Following}
+use Rattle.podctl_commands.specs.declared.frame_input.FrameFault.{FrameFault}
+use Rattle.podctl_commands.specs.declared.frame_input.FrameFault.TheVariants as faults
+use Rattle.podctl_commands.specs.declared.frame_input.Following.{Following}
 
 pub follows_join : (xs ys : List (List ℕ)) (old mid new : Option NumberedPod) (text more : List ℕ) → FollowsAll old xs text mid → FollowsAll mid ys more new → FollowsAll old (xs ++ ys) (text ++ more) new
 follows_join [] ys old mid new text more (none, same) after =

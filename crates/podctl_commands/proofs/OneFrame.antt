@@ -1,7 +1,7 @@
 -- What can be made of one frame.
 use Rattle.std.proofs.Common.{◌≡◌, ◌⊎◌, inl, inr, ℕ, ◌==◌, if◌then◌else◌, Bool, true, false, List, [], ◌∷◌, Option, Some, None, Result, Ok, Err, IfOk, IfSome, refl, sym, ap, subst, ◌∙◌, rules, arith}
 use Rattle.std.proofs.lemmas.Option.{same_Some}
-use Rattle.pod_command.specs.StoredForms.{entry_1_bytes, entry_bytes}
+use Rattle.stored_forms.specs.StoredForms.{entry_1_bytes, entry_bytes}
 use Rattle.pod_command.specs.declared.entry.Entry.{Entry}
 use Rattle.pod_command.specs.declared.snapshot.Snapshot.{Snapshot}
 use Rattle.pod_follow.specs.Followed.{IsEntryText, IsTheEntry, Takes}
@@ -12,7 +12,7 @@ use Rattle.pod_records.specs.Readings.{IsSnapshotOf}
 use Rattle.pod_records.specs.Records.{entry_text}
 use Rattle.pod_rows.specs.Apply.{Applies}
 use Rattle.pod_rows.specs.State.{NumberedPod}
-use Rattle.podctl_commands.specs.Following.{Follows, IsPassed, IsRefused}
+use Rattle.podctl_commands.specs.Following.{Follows, IsPassedEntry, IsRefused}
 use Rattle.podctl_commands.specs.Reads.{IsRead, IsReadText}
 use Rattle.podctl_commands.specs.Steps.{IsStarted, ReadsOn}
 
@@ -28,7 +28,7 @@ pub entry_no_read : (body rest : List ℕ) (entry : Entry) → IsEntryText body 
 entry_no_read body rest entry (format, is) read = entry_by (format == 1) entry rest (sym is.form ∙ read)
 
 -- an entry that was taken is one
-pub passed_entry : (old new : NumberedPod) (body : List ℕ) (answer : Took) → Takes old body new answer → IsPassed answer → (entry : Entry) × IsEntryText body entry
+pub passed_entry : (old new : NumberedPod) (body : List ℕ) (answer : Took) → Takes old body new answer → IsPassedEntry answer → (entry : Entry) × IsEntryText body entry
 passed_entry old new body took.Applied (entry, the, takes) passed = (entry, the.is)
 passed_entry old new body (took.Old seq next) (entry, the, takes) passed = (entry, the.is)
 passed_entry old new body (took.Ahead seq next) (entry, the, takes) passed = (entry, the.is)
@@ -36,7 +36,7 @@ passed_entry old new body (took.Unfit seq) takes passed = absurd passed
 passed_entry old new body took.NotEntry takes passed = absurd passed
 
 -- one that is the next and doesn't apply isn't passed
-unfit_passed : (old new : NumberedPod) (body : List ℕ) (entry : Entry) → IsTheEntry body entry → entry.seq ≡ old.next → (Applies old.pod old.next entry → ⊥) → (answer : Took) → Takes old body new answer → IsPassed answer → ⊥
+unfit_passed : (old new : NumberedPod) (body : List ℕ) (entry : Entry) → IsTheEntry body entry → entry.seq ≡ old.next → (Applies old.pod old.next entry → ⊥) → (answer : Took) → Takes old body new answer → IsPassedEntry answer → ⊥
 unfit_passed old new body entry the number unfit took.Applied (other, their, (applies, after)) passed =
     unfit (applies_alike old.pod old.next entry other (the.only other their.is) applies)
 unfit_passed old new body entry the number unfit (took.Old seq next) (other, their, (a, b, less, same)) passed =
@@ -48,7 +48,7 @@ unfit_passed old new body entry the number unfit (took.Ahead seq next) (other, t
 unfit_passed old new body entry the number unfit (took.Unfit seq) takes passed = absurd passed
 unfit_passed old new body entry the number unfit took.NotEntry takes passed = absurd passed
 
-pub reads_passed : (old new : NumberedPod) (body : List ℕ) (answer : Took) → Takes old body new answer → IsPassed answer → ReadsOn old body [] new
+pub reads_passed : (old new : NumberedPod) (body : List ℕ) (answer : Took) → Takes old body new answer → IsPassedEntry answer → ReadsOn old body [] new
 reads_passed old new body answer takes passed = inl (record { took = answer; takes = takes; passed = passed; silent = refl })
 
 pub unfit_refused : (old new : NumberedPod) (body : List ℕ) (seq : ℕ) → Takes old body new (took.Unfit seq) → (text : List ℕ) (after : NumberedPod) → ReadsOn old body text after → ⊥

@@ -7,14 +7,14 @@ use Rattle.pod_command.specs.declared.snapshot.Snapshot.{Snapshot}
 use Rattle.pod_keeper.specs.KeeperState.{KeeperState}
 use Rattle.pod_keeper.specs.OpenedPods.{IsOpened}
 use Rattle.pod_records.specs.Records.{entry_text}
-use Rattle.podctl_commands.specs.Prints.{IsStoreOf, Prints, Tells}
+use Rattle.podctl_commands.specs.Prints.{IsStoreOf, Prints, ReportsDamage}
 use Rattle.podctl_commands.specs.Records.{printed_end}
 use Rattle.podctl_commands.specs.Ends.{IsMadeEnd}
 use Rattle.podctl_commands.specs.Texts.{check_text, counts_line}
-use Rattle.podctl_commands.specs.declared.ends.StoreEnd.{StoreEnd}
-use Rattle.podctl_commands.specs.declared.ends.StoreEnd.TheVariants as ends
-use Rattle.podctl_commands.specs.declared.printing.PrintFault.{PrintFault}
-use Rattle.podctl_commands.specs.declared.printing.PrintFault.TheVariants as printing
+use Rattle.podctl_commands.specs.declared.store_end.StoreEnd.{StoreEnd}
+use Rattle.podctl_commands.specs.declared.store_end.StoreEnd.TheVariants as ends
+use Rattle.podctl_commands.specs.declared.store_printing.PrintFault.{PrintFault}
+use Rattle.podctl_commands.specs.declared.store_printing.PrintFault.TheVariants as printing
 
 -- a store that was opened
 module _ (text : Snapshot → List Entry → List ℕ) (first second old new : Option (List ℕ)) (snapshot : Snapshot) (entries : List Entry) (opened : IsStoreOf first second snapshot entries) where
@@ -23,7 +23,7 @@ module _ (text : Snapshot → List Entry → List ℕ) (first second old new : O
   prints (Err printing.WriteFault) w = record { snapshot = snapshot; entries = entries; opened = opened; count = w.part.0; printed = w.part.2 }
   prints (Err printing.NoMemory) w = inr (record { snapshot = snapshot; entries = entries; opened = opened; count = w.part.0; printed = w.part.2 })
 
-pub printed_told : (printed : Result (Unit {0}) PrintFault) (old : Option (List ℕ)) (before after : ℕ) → Tells (printed_end printed) old old before after
+pub printed_told : (printed : Result (Unit {0}) PrintFault) (old : Option (List ℕ)) (before after : ℕ) → ReportsDamage (printed_end printed) old old before after
 printed_told (Ok done) old before after = refl
 printed_told (Err printing.WriteFault) old before after = refl
 printed_told (Err printing.NoMemory) old before after = refl

@@ -5,7 +5,7 @@ use Rattle.std.specs.List.{AllByRecursion, flat_map}
 use Rattle.audit_trail.specs.Lines.{entry_line}
 use Rattle.pod_io.specs.Writing.{ExtendsBy, ExtendsByPart, Writes}
 use Rattle.pod_io.proofs.Extending.{extends_more, nothing_added, part_after, part_before, writes_failed}
-use Rattle.pod_command.specs.StoredForms.{entry_bytes, entry_1_bytes}
+use Rattle.stored_forms.specs.StoredForms.{entry_bytes, entry_1_bytes}
 use Rattle.pod_command.specs.declared.entry.Entry.{Entry}
 use Rattle.pod_records.specs.Readings.{IsEntryOf}
 use Rattle.pod_records.specs.Records.{IsEntryIn, entry_text}

@@ -9,14 +9,14 @@ use Rattle.pod_base.specs.declared.heard.Heard.{Heard}
 use Rattle.pod_base.specs.declared.heard.Heard.TheVariants as heard
 use Rattle.pod_base.specs.declared.moment.Moment.{Moment}
 use Rattle.pod_base.specs.declared.request.Request.{Request}
-use Rattle.pod_command.specs.Readers.{Fails, after_tag, both, mapped, no_tag, number_at, tagged}
-use Rattle.pod_command.specs.Reading.{agent_at}
-use Rattle.pod_command.specs.Storable.{IsNumber, IsStorableAgent}
-use Rattle.pod_command.specs.StoredForms.{agent_bytes, number_bytes}
-use Rattle.pod_command.specs.declared.read_back.ReadBack.{ReadBack}
-use Rattle.pod_command.specs.declared.read_back.ReadBack.TheVariants as backs
-use Rattle.pod_command.proofs.Forms.{agent_reads}
-use Rattle.pod_command.proofs.ReadLaws.{AfterTags, IsBytes, Reads, both_reads, mapped_again, no_tags, number_reads, tag_case, tagged_reads}
+use Rattle.stored_forms.specs.Readers.{Fails, after_tag, both, mapped, no_tag, number_at, tagged}
+use Rattle.stored_forms.specs.Reading.{agent_at}
+use Rattle.stored_forms.specs.Storable.{IsNumber, IsStorableAgent}
+use Rattle.stored_forms.specs.StoredForms.{agent_bytes, number_bytes}
+use Rattle.stored_forms.specs.declared.read_back.ReadBack.{ReadBack}
+use Rattle.stored_forms.specs.declared.read_back.ReadBack.TheVariants as backs
+use Rattle.stored_forms.proofs.Forms.{agent_reads}
+use Rattle.stored_forms.proofs.ReadLaws.{AfterTags, IsBytes, Reads, both_reads, mapped_again, no_tags, number_reads, tag_case, tagged_reads}
 use Rattle.podctl_commands.specs.Heads.{ReadHead, head_of, read_head_at}
 use Rattle.podctl_commands.specs.Reads.{IsRead, IsReadRequest}
 

@@ -10,11 +10,11 @@ use Rattle.pod_keeper.specs.OpenedPods.{IsOpened}
 use Rattle.pod_records.specs.OpenedStores.{HasPodCause}
 use Rattle.journal_log.specs.Refusals.{TellsRefusal}
 use Rattle.podctl_commands.specs.Ends.{refused_end}
-use Rattle.podctl_commands.specs.Prints.{IsStoreOf, Prints, Tells}
-use Rattle.podctl_commands.specs.declared.ends.StoreEnd.TheVariants as ends
+use Rattle.podctl_commands.specs.Prints.{IsStoreOf, Prints, ReportsDamage}
+use Rattle.podctl_commands.specs.declared.store_end.StoreEnd.TheVariants as ends
 
 -- what is reported of it is what the command reports by its end
-pub refused_tells : (fault : OpenFault) (old new : Option (List ℕ)) (before after : ℕ) → TellsRefusal fault old new before after → Tells (refused_end fault) old new before after
+pub refused_tells : (fault : OpenFault) (old new : Option (List ℕ)) (before after : ℕ) → TellsRefusal fault old new before after → ReportsDamage (refused_end fault) old new before after
 refused_tells opening.Empty old new before after told = told
 refused_tells (opening.Damaged side at) old new before after told = told
 refused_tells opening.DiskFault old new before after told = told

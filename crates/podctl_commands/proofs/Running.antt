@@ -4,20 +4,20 @@ use Rattle.std.specs.Prelude.{IsErrOf}
 use Rattle.std.proofs.lemmas.Bool.Decides.{nat_tests}
 use Rattle.pod_io.specs.Writing.{ExtendsBy, ExtendsByPart}
 use Rattle.pod_io.proofs.Extending.{extends_more, nothing_added}
-use Rattle.pod_command.specs.StoredForms.{number_bytes}
-use Rattle.pod_command.proofs.ReadLaws.{number_length}
+use Rattle.stored_forms.specs.StoredForms.{number_bytes}
+use Rattle.stored_forms.proofs.ReadLaws.{number_length}
 use Rattle.pod_follow.specs.Frames.{HasNoFrame, frame_of, frames_of}
 use Rattle.pod_io.specs.Counts.{next_count}
 use Rattle.pod_pipe.specs.Streams.{AddsReads, AtEnd, Reads}
 use Rattle.pod_rows.specs.State.{NumberedPod}
-use Rattle.podctl_commands.specs.FollowEnds.{ComesOf, CountsInput, EndsSo, FollowsInput, IsUnfinished, MeetsEnd}
+use Rattle.podctl_commands.specs.FollowEnds.{ComesOf, CountsFrames, EndsSo, FollowsInput, IsUnfinished, MeetsFramesEnd}
 use Rattle.podctl_commands.specs.Following.{Follows, FollowsAll, IsRefused}
-use Rattle.podctl_commands.specs.Steps.{FollowedTo, Leaves, Stopped, end_at, end_of, fault_end}
-use Rattle.podctl_commands.specs.declared.end.FollowEnd.{FollowEnd}
-use Rattle.podctl_commands.specs.declared.end.FollowEnd.TheVariants as ends
-use Rattle.podctl_commands.specs.declared.following.FrameFault.{FrameFault}
-use Rattle.podctl_commands.specs.declared.following.FrameFault.TheVariants as faults
-use Rattle.podctl_commands.specs.declared.following.Following.{Following}
+use Rattle.podctl_commands.specs.Steps.{FollowedTo, Leaves, Stopped, end_at, end_of_frames, fault_end}
+use Rattle.podctl_commands.specs.declared.follow_end.FollowEnd.{FollowEnd}
+use Rattle.podctl_commands.specs.declared.follow_end.FollowEnd.TheVariants as ends
+use Rattle.podctl_commands.specs.declared.frame_input.FrameFault.{FrameFault}
+use Rattle.podctl_commands.specs.declared.frame_input.FrameFault.TheVariants as faults
+use Rattle.podctl_commands.specs.declared.frame_input.Following.{Following}
 use Rattle.podctl_commands.proofs.ManyFrames.{followed_join, followed_none, stopped_join}
 
 abbrev pub begun : Following
@@ -104,7 +104,7 @@ module _ (first last : Option (List ℕ)) (following : Following) (kept : List �
     cut_end : ((kept ≡ [] → ⊥) ⊎ (r.followed.bodies ≡ [])) → FollowsInput (ends.BadFrame following.frames) first end_last out out_now
     cut_end cut = between (ends.BadFrame following.frames) end_last reads (omega (arith, r.followed.frames), refl, inr (inr (record { unfinished = r.unfinished; cut = cut; at_end = at_end })))
 
-    by_state : (state : Option NumberedPod) (whole : Bool) → following.follower ≡ state → (whole ≡ true → kept ≡ []) → (whole ≡ false → kept ≡ [] → ⊥) → FollowsInput (end_of state following.frames whole) first end_last out out_now
+    by_state : (state : Option NumberedPod) (whole : Bool) → following.follower ≡ state → (whole ≡ true → kept ≡ []) → (whole ≡ false → kept ≡ [] → ⊥) → FollowsInput (end_of_frames state following.frames whole) first end_last out out_now
     by_state (Some state) true is none some = whole_end state is (none refl)
     by_state (Some state) false is none some = cut_end (inl (some refl))
     by_state None whole is none some = cut_end (inr (no_bodies r.followed.bodies r.followed.text (subst (λ (s : Option NumberedPod). FollowsAll None r.followed.bodies r.followed.text s) is r.followed.follows)))
@@ -185,10 +185,10 @@ told_after ends.WriteFault told first last out out_now (inr (done, is)) f = absu
 told_after ends.NoMemory told first last out out_now (inr (done, is)) f = absurd done
 told_after ends.ReadLimit told first last out out_now (inr (done, is)) f = absurd done
 
-pub counted_after : (end told : FollowEnd) (reads reads_now met met_now : ℕ) → ComesOf end told → CountsInput end reads reads_now met met_now → CountsInput told reads reads_now met met_now
-counted_after end told reads reads_now met met_now (inl same) c = subst (λ (e : FollowEnd). CountsInput e reads reads_now met met_now) (sym same) c
+pub counted_after : (end told : FollowEnd) (reads reads_now met met_now : ℕ) → ComesOf end told → CountsFrames end reads reads_now met met_now → CountsFrames told reads reads_now met met_now
+counted_after end told reads reads_now met met_now (inl same) c = subst (λ (e : FollowEnd). CountsFrames e reads reads_now met met_now) (sym same) c
 counted_after (ends.Done next) told reads reads_now met met_now (inr (done, is)) c =
-    subst (λ (e : FollowEnd). CountsInput e reads reads_now met met_now) (sym is) (record { reads = c.reads; limit = λ e. absurd (let never = e in cc); ends = inr c.ends })
+    subst (λ (e : FollowEnd). CountsFrames e reads reads_now met met_now) (sym is) (record { reads = c.reads; limit = λ e. absurd (let never = e in cc); ends = inr c.ends })
 counted_after (ends.BadFrame frame) told reads reads_now met met_now (inr (done, is)) c = absurd done
 counted_after ends.ReadFault told reads reads_now met met_now (inr (done, is)) c = absurd done
 counted_after ends.WriteFault told reads reads_now met met_now (inr (done, is)) c = absurd done
@@ -212,12 +212,12 @@ pub some_is : (kept : List ℕ) (whole : Bool) → whole ≡ (length kept == 0) 
 some_is [] whole is e none = let never : true ≡ false = sym is ∙ e in cc
 some_is (x ∷ xs) whole is e none = absurd cc
 
-ends_read : (state : Option NumberedPod) (frames : ℕ) (whole : Bool) → end_of state frames whole ≡ ends.ReadFault → ⊥
+ends_read : (state : Option NumberedPod) (frames : ℕ) (whole : Bool) → end_of_frames state frames whole ≡ ends.ReadFault → ⊥
 ends_read (Some state) frames true e = cc
 ends_read (Some state) frames false e = cc
 ends_read None frames whole e = cc
 
-ends_write : (state : Option NumberedPod) (frames : ℕ) (whole : Bool) → end_of state frames whole ≡ ends.WriteFault → ⊥
+ends_write : (state : Option NumberedPod) (frames : ℕ) (whole : Bool) → end_of_frames state frames whole ≡ ends.WriteFault → ⊥
 ends_write (Some state) frames true e = cc
 ends_write (Some state) frames false e = cc
 ends_write None frames whole e = cc
@@ -240,15 +240,15 @@ write_is faults.TooLong frames e = absurd cc
 write_is faults.WriteFault frames e = refl
 write_is faults.NoMemory frames e = absurd cc
 
-ends_counted : (state : Option NumberedPod) (frames : ℕ) (whole : Bool) (reads reads_now met met_now : ℕ) → AddsReads reads reads_now → met_now ≡ next_count met → CountsInput (end_of state frames whole) reads reads_now met met_now
+ends_counted : (state : Option NumberedPod) (frames : ℕ) (whole : Bool) (reads reads_now met met_now : ℕ) → AddsReads reads reads_now → met_now ≡ next_count met → CountsFrames (end_of_frames state frames whole) reads reads_now met met_now
 ends_counted (Some state) frames true reads reads_now met met_now few is = record { reads = few; limit = λ e. absurd cc; ends = is }
 ends_counted (Some state) frames false reads reads_now met met_now few is = record { reads = few; limit = λ e. absurd cc; ends = inr is }
 ends_counted None frames whole reads reads_now met met_now few is = record { reads = few; limit = λ e. absurd cc; ends = inr is }
 
-pub counts_at_end : (following : Following) (whole : Bool) (reads reads_now met met_now : ℕ) → AddsReads reads reads_now → met_now ≡ next_count met → CountsInput (end_at following whole) reads reads_now met met_now
+pub counts_at_end : (following : Following) (whole : Bool) (reads reads_now met met_now : ℕ) → AddsReads reads reads_now → met_now ≡ next_count met → CountsFrames (end_at following whole) reads reads_now met met_now
 counts_at_end following whole reads reads_now met met_now few is = ends_counted following.follower following.frames whole reads reads_now met met_now few is
 
-pub counts_at_fault : (fault : FrameFault) (frames reads reads_now met met_now : ℕ) → AddsReads reads reads_now → met_now ≡ met → CountsInput (fault_end fault frames) reads reads_now met met_now
+pub counts_at_fault : (fault : FrameFault) (frames reads reads_now met met_now : ℕ) → AddsReads reads reads_now → met_now ≡ met → CountsFrames (fault_end fault frames) reads reads_now met met_now
 counts_at_fault faults.Refused frames reads reads_now met met_now few is = record { reads = few; limit = λ e. absurd cc; ends = inl is }
 counts_at_fault faults.TooLong frames reads reads_now met met_now few is = record { reads = few; limit = λ e. absurd cc; ends = inl is }
 counts_at_fault faults.WriteFault frames reads reads_now met met_now few is = record { reads = few; limit = λ e. absurd cc; ends = inl is }

@@ -5,8 +5,8 @@ use Rattle.pod_command.specs.declared.entry.Entry.{Entry}
 use Rattle.pod_command.specs.declared.snapshot.Snapshot.{Snapshot}
 use Rattle.pod_io.specs.declared.source.Failed.{Failed}
 use Rattle.podctl_commands.specs.Prints.{IsStoreOf}
-use Rattle.podctl_commands.specs.declared.ends.StoreEnd.{StoreEnd}
-use Rattle.podctl_commands.specs.declared.ends.StoreEnd.TheVariants as ends
+use Rattle.podctl_commands.specs.declared.store_end.StoreEnd.{StoreEnd}
+use Rattle.podctl_commands.specs.declared.store_end.StoreEnd.TheVariants as ends
 
 abbrev pub written_end : Result (Unit {0}) Failed → StoreEnd
 written_end (Ok done) = ends.Done

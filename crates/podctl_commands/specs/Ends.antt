@@ -3,20 +3,20 @@ use Rattle.std.specs.Prelude.{ℕ}
 use Rattle.journal_log.specs.declared.fault.OpenFault.{OpenFault}
 use Rattle.journal_log.specs.declared.fault.OpenFault.TheVariants as faulty
 use Rattle.journal_log.specs.Refusals.{open_status}
-use Rattle.podctl_commands.specs.declared.ends.StoreEnd.{StoreEnd}
-use Rattle.podctl_commands.specs.declared.ends.StoreEnd.TheVariants.{Done, WriteFault, Damaged}
-use Rattle.podctl_commands.specs.declared.ends.StoreEnd.TheVariants.{DiskFault, NoMemory, NotEmpty}
-use Rattle.podctl_commands.specs.declared.ends.StoreEnd.TheVariants.{Empty}
+use Rattle.podctl_commands.specs.declared.store_end.StoreEnd.{StoreEnd}
+use Rattle.podctl_commands.specs.declared.store_end.StoreEnd.TheVariants.{Done, WriteFault, Damaged}
+use Rattle.podctl_commands.specs.declared.store_end.StoreEnd.TheVariants.{DiskFault, NoMemory, NotEmpty}
+use Rattle.podctl_commands.specs.declared.store_end.StoreEnd.TheVariants.{Empty}
 
 -- the status of each end
-abbrev pub status_of : StoreEnd → ℕ
-status_of Done = 0
-status_of WriteFault = 4
-status_of (Damaged side at) = open_status (faulty.Damaged side at)
-status_of DiskFault = open_status faulty.DiskFault
-status_of NoMemory = open_status faulty.NoMemory
-status_of NotEmpty = 10
-status_of Empty = open_status faulty.Empty
+abbrev pub status_of_store_end : StoreEnd → ℕ
+status_of_store_end Done = 0
+status_of_store_end WriteFault = 4
+status_of_store_end (Damaged side at) = open_status (faulty.Damaged side at)
+status_of_store_end DiskFault = open_status faulty.DiskFault
+status_of_store_end NoMemory = open_status faulty.NoMemory
+status_of_store_end NotEmpty = 10
+status_of_store_end Empty = open_status faulty.Empty
 
 -- the ends of `init`
 abbrev pub IsInitEnd : StoreEnd → Type 0

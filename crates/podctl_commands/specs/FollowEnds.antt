@@ -7,18 +7,18 @@ use Rattle.pod_io.specs.Counts.{next_count}
 use Rattle.pod_pipe.specs.Streams.{AddsAllReads, AddsReads, AtEnd, Reads}
 use Rattle.pod_rows.specs.State.{NumberedPod}
 use Rattle.podctl_commands.specs.Following.{Follows, FollowsAll, IsRefused}
-use Rattle.podctl_commands.specs.declared.end.FollowEnd.{FollowEnd}
-use Rattle.podctl_commands.specs.declared.end.FollowEnd.TheVariants.{Done, BadFrame, ReadFault}
-use Rattle.podctl_commands.specs.declared.end.FollowEnd.TheVariants.{WriteFault, NoMemory, ReadLimit}
+use Rattle.podctl_commands.specs.declared.follow_end.FollowEnd.{FollowEnd}
+use Rattle.podctl_commands.specs.declared.follow_end.FollowEnd.TheVariants.{Done, BadFrame, ReadFault}
+use Rattle.podctl_commands.specs.declared.follow_end.FollowEnd.TheVariants.{WriteFault, NoMemory, ReadLimit}
 
 -- the status of each end
-abbrev pub status_of : FollowEnd → ℕ
-status_of (Done next) = 0
-status_of ReadFault = 3
-status_of WriteFault = 4
-status_of NoMemory = 7
-status_of ReadLimit = 14
-status_of (BadFrame frame) = 15
+abbrev pub status_of_follow_end : FollowEnd → ℕ
+status_of_follow_end (Done next) = 0
+status_of_follow_end ReadFault = 3
+status_of_follow_end WriteFault = 4
+status_of_follow_end NoMemory = 7
+status_of_follow_end ReadLimit = 14
+status_of_follow_end (BadFrame frame) = 15
 
 -- the next frame is whole, and nothing can be made of it
 pub record BreaksAt (state : Option NumberedPod) (rest : List ℕ) : Type 0 where
@@ -109,22 +109,22 @@ pub record FollowsInput (end : FollowEnd) (old_input new_input old_output new_ou
   pub ends : EndsSo read bodies rest state part new_input end
 
 -- the last line on the error sink
-abbrev pub end_line : FollowEnd → List ℕ
-end_line (Done next) = number_line (codes "follow: next=") next
-end_line (BadFrame frame) = number_line (codes "frame ") frame
-end_line _ = []
+abbrev pub line_of_follow_end : FollowEnd → List ℕ
+line_of_follow_end (Done next) = number_line (codes "follow: next=") next
+line_of_follow_end (BadFrame frame) = number_line (codes "frame ") frame
+line_of_follow_end _ = []
 
 -- What the error sink has: the line of the end, or a part of it where its count increased. A line of
 -- status 0 that fails makes the end a write fault; another that fails changes nothing.
-abbrev pub Tells : FollowEnd → Option (List ℕ) → Option (List ℕ) → ℕ → ℕ → Type 0
-Tells (Done next) old new before after = ExtendsBy (end_line (Done next)) old new
-Tells (BadFrame frame) old new before after =
-    AddsOrPart (end_line (BadFrame frame)) old new before after
-Tells WriteFault old new before after = (new ≡ old) ⊎ ((next : ℕ)
-    × AddsPart (end_line (Done next)) old new before after)
-Tells ReadFault old new before after = new ≡ old
-Tells NoMemory old new before after = new ≡ old
-Tells ReadLimit old new before after = new ≡ old
+abbrev pub ReportsFollowEnd : FollowEnd → Option (List ℕ) → Option (List ℕ) → ℕ → ℕ → Type 0
+ReportsFollowEnd (Done next) old new before after = ExtendsBy (line_of_follow_end (Done next)) old new
+ReportsFollowEnd (BadFrame frame) old new before after =
+    AddsOrPart (line_of_follow_end (BadFrame frame)) old new before after
+ReportsFollowEnd WriteFault old new before after = (new ≡ old) ⊎ ((next : ℕ)
+    × AddsPart (line_of_follow_end (Done next)) old new before after)
+ReportsFollowEnd ReadFault old new before after = new ≡ old
+ReportsFollowEnd NoMemory old new before after = new ≡ old
+ReportsFollowEnd ReadLimit old new before after = new ≡ old
 
 -- the end of status 0, the only one whose line may fail
 abbrev pub IsDone : FollowEnd → Type 0
@@ -138,16 +138,16 @@ ComesOf end told = (told ≡ end) ⊎ (IsDone end × (told ≡ WriteFault))
 
 -- The reads that found the end of the input: the last read of a run that ended there, and no other.
 -- So nothing is read after the end.
-abbrev pub MeetsEnd : FollowEnd → ℕ → ℕ → Type 0
-MeetsEnd (Done next) old new = new ≡ next_count old
-MeetsEnd (BadFrame frame) old new = (new ≡ old) ⊎ (new ≡ next_count old)
-MeetsEnd WriteFault old new = (new ≡ old) ⊎ (new ≡ next_count old)
-MeetsEnd _ old new = new ≡ old
+abbrev pub MeetsFramesEnd : FollowEnd → ℕ → ℕ → Type 0
+MeetsFramesEnd (Done next) old new = new ≡ next_count old
+MeetsFramesEnd (BadFrame frame) old new = (new ≡ old) ⊎ (new ≡ next_count old)
+MeetsFramesEnd WriteFault old new = (new ≡ old) ⊎ (new ≡ next_count old)
+MeetsFramesEnd _ old new = new ≡ old
 
 -- The counts of the input: there were at most 2^40 reads, exactly so many where a run ended by their
 -- limit.
-pub record CountsInput (end : FollowEnd) (old_reads new_reads old_ends new_ends : ℕ)
+pub record CountsFrames (end : FollowEnd) (old_reads new_reads old_ends new_ends : ℕ)
     : Type 0 where
   pub reads : AddsReads old_reads new_reads
   pub limit : end ≡ ReadLimit → AddsAllReads old_reads new_reads
-  pub ends : MeetsEnd end old_ends new_ends
+  pub ends : MeetsFramesEnd end old_ends new_ends

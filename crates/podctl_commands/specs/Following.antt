@@ -7,12 +7,12 @@ use Rattle.pod_rows.specs.State.{NumberedPod}
 use Rattle.podctl_commands.specs.Reads.{IsReadText}
 
 -- an entry that was applied, or that isn't the next one
-abbrev pub IsPassed : Took → Type 0
-IsPassed took.Applied = Unit {0}
-IsPassed (took.Old seq next) = Unit {0}
-IsPassed (took.Ahead seq next) = Unit {0}
-IsPassed (took.Unfit seq) = ⊥
-IsPassed took.NotEntry = ⊥
+abbrev pub IsPassedEntry : Took → Type 0
+IsPassedEntry took.Applied = Unit {0}
+IsPassedEntry (took.Old seq next) = Unit {0}
+IsPassedEntry (took.Ahead seq next) = Unit {0}
+IsPassedEntry (took.Unfit seq) = ⊥
+IsPassedEntry took.NotEntry = ⊥
 
 module _ (old : Option NumberedPod) (body text : List ℕ) (new : Option NumberedPod) where
   -- The body is a snapshot, with which the follower starts, or starts anew. Nothing is written.
@@ -29,7 +29,7 @@ module _ (old : Option NumberedPod) (body text : List ℕ) (new : Option Numbere
     pub took : Took
     pub before : old ≡ Some state
     pub takes : Takes state body next took
-    pub passed : IsPassed took
+    pub passed : IsPassedEntry took
     pub after : new ≡ Some next
     pub silent : text ≡ []
 

@@ -1,8 +1,8 @@
 -- internal: what a read begins with
 use Rattle.std.specs.Prelude.{ℕ}
 use Rattle.pod_base.specs.declared.agent.Agent.{Agent}
-use Rattle.pod_command.specs.Readers.{Reader, after_tag, both, mapped, no_tag, number_at, tagged}
-use Rattle.pod_command.specs.Reading.{agent_at}
+use Rattle.stored_forms.specs.Readers.{Reader, after_tag, both, mapped, no_tag, number_at, tagged}
+use Rattle.stored_forms.specs.Reading.{agent_at}
 
 -- who makes the read, and when
 pub record ReadHead : Type 0 where

@@ -9,10 +9,10 @@ use Rattle.pod_command.specs.declared.snapshot.Snapshot.{Snapshot}
 use Rattle.pod_records.specs.PodStores.{IsPodDamaged}
 use Rattle.pod_records.specs.Records.{Holds}
 use Rattle.journal_log.specs.Refusals.{damage_line}
-use Rattle.podctl_commands.specs.declared.ends.StoreEnd.{StoreEnd}
-use Rattle.podctl_commands.specs.declared.ends.StoreEnd.TheVariants.{Done, WriteFault, Damaged}
-use Rattle.podctl_commands.specs.declared.ends.StoreEnd.TheVariants.{DiskFault, NoMemory, NotEmpty}
-use Rattle.podctl_commands.specs.declared.ends.StoreEnd.TheVariants.{Empty}
+use Rattle.podctl_commands.specs.declared.store_end.StoreEnd.{StoreEnd}
+use Rattle.podctl_commands.specs.declared.store_end.StoreEnd.TheVariants.{Done, WriteFault, Damaged}
+use Rattle.podctl_commands.specs.declared.store_end.StoreEnd.TheVariants.{DiskFault, NoMemory, NotEmpty}
+use Rattle.podctl_commands.specs.declared.store_end.StoreEnd.TheVariants.{Empty}
 
 -- The records of the journal that is taken hold this snapshot and these entries.
 pub record IsStoreOf (first second : Option (List ℕ)) (snapshot : Snapshot) (entries : List Entry)
@@ -52,7 +52,7 @@ module _ (text : Snapshot → List Entry → List ℕ) (first second old new : O
 
 -- What the error sink has: the line of a damage, or a part of it where its count increased; else
 -- nothing more.
-abbrev pub Tells : StoreEnd → Option (List ℕ) → Option (List ℕ) → ℕ → ℕ → Type 0
-Tells (Damaged side at) old new before after =
+abbrev pub ReportsDamage : StoreEnd → Option (List ℕ) → Option (List ℕ) → ℕ → ℕ → Type 0
+ReportsDamage (Damaged side at) old new before after =
     AddsOrPart (damage_line side at) old new before after
-Tells _ old new before after = new ≡ old
+ReportsDamage _ old new before after = new ≡ old

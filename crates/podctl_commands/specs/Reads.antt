@@ -8,8 +8,8 @@ use Rattle.pod_base.specs.declared.agent.Agent.TheVariants as agents
 use Rattle.pod_base.specs.declared.moment.Moment.{Moment}
 use Rattle.pod_base.specs.declared.request.Request.{Request}
 use Rattle.pod_base.specs.declared.response.Response.{Response}
-use Rattle.pod_command.specs.Storable.{IsNumber, IsStorableAgent}
-use Rattle.pod_command.specs.StoredForms.{agent_bytes, number_bytes}
+use Rattle.stored_forms.specs.Storable.{IsNumber, IsStorableAgent}
+use Rattle.stored_forms.specs.StoredForms.{agent_bytes, number_bytes}
 use Rattle.pod_follow.specs.Followed.{read_stamp}
 use Rattle.pod_reply.specs.Reply.{IsReply}
 use Rattle.pod_reply.specs.Replies.{unchanged}

@@ -3,10 +3,10 @@ use Rattle.std.specs.Prelude.{◌≡◌, ℕ, List, [], ◌∷◌, ◌++◌, Res
 use Rattle.audit_trail.specs.Lines.{entry_line}
 use Rattle.pod_command.specs.declared.entry.Entry.{Entry}
 use Rattle.pod_records.specs.Readings.{IsEntryOf}
-use Rattle.podctl_commands.specs.declared.ends.StoreEnd.{StoreEnd}
-use Rattle.podctl_commands.specs.declared.ends.StoreEnd.TheVariants as ends
-use Rattle.podctl_commands.specs.declared.printing.PrintFault.{PrintFault}
-use Rattle.podctl_commands.specs.declared.printing.PrintFault.TheVariants as printing
+use Rattle.podctl_commands.specs.declared.store_end.StoreEnd.{StoreEnd}
+use Rattle.podctl_commands.specs.declared.store_end.StoreEnd.TheVariants as ends
+use Rattle.podctl_commands.specs.declared.store_printing.PrintFault.{PrintFault}
+use Rattle.podctl_commands.specs.declared.store_printing.PrintFault.TheVariants as printing
 
 -- the record is the text of this entry in a format
 abbrev pub IsRecordOf : List ℕ → Entry → Type 0

@@ -8,10 +8,10 @@ use Rattle.pod_command.specs.declared.snapshot.Snapshot.{Snapshot}
 use Rattle.pod_follow.specs.Frames.{frames_of}
 use Rattle.pod_records.specs.PodStores.{IsPodDamaged}
 use Rattle.podctl_commands.specs.Prints.{IsStoreOf}
-use Rattle.podctl_commands.specs.declared.ends.StoreEnd.{StoreEnd}
-use Rattle.podctl_commands.specs.declared.ends.StoreEnd.TheVariants.{Done, WriteFault, Damaged}
-use Rattle.podctl_commands.specs.declared.ends.StoreEnd.TheVariants.{DiskFault, NoMemory, NotEmpty}
-use Rattle.podctl_commands.specs.declared.ends.StoreEnd.TheVariants.{Empty}
+use Rattle.podctl_commands.specs.declared.store_end.StoreEnd.{StoreEnd}
+use Rattle.podctl_commands.specs.declared.store_end.StoreEnd.TheVariants.{Done, WriteFault, Damaged}
+use Rattle.podctl_commands.specs.declared.store_end.StoreEnd.TheVariants.{DiskFault, NoMemory, NotEmpty}
+use Rattle.podctl_commands.specs.declared.store_end.StoreEnd.TheVariants.{Empty}
 
 module _ (first second old new : Option (List ℕ)) where
   -- The frames of all records of the journal that is taken, which hold a snapshot and entries.

@@ -7,13 +7,13 @@ use Rattle.pod_follow.specs.Frames.{frame_of, frames_of}
 use Rattle.pod_follow.specs.declared.follower.Took.{Took}
 use Rattle.pod_rows.specs.State.{NumberedPod}
 use Rattle.podctl_commands.specs.FollowEnds.{NeverEnds}
-use Rattle.podctl_commands.specs.Following.{Follows, FollowsAll, IsPassed, IsRefused}
+use Rattle.podctl_commands.specs.Following.{Follows, FollowsAll, IsPassedEntry, IsRefused}
 use Rattle.podctl_commands.specs.Reads.{IsReadText}
-use Rattle.podctl_commands.specs.declared.end.FollowEnd.{FollowEnd}
-use Rattle.podctl_commands.specs.declared.end.FollowEnd.TheVariants as ends
-use Rattle.podctl_commands.specs.declared.following.FrameFault.{FrameFault}
-use Rattle.podctl_commands.specs.declared.following.FrameFault.TheVariants as faults
-use Rattle.podctl_commands.specs.declared.following.Following.{Following}
+use Rattle.podctl_commands.specs.declared.follow_end.FollowEnd.{FollowEnd}
+use Rattle.podctl_commands.specs.declared.follow_end.FollowEnd.TheVariants as ends
+use Rattle.podctl_commands.specs.declared.frame_input.FrameFault.{FrameFault}
+use Rattle.podctl_commands.specs.declared.frame_input.FrameFault.TheVariants as faults
+use Rattle.podctl_commands.specs.declared.frame_input.Following.{Following}
 
 -- the follower began with the snapshot that the body is
 pub record IsStarted (body : List ℕ) (new : Option NumberedPod) : Type 0 where
@@ -25,7 +25,7 @@ pub record IsStarted (body : List ℕ) (new : Option NumberedPod) : Type 0 where
 pub record TakesEntryOf (old : NumberedPod) (body text : List ℕ) (new : NumberedPod) : Type 0 where
   pub took : Took
   pub takes : Takes old body new took
-  pub passed : IsPassed took
+  pub passed : IsPassedEntry took
   pub silent : text ≡ []
 
 -- or answered the read
@@ -87,14 +87,14 @@ pub record Stopped (fault : FrameFault) (old : Following) (bytes : List ℕ) (ne
   pub written : ExtendsBy text out mid
   pub leaves : Leaves fault state rest mid out_now
 
-abbrev pub end_of : Option NumberedPod → ℕ → Bool → FollowEnd
-end_of (Some state) frames true = ends.Done state.next
-end_of (Some state) frames false = ends.BadFrame frames
-end_of None frames whole = ends.BadFrame frames
+abbrev pub end_of_frames : Option NumberedPod → ℕ → Bool → FollowEnd
+end_of_frames (Some state) frames true = ends.Done state.next
+end_of_frames (Some state) frames false = ends.BadFrame frames
+end_of_frames None frames whole = ends.BadFrame frames
 
 -- the end of a run where the input ended
 abbrev pub end_at : Following → Bool → FollowEnd
-end_at following whole = end_of following.follower following.frames whole
+end_at following whole = end_of_frames following.follower following.frames whole
 
 -- the end of a run where frames are no longer taken
 abbrev pub fault_end : FrameFault → ℕ → FollowEnd

@@ -30,31 +30,31 @@
 //! `journal_log` for the line of a damage, and on `pod_io` for writing.
 #![tactic(auto)]
 
-mod auditing;
-mod checking;
-mod command_ends;
-mod end;
-mod ends;
+mod audit_command;
+mod check_command;
+mod follow_command;
+mod follow_end;
+mod follow_end_line;
 pub mod follow_laws;
-mod following;
-mod frame;
+mod follower_reads;
+mod frame_input;
+mod init_command;
 pub mod laws;
-mod lines;
-mod making;
-mod parts;
-mod printing;
-mod reads;
-mod report_end;
+mod one_frame;
+mod output_end;
+mod read_parts;
+mod report_command;
 pub mod report_laws;
-mod reporting;
-mod shipping;
-mod stream;
+mod report_lines;
+mod ship_command;
+mod store_end;
+mod store_printing;
 
-pub use auditing::audit;
-pub use checking::check;
-pub use end::FollowEnd;
-pub use ends::{Ended, StoreEnd};
-pub use making::init;
-pub use reporting::report;
-pub use shipping::ship;
-pub use stream::follow;
+pub use audit_command::audit;
+pub use check_command::check;
+pub use follow_command::follow;
+pub use follow_end::FollowEnd;
+pub use init_command::init;
+pub use report_command::report;
+pub use ship_command::ship;
+pub use store_end::{Ended, StoreEnd};

@@ -4,11 +4,11 @@ use Rattle.std.proofs.lemmas.Bool.Decides.{nat_tests}
 use Rattle.std.specs.Option.{option_and_then, option_map, unwrap_or}
 use Rattle.program_words.specs.Readings.{is_number, number_after, number_up_to}
 use Rattle.program_words.specs.PoddReadings.{after_assigned, after_option, after_parameter, after_word, after_word_in, assigned_of, first, given_after, is_complete, nothing_given, parameter_of, positive, reading, settings_of, unless_zero, with_value}
-use Rattle.program_words.specs.declared.podd_given.Given.{Given}
-use Rattle.program_words.specs.declared.podd_given.Mode.{Mode}
-use Rattle.program_words.specs.declared.podd_given.Mode.TheVariants.{Options, Value, Nothing}
-use Rattle.program_words.specs.declared.podd_given.Parameter.{Parameter}
-use Rattle.program_words.specs.declared.podd_given.Parameter.TheVariants.{Port, Workers}
+use Rattle.program_words.specs.declared.podd_options.Given.{Given}
+use Rattle.program_words.specs.declared.podd_options.Mode.{Mode}
+use Rattle.program_words.specs.declared.podd_options.Mode.TheVariants.{Options, Value, Nothing}
+use Rattle.program_words.specs.declared.podd_options.Parameter.{Parameter}
+use Rattle.program_words.specs.declared.podd_options.Parameter.TheVariants.{Port, Workers}
 use Rattle.program_words.specs.declared.podd_reader.Settings.{Settings}
 use Rattle.program_words.specs.declared.podd_reader.TheConstants.{DEFAULT_PORT, DEFAULT_WORKERS, PORT_LIMIT, WORKERS_LIMIT}
 

@@ -6,7 +6,7 @@ use Rattle.program_words.specs.Given.{Given, given_after, nothing_given}
 use Rattle.program_words.specs.Readings.{command_after, command_from, command_of, is_complete, reading, subcommand_of}
 use Rattle.program_words.specs.Spelling.{AsksFor, ReadsWhatIsWritten, subcommand_word}
 use Rattle.program_words.specs.declared.command.Command.{Command}
-use Rattle.program_words.specs.declared.given.Mode.{Mode}
+use Rattle.program_words.specs.declared.podctl_options.Mode.{Mode}
 use Rattle.program_words.specs.declared.subcommand.Subcommand.{Subcommand}
 use Rattle.program_words.specs.declared.subcommand.Subcommand.TheVariants.{Init, Pipe, Check, Audit, Load, Report, Ship, Follow}
 use Rattle.program_words.proofs.Spelled.{found}

@@ -9,8 +9,8 @@ use Rattle.program_words.specs.Given.{Given, after_assigned, after_flag, after_o
 use Rattle.program_words.specs.Readings.{is_complete}
 use Rattle.program_words.specs.Spelling.{AreOperands, AreUses, IsNext, Use, with_use, with_uses}
 use Rattle.program_words.specs.Spelling as uses
-use Rattle.program_words.specs.declared.given.Mode.{Mode}
-use Rattle.program_words.specs.declared.given.Mode.TheVariants.{Options, Value, Operands}
+use Rattle.program_words.specs.declared.podctl_options.Mode.{Mode}
+use Rattle.program_words.specs.declared.podctl_options.Mode.TheVariants.{Options, Value, Operands}
 use Rattle.program_words.specs.declared.subcommand.Flag.{Flag}
 use Rattle.program_words.specs.declared.subcommand.Flag.TheVariants.{AsOwner, Trail}
 use Rattle.program_words.specs.declared.subcommand.Parameter.{Parameter}

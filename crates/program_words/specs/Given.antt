@@ -9,8 +9,8 @@ use Rattle.program_words.specs.declared.subcommand.Parameter.{Parameter}
 use Rattle.program_words.specs.declared.subcommand.Parameter.TheVariants.{Base, Owner, Fresh, Agent}
 use Rattle.program_words.specs.declared.subcommand.Flag.{Flag}
 use Rattle.program_words.specs.declared.subcommand.Flag.TheVariants.{AsOwner, Trail}
-use Rattle.program_words.specs.declared.given.Mode.{Mode}
-use Rattle.program_words.specs.declared.given.Mode.TheVariants.{Options, Value, Operands}
+use Rattle.program_words.specs.declared.podctl_options.Mode.{Mode}
+use Rattle.program_words.specs.declared.podctl_options.Mode.TheVariants.{Options, Value, Operands}
 
 -- ---- how options are written
 

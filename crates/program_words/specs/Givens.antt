@@ -1,7 +1,7 @@
 -- What the code keeps of the words that it has read.
 use Rattle.std.specs.Option.{option_map}
 use Rattle.program_words.specs.Given.{Given}
-use Rattle.program_words.specs.declared.given.Given as kept
+use Rattle.program_words.specs.declared.podctl_options.Given as kept
 
 -- the same with the texts of the words
 abbrev pub given_of : kept.Given → Given

@@ -4,11 +4,11 @@ use Rattle.std.specs.Prelude.{[], ◌∷◌, Option, Some, None, is_some}
 use Rattle.std.specs.Option.{option_and_then, option_map, unwrap_or}
 use Rattle.program_words.specs.Given.{split_value}
 use Rattle.program_words.specs.Readings.{number_up_to}
-use Rattle.program_words.specs.declared.podd_given.Given.{Given}
-use Rattle.program_words.specs.declared.podd_given.Mode.{Mode}
-use Rattle.program_words.specs.declared.podd_given.Mode.TheVariants.{Options, Value, Nothing}
-use Rattle.program_words.specs.declared.podd_given.Parameter.{Parameter}
-use Rattle.program_words.specs.declared.podd_given.Parameter.TheVariants.{Port, Workers}
+use Rattle.program_words.specs.declared.podd_options.Given.{Given}
+use Rattle.program_words.specs.declared.podd_options.Mode.{Mode}
+use Rattle.program_words.specs.declared.podd_options.Mode.TheVariants.{Options, Value, Nothing}
+use Rattle.program_words.specs.declared.podd_options.Parameter.{Parameter}
+use Rattle.program_words.specs.declared.podd_options.Parameter.TheVariants.{Port, Workers}
 use Rattle.program_words.specs.declared.podd_reader.Settings.{Settings}
 use Rattle.program_words.specs.declared.podd_reader.TheConstants.{DEFAULT_PORT, DEFAULT_WORKERS}
 use Rattle.program_words.specs.declared.podd_reader.TheConstants.{PORT_LIMIT, WORKERS_LIMIT}

@@ -12,8 +12,8 @@ use Rattle.program_words.specs.declared.command.Asking.{Asking}
 use Rattle.program_words.specs.declared.command.Asking.TheVariants.{ByTokens, Owner, Fresh}
 use Rattle.program_words.specs.declared.command.Command.{Command}
 use Rattle.program_words.specs.declared.command.Command.TheVariants as commands
-use Rattle.program_words.specs.declared.given.Mode.{Mode}
-use Rattle.program_words.specs.declared.given.Mode.TheVariants.{Value}
+use Rattle.program_words.specs.declared.podctl_options.Mode.{Mode}
+use Rattle.program_words.specs.declared.podctl_options.Mode.TheVariants.{Value}
 use Rattle.program_words.specs.declared.number.TheConstants.{LOAD_LIMIT, DIGITS_LIMIT}
 use Rattle.program_words.specs.declared.subcommand.Subcommand.{Subcommand}
 use Rattle.program_words.specs.declared.subcommand.Subcommand.TheVariants as subcommands

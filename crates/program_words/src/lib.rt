@@ -24,19 +24,19 @@
 #![tactic(auto)]
 
 mod command;
-mod given;
 pub mod laws;
 mod number;
-mod podd_given;
+mod podctl_options;
+mod podctl_reader;
+mod podd_options;
 mod podd_reader;
-mod reader;
 mod subcommand;
 
 pub use command::{Asking, Command};
-pub use given::{Mode, is_dashed};
 pub use number::{DIGITS_LIMIT, LOAD_LIMIT, number_up_to};
+pub use podctl_options::{Mode, is_dashed};
+pub use podctl_reader::read;
 pub use podd_reader::{
     DEFAULT_PORT, DEFAULT_WORKERS, PORT_LIMIT, Settings, WORKERS_LIMIT, read_settings,
 };
-pub use reader::read;
 pub use subcommand::{Flag, Parameter, Subcommand, split_value};

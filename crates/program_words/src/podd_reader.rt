@@ -5,7 +5,7 @@ ghost use Rattle.std.specs.String.{string_bytes};
 ghost use Rattle.program_words.specs.PoddReadings.{reading};
 ghost use Rattle.program_words.specs.PoddReadings as spec;
 
-use crate::podd_given::{Given, Mode, given_after};
+use crate::podd_options::{Given, Mode, given_after};
 
 /// The greatest port.
 pub const PORT_LIMIT: u16 = 65_535;

@@ -29,11 +29,11 @@ mod list_rule;
 mod look_counter;
 mod looker;
 mod open;
-mod places;
 mod publisher;
+mod refused_openings;
+mod represented_list;
 #[cfg(test)]
 mod tests;
-mod told;
 mod version_with_list;
 mod view_name;
 
@@ -41,8 +41,8 @@ pub use fault::ViewFault;
 pub use front::{Front, NewList};
 pub use looker::Looker;
 pub use open::{READERS_LIMIT, open_view};
-pub use places::Places;
 pub use publisher::Publisher;
-pub use told::Told;
+pub use refused_openings::Places;
+pub use represented_list::Told;
 pub use version_with_list::{KeptTwice, VersionWithList};
 pub use view_name::ViewName;

@@ -1,5 +1,5 @@
 //! The rule that counts looks, and records the list that each of them found.
-use crate::told::Told;
+use crate::represented_list::Told;
 use crate::version_with_list::VersionWithList;
 use crate::view_name::ViewName;
 use crossbeam_utils::rule::{Outcome, Protocol};

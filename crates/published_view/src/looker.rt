@@ -8,7 +8,7 @@ ghost use Rattle.published_view.specs.LookSteps.{looks_of, given_of};
 use crate::fault::ViewFault;
 use crate::front::Front;
 use crate::look_counter::{LookCounter, LookRecord, LookStep};
-use crate::told::Told;
+use crate::represented_list::Told;
 use crate::version_with_list::VersionWithList;
 use crate::view_name::ViewName;
 use core::mem::replace_with;

@@ -1,6 +1,6 @@
 //! What each of the two copies under a view holds.
 use crate::front::Front;
-use crate::told::Told;
+use crate::represented_list::Told;
 use crate::view_name::ViewName;
 use left_right::Absorb;
 use std::alloc::AllocError;

@@ -3,7 +3,7 @@ use Rattle.std.proofs.Common.{◌≡◌, ℕ, ◌-◌, ◌<◌, ◌≤◌, ◌==
 use Rattle.std.proofs.lemmas.Bool.Decides.{nat_tests}
 use Rattle.std.specs.List.{list_all, cons_option}
 use Rattle.std.specs.Option.{option_and_then}
-use Rattle.field_list.specs.Pairs.{Pair, two_parts}
+use Rattle.field_list.specs.Pairs.{Pair, split_pair}
 use Rattle.field_list.specs.declared.quoting.Quoting.TheVariants.{Strings}
 use Rattle.range_req.specs.ByteRanges.{number, between, range_of_pair, byte_range, part_up_to, part_in, from, last_bytes}
 use Rattle.range_req.specs.RangeSets.{is_within, element_part, parts_in}
@@ -81,4 +81,4 @@ cons-inside size (Some part) parts h rest = rw h rest
 pub parts-inside : (size : ℕ) (elements : List (List ℕ)) → list_all (is_within size) (parts_in size elements) ≡ true
 parts-inside size [] = refl
 parts-inside size (element ∷ elements) =
-    cons-inside size (element_part size element) (parts_in size elements) (range-inside size (byte_range element) (range-ordered (two_parts Strings 45 element))) (parts-inside size elements)
+    cons-inside size (element_part size element) (parts_in size elements) (range-inside size (byte_range element) (range-ordered (split_pair Strings 45 element))) (parts-inside size elements)

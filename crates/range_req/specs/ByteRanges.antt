@@ -2,7 +2,7 @@
 use Rattle.std.specs.Prelude.{ℕ, ◌-◌, ◌==◌, min, nat_lt, nat_le, if◌then◌else◌, List, length}
 use Rattle.std.specs.Prelude.{Option, Some, None}
 use Rattle.std.specs.Option.{option_map, option_and_then}
-use Rattle.field_list.specs.Pairs.{Pair, two_parts}
+use Rattle.field_list.specs.Pairs.{Pair, split_pair}
 use Rattle.field_list.specs.declared.quoting.Quoting.TheVariants.{Strings}
 use Rattle.range_req.specs.Numbers as numbers
 use Rattle.range_req.specs.declared.byte_range.ByteRange.{ByteRange}
@@ -35,7 +35,7 @@ range_of_pair p =
 
 -- the range that an element is; none where it is malformed
 abbrev pub byte_range : List ℕ → Option ByteRange
-byte_range element = option_and_then range_of_pair (two_parts Strings 45 element)
+byte_range element = option_and_then range_of_pair (split_pair Strings 45 element)
 
 -- the part from a position up to another, or to the end of the body, if that is after its beginning
 abbrev pub part_up_to : ℕ → ℕ → ℕ → Option Part

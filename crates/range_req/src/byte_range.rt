@@ -4,7 +4,7 @@ ghost use Rattle.std.specs.Prelude.{◌≡◌, ◌<◌, Some, None};
 ghost use Rattle.range_req.specs.ByteRanges as spec;
 
 use crate::number::number;
-use field_list::{Quoting, two_parts};
+use field_list::{Quoting, split_pair};
 
 /// One range of a Range field (RFC 9110, section 14.1.2).
 #[derive(Clone, Copy, Debug, PartialEq, Eq)]
@@ -67,7 +67,7 @@ fn last_bytes(count: &[u8]) -> Option<ByteRange>
 pub(crate) fn byte_range(element: &[u8]) -> Option<ByteRange>
     ensures { result ≡ spec.byte_range element.now }
 {
-    match two_parts(Quoting::Strings, b'-', element) {
+    match split_pair(Quoting::Strings, b'-', element) {
         Some((first, last)) => {
             if first.is_empty() {
                 last_bytes(last)

@@ -1,19 +1,14 @@
-pub mod BindingSteps
-pub mod Candidates
+-- kept for the crates above
 pub mod Exact
-pub mod Prefixes
 pub mod Graphs
-pub mod Components
-pub mod Instancing
-pub mod Delimiters
+pub mod LineOrders
 pub mod Lookups
 pub mod Members
-pub mod Merging
-pub mod Patching
-pub mod LineOrders
+pub mod Prefixes
 pub mod Sizes
-pub mod Solving
 pub mod Sorted
-pub mod SubjectRanges
+-- of this crate alone
+pub mod Delimiters
+pub mod Merging
 pub mod SubjectOrder
-pub mod SearchResults
+pub mod SubjectRanges

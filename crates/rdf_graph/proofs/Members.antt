@@ -1,5 +1,6 @@
 -- What a list contains, by its parts.
 use Rattle.std.proofs.Common.{ℕ, zero, suc, ◌+◌, ◌<◌, ◌≤◌, Bool, true, false, cond, ◌≡◌, ◌⊎◌, ◌↔◌, List, [], ◌∷◌, ◌++◌, length, take, drop, get_or, refl, sym, ◌∙◌, subst, arith, inl, inr, ⊎_elim}
+use Rattle.std.specs.Prelude.{slice_get}
 use Rattle.std.specs.List.{Contains, All, AllWithin, insert, filter}
 use Rattle.std.proofs.lemmas.List.{take-append-drop, get_or-take, get_or-drop, length-take, length-drop, take_all}
 use Rattle.std.proofs.lemmas.Bool.{false≢true}
@@ -105,3 +106,8 @@ all_at P xs i x l is h = subst P (sym is) (h i x l)
 
 pub all_of : {X : Type 0} (P : X → Type 0) (xs : List X) (i : ℕ) → length xs ≤ i → All P (take i xs) → All P xs
 all_of P xs i l h = subst (All P) (take_all i xs l) h
+
+pub slice_get-push_before : {X : Type 0} (xs : List X) (x : X) (k : ℕ) → k < length xs → slice_get (xs ++ x ∷ []) k ≡ slice_get xs k
+slice_get-push_before [] x k l = absurd (omega (arith, l))
+slice_get-push_before (y ∷ ys) x zero l = refl
+slice_get-push_before (y ∷ ys) x (suc k) l = slice_get-push_before ys x k (omega (arith, l))

@@ -1,13 +1,10 @@
 -- Sums of sizes that are given by 64 bits.
-use Rattle.std.proofs.Common.{ℕ, ◌+◌, ◌-◌, ◌^◌, ◌≡◌, ◌≤◌, arith, List, [], ◌∷◌, Bool, true, false, cond, ap, subst, min, sum, map, refl}
-use Rattle.std.specs.List.{AllZip, dedup, dedup_from}
+use Rattle.std.proofs.Common.{ℕ, ◌+◌, ◌-◌, ◌^◌, ◌≡◌, ◌≤◌, arith, List, [], ◌∷◌, Bool, true, false, cond, subst, min, sum, map}
+use Rattle.std.specs.List.{dedup, dedup_from}
 use Rattle.std.specs.List.Sorted.{IsPermutation}
 use Rattle.std.proofs.lemmas.List.Sorted.{IsPermutation-map, sum_by-IsPermutation}
 use Rattle.std.proofs.lemmas.List.Sums.{sum_by-cons}
-use Rattle.rdf_graph.specs.Patch.{instance_size, instances_size, slot_size}
-use Rattle.rdf_graph.specs.Pattern.{Binding, Instantiates}
 use Rattle.rdf_graph.specs.Size.{saturated, triple_size, triples_size}
-use Rattle.rdf_graph.specs.declared.pattern.Pattern.{Pattern}
 use Rattle.rdf_graph.specs.declared.triple.Triple.{Triple}
 
 min_sum : (top m n a b : ℕ) → a ≡ min m top → b ≡ min n top → min (a + b) top ≡ min (m + n) top
@@ -19,7 +16,7 @@ saturated_sum m n a b d e = min_sum (2 ^ 64 - 1) m n a b d e
 
 -- ---- sums over the triples of a list
 
-sum_first : (x : ℕ) (xs : List ℕ) → sum (x ∷ xs) ≡ x + sum xs
+pub sum_first : (x : ℕ) (xs : List ℕ) → sum (x ∷ xs) ≡ x + sum xs
 sum_first x xs = sum_by-cons (λ n. n) x xs
 
 module _ (same : Triple → Triple → Bool) (f : Triple → ℕ) where
@@ -41,14 +38,3 @@ pub sorted_size : (same : Triple → Triple → Bool) (xs ys : List Triple) → 
 sorted_size same xs ys moved =
     let alike : sum (map triple_size ys) ≡ sum (map triple_size xs) = sum_by-IsPermutation (λ n. n) (map triple_size xs) (map triple_size ys) (IsPermutation-map triple_size xs ys moved) in
     subst (λ n. triples_size (dedup same ys) ≤ n) alike (kept_size same triple_size ys)
-
-instance_size_of : (m : Binding) (pattern : Pattern) (t : Triple) → Instantiates m pattern t → triple_size t ≡ instance_size m pattern
-instance_size_of m pattern t h = omega (arith, ap slot_size h.s, ap slot_size h.p, ap slot_size h.o)
-
--- the triples that a mapping makes of patterns
-pub size_of_instances : (m : Binding) (patterns : List Pattern) (triples : List Triple) → AllZip (Instantiates m) patterns triples → triples_size triples ≡ instances_size m patterns
-size_of_instances m [] [] h = refl
-size_of_instances m [] (t ∷ triples) h = absurd h
-size_of_instances m (c ∷ patterns) [] h = absurd h
-size_of_instances m (c ∷ patterns) (t ∷ triples) h =
-    omega (arith, sum_first (triple_size t) (map triple_size triples), sum_first (instance_size m c) (map (instance_size m) patterns), instance_size_of m c t h.0, size_of_instances m patterns triples h.1)

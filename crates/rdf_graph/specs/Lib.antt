@@ -2,24 +2,18 @@ pub mod Change
 pub mod Graph
 pub mod Laws
 pub mod Line
-pub mod Patch
-pub mod Pattern
 pub mod Size
-pub mod Solutions
+pub mod SubjectRange
 pub mod Term
 pub mod TermOrder
 pub mod Triple
+pub mod TripleRef
 pub mod Walk
 pub mod Written
 -- internal: cited by private clauses alone, by the impls of `Eq` and `Ord`, and by proofs
-pub mod ConnectedComponents
 pub mod InsertionPoint
 pub mod LineOrder
-pub mod Lookup
-pub mod Search
-pub mod SubjectRange
 pub mod TermLaws
 pub mod TermOrderLaws
 pub mod TermTexts
 pub mod TripleLaws
-pub mod TripleRef

@@ -122,7 +122,7 @@ impl Graph {
     }
 
     /// Whether the graph has the triple of these terms.
-    pub(crate) fn contains_parts(&self, triple: &TripleRef<'_>) -> bool
+    pub fn contains_parts(&self, triple: &TripleRef<'_>) -> bool
         ensures { IsTrue result ↔ Contains self.now (triple_of triple.now) }
     {
         self.as_slice()

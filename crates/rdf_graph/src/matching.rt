@@ -40,7 +40,7 @@ impl Graph {
 }
 
 /// The range with all triples of this subject, or all triples where none is given.
-pub(crate) fn subject_range<'a>(triples: &'a [Triple], subject: Option<&Term>) -> &'a [Triple]
+pub fn subject_range<'a>(triples: &'a [Triple], subject: Option<&Term>) -> &'a [Triple]
     requires { IsOrdered triples.now }
     ensures subject_range { IsSubjectRange (option_copied subject.entry) triples.now result.now }
 {
@@ -62,12 +62,7 @@ fn subject_lines<'a>(triples: &'a [Triple], subject: &Term) -> &'a [Triple]
 }
 
 /// Whether the triple has these terms, where they are given.
-pub(crate) fn has_terms(
-    triple: &Triple,
-    s: Option<&Term>,
-    p: Option<&Term>,
-    o: Option<&Term>,
-) -> bool
+pub fn has_terms(triple: &Triple, s: Option<&Term>, p: Option<&Term>, o: Option<&Term>) -> bool
     ensures { result
         ≡ has_terms (option_copied s.entry) (option_copied p.entry)
         (option_copied o.entry) triple.now }

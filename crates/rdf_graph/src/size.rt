@@ -91,14 +91,14 @@ fn text_size(text: &str) -> u64
 
 /// The number as a size.
 #[tactic(auto, unfolding(crate::specs::Size::saturated))]
-pub(crate) fn size_of(number: usize) -> u64
+pub fn size_of(number: usize) -> u64
     ensures { result ≡ saturated number }
 {
     number as u64
 }
 
 /// The sum of two sizes, at most 2^64 - 1.
-pub(crate) fn saturating_sum(first: u64, second: u64) -> u64
+pub fn saturating_sum(first: u64, second: u64) -> u64
     ensures { (m : ℕ) (n : ℕ) → first ≡ saturated m → second ≡ saturated n
         → result ≡ saturated (m + n) }
 {

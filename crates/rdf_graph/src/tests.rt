@@ -1,10 +1,10 @@
-//! What no case of a line shows: large graphs, and conditions that nothing connects.
+//! What no case of a line shows: large graphs.
 ghost use Rattle.std.specs.Prelude.{All, IfOk};
 ghost use Rattle.rdf_graph.specs.Triple.{IsRdf};
 
-use crate::{Found, Graph, Pattern, Slot, Term, Triple, solutions};
+use crate::{Graph, Term, Triple};
 use iri_ref::Iri;
-use pod_base::{List, Text};
+use pod_base::List;
 use std::alloc::Global;
 use std::test::Fail;
 
@@ -55,51 +55,5 @@ fn a_whole_document_becomes_a_graph(rt: HostRuntime) -> Result<(), Fail> {
     assert!(rt; copy.remove(&one));
     assert!(rt; !copy.remove(&one));
     assert_eq!(rt; copy.len(), 99_999);
-    Ok(())
-}
-
-fn variable(alloc: Global, kind: &str, number: usize) -> Result<Slot, Fail> {
-    let name = format!(in alloc; "{kind}{number}")?;
-    Ok(Slot::Var(Text::of(alloc, name.as_str())?))
-}
-
-fn joined_pair(
-    alloc: Global,
-    conditions: &mut Vec<Pattern>,
-    number: usize,
-    second: &str,
-) -> Result<(), Fail> {
-    conditions.push(Pattern {
-        s: variable(alloc, "a", number)?,
-        p: Slot::Fixed(Term::Iri(numbered_iri(alloc, "p", 0)?)),
-        o: variable(alloc, "b", number)?,
-    })?;
-    conditions.push(Pattern {
-        s: variable(alloc, "b", number)?,
-        p: Slot::Fixed(Term::Iri(numbered_iri(alloc, second, 0)?)),
-        o: variable(alloc, "c", number)?,
-    })?;
-    Ok(())
-}
-
-/// Seven pairs of conditions have many mappings, and the eighth has none.
-#[test]
-fn unconnected_conditions_are_solved_apart(rt: HostRuntime) -> Result<(), Fail> {
-    let alloc = rt.alloc();
-    let mut graph = Graph::new(alloc);
-    for number in 0..3_334 {
-        graph.insert(alloc, numbered(alloc, number, "p", number + 10_000)?)?;
-        graph.insert(alloc, numbered(alloc, number + 10_000, "q", number)?)?;
-        graph.insert(alloc, numbered(alloc, number + 20_000, "r", number)?)?;
-    }
-    let mut conditions = Vec::new(alloc);
-    for number in 0..7 {
-        joined_pair(alloc, &mut conditions, number, "q")?;
-    }
-    joined_pair(alloc, &mut conditions, 7, "r")?;
-    assert_eq!(rt; graph.len(), 10_002);
-    assert_eq!(rt; conditions.len(), 16);
-    let found = solutions(alloc, &graph, &List::from_vec(conditions))?;
-    assert!(rt; matches!(found, Found::Nothing));
     Ok(())
 }

@@ -55,7 +55,7 @@ impl Ord for Triple {
 
 /// The order of two triples.
 #[tactic(auto, unfolding(crate::specs::Triple::triple_cmp))]
-pub(crate) fn cmp_triples(a: &TripleRef<'_>, b: &TripleRef<'_>) -> Ordering
+pub fn cmp_triples(a: &TripleRef<'_>, b: &TripleRef<'_>) -> Ordering
     ensures { result ≡ triple_cmp (triple_of a.now) (triple_of b.now) }
 {
     match cmp_lines(a, b) {

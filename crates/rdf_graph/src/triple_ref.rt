@@ -12,15 +12,15 @@ use std::alloc::Global;
 
 /// A triple by references to its terms.
 #[derive(Clone, Copy)]
-pub(crate) struct TripleRef<'a> {
-    pub(crate) s: &'a Term,
-    pub(crate) p: &'a Term,
-    pub(crate) o: &'a Term,
+pub struct TripleRef<'a> {
+    pub s: &'a Term,
+    pub p: &'a Term,
+    pub o: &'a Term,
 }
 
 impl Triple {
     /// The references to its terms.
-    pub(crate) fn parts(&self) -> TripleRef<'_>
+    pub fn parts(&self) -> TripleRef<'_>
         ensures { triple_of result ≡ self.now }
     {
         TripleRef {
@@ -32,7 +32,7 @@ impl Triple {
 }
 
 /// A triple of copies of these terms.
-pub(crate) fn copy_parts(alloc: Global, triple: &TripleRef<'_>) -> Mem<Triple>
+pub fn copy_parts(alloc: Global, triple: &TripleRef<'_>) -> Mem<Triple>
     ensures { IfOk result (λ copy. copy ≡ triple_of triple.now) }
 {
     let s = triple.s.copy(alloc)?;
@@ -42,14 +42,14 @@ pub(crate) fn copy_parts(alloc: Global, triple: &TripleRef<'_>) -> Mem<Triple>
 }
 
 /// Whether these terms are a triple of RDF.
-pub(crate) fn are_rdf_parts(triple: &TripleRef<'_>) -> bool
+pub fn are_rdf_parts(triple: &TripleRef<'_>) -> bool
     ensures { IsTrue result ↔ IsRdf (triple_of triple.now) }
 {
     triple.p.is_iri() && !triple.s.is_literal()
 }
 
 /// The encoded size of the triple of these terms.
-pub(crate) fn size_of_parts(triple: &TripleRef<'_>) -> u64
+pub fn size_of_parts(triple: &TripleRef<'_>) -> u64
     ensures { result ≡ saturated (triple_size (triple_of triple.now)) }
 {
     parts_size(triple.s, triple.p, triple.o)

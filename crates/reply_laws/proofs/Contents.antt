@@ -24,15 +24,15 @@ use Rattle.pod_rows.proofs.Sets.{graph_to, have_from}
 use Rattle.pod_reply.specs.PutReplies.{row_of}
 use Rattle.patch_outcome.specs.Outcomes.{IsOutcome, KeepsContainment}
 use Rattle.patch_outcome.specs.Updates.{IsUpdateOutcome, is_containment, names_containment}
-use Rattle.rdf_graph.specs.Patch.{IsChangeOf}
-use Rattle.rdf_graph.specs.Pattern.{Binding, slot_term}
+use Rattle.graph_patch.specs.Patch.{IsChangeOf}
+use Rattle.graph_patch.specs.Pattern.{Binding, slot_term}
 use Rattle.rdf_graph.specs.Term.{term_eq}
 use Rattle.rdf_graph.specs.TermLaws.{term_eq_decides}
 use Rattle.rdf_graph.specs.declared.change.Change.{Change}
-use Rattle.rdf_graph.specs.declared.patch.Patch.{Patch}
-use Rattle.rdf_graph.specs.declared.pattern.Pattern.{Pattern}
-use Rattle.rdf_graph.specs.declared.pattern.Slot.{Slot}
-use Rattle.rdf_graph.specs.declared.pattern.Slot.TheVariants.{Fixed, Var}
+use Rattle.graph_patch.specs.declared.patch.Patch.{Patch}
+use Rattle.graph_patch.specs.declared.pattern.Pattern.{Pattern}
+use Rattle.graph_patch.specs.declared.pattern.Slot.{Slot}
+use Rattle.graph_patch.specs.declared.pattern.Slot.TheVariants.{Fixed, Var}
 use Rattle.rdf_graph.specs.declared.term.Term.{Term}
 use Rattle.rdf_graph.specs.declared.term.Term.TheVariants.{Iri}
 use Rattle.rdf_graph.specs.declared.triple.Triple.{Triple}

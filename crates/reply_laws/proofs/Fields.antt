@@ -11,7 +11,7 @@ use Rattle.pod_path.specs.Hierarchy.{is_root, is_container, is_acl, is_meta, is_
 use Rattle.pod_responses.specs.Allow.{taken_names, allow_text, put_types, is_removable}
 use Rattle.pod_responses.specs.Links.{field, link, type_link, container_links, storage_links, type_links, link_to, described_by, list_of, about_links}
 use Rattle.pod_responses.specs.Responses.{allow, accept_patch, accept_post, accept_put, vary, quoted, validators, accept_ranges, resource_fields, content_range, choices, shown_fields, taken_types}
-use Rattle.pod_responses.specs.declared.representation.Representation.{Representation}
+use Rattle.pod_responses.specs.declared.read_responses.Representation.{Representation}
 use Rattle.reply_laws.proofs.Lines.{Stays, both, one_of, take_stays, date_stays, uri_stays}
 
 pub joined : (a b : List Field) → AreFieldLines a → AreFieldLines b → AreFieldLines (a ++ b)

@@ -9,14 +9,14 @@ use Rattle.pod_reply.specs.PatchReplies.{IsBodyOutcome}
 use Rattle.pod_reply.specs.Shapes.{has_conditions, has_deletions, is_deletion, is_some_of}
 use Rattle.pod_path.specs.Hierarchy.{is_container}
 use Rattle.rdf_graph.proofs.Members.{contains_none}
-use Rattle.rdf_graph.specs.Patch.{IsChangeOf, IsFaultOf, IsInstance, IsTheSolution}
-use Rattle.rdf_graph.specs.Pattern.{Binding, IsSolution}
-use Rattle.rdf_graph.specs.Solutions.{HasTwoSolutions}
+use Rattle.graph_patch.specs.Patch.{IsChangeOf, IsFaultOf, IsInstance, IsTheSolution}
+use Rattle.graph_patch.specs.Pattern.{Binding, IsSolution}
+use Rattle.graph_patch.specs.Solutions.{HasTwoSolutions}
 use Rattle.rdf_graph.specs.declared.change.Change.{Change}
-use Rattle.rdf_graph.specs.declared.patch.Patch.{Patch}
-use Rattle.rdf_graph.specs.declared.patch.PatchFault.{PatchFault}
-use Rattle.rdf_graph.specs.declared.patch.PatchFault.TheVariants.{NoMatch, ManyMatches, MissingDeletion, NotTriple, NoMemory}
-use Rattle.rdf_graph.specs.declared.pattern.Pattern.{Pattern}
+use Rattle.graph_patch.specs.declared.patch.Patch.{Patch}
+use Rattle.graph_patch.specs.declared.patch.PatchFault.{PatchFault}
+use Rattle.graph_patch.specs.declared.patch.PatchFault.TheVariants.{NoMatch, ManyMatches, MissingDeletion, NotTriple, NoMemory}
+use Rattle.graph_patch.specs.declared.pattern.Pattern.{Pattern}
 use Rattle.rdf_graph.specs.declared.triple.Triple.{Triple}
 use Rattle.request_body.specs.declared.body.RequestBody.{RequestBody}
 use Rattle.request_body.specs.declared.body.RequestBody.TheVariants as bodies

@@ -35,7 +35,7 @@ use Rattle.pod_representations.specs.ReadResponses.{asked, content_range, multip
 use Rattle.pod_representations.specs.Representations.{content_as, graph_body, graph_mark, graph_shown, graph_type, represented, tag}
 use Rattle.pod_representations.specs.declared.media.Media.{Media}
 use Rattle.pod_representations.specs.declared.media.Media.TheVariants.{Turtle, JsonLd, Stored}
-use Rattle.pod_representations.specs.declared.shown.Shown.{Shown}
+use Rattle.pod_representations.specs.declared.representation.Shown.{Shown}
 use Rattle.pod_responses.specs.Links.{field}
 use Rattle.pod_responses.specs.Responses.{validators, vary}
 use Rattle.pod_rows.specs.Base.{is_authority_byte, is_base_of}

@@ -16,7 +16,7 @@ use Rattle.pod_representations.specs.Preconditions.{change_verdict, read_verdict
 use Rattle.pod_representations.specs.ReadResponses.{read_response}
 use Rattle.pod_representations.specs.Representations.{represented}
 use Rattle.pod_representations.specs.declared.media.Media.{Media}
-use Rattle.pod_representations.specs.declared.shown.Shown.{Shown}
+use Rattle.pod_representations.specs.declared.representation.Shown.{Shown}
 use Rattle.pod_reply.specs.Obstacles.{condition_refusal, conflict, content_refusal, failed, first_of, new_path_refusal, no_room, refuse_if}
 use Rattle.pod_reply.specs.PutReplies.{place_refusal}
 use Rattle.pod_reply.specs.ReadReplies.{chosen_read, found_read, judged_read, read_reply, row_read}

@@ -1,6 +1,6 @@
 -- A patch document has one outcome.
 use Rattle.std.proofs.Common.{◌≡◌, ◌⊎◌, ℕ, List, refl, sym, ap, ◌∙◌, inl, inr, Ok, Err}
-use Rattle.rdf_graph.specs.declared.patch.Patch.{Patch as RdfPatch}
+use Rattle.graph_patch.specs.declared.patch.Patch.{Patch as RdfPatch}
 use Rattle.n3_patch.specs.declared.fault.N3Fault.{N3Fault}
 use Rattle.n3_patch.specs.declared.fault.N3Fault.TheVariants as fault_of
 use Rattle.n3_patch.specs.Answers.{IsReadAs}

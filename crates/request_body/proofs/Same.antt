@@ -1,6 +1,6 @@
 -- Equal outcomes are the same.
 use Rattle.std.proofs.Common.{◌≡◌, refl, sym, subst, Ok, Err}
-use Rattle.rdf_graph.specs.declared.patch.Patch.{Patch as RdfPatch}
+use Rattle.graph_patch.specs.declared.patch.Patch.{Patch as RdfPatch}
 use Rattle.n3_patch.specs.Laws.{SamePatch}
 use Rattle.pod_base.specs.Listed.{Listed}
 use Rattle.sparql_patch.specs.declared.named.Named.{Named}

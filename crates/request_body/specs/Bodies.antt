@@ -1,7 +1,7 @@
 -- What the body of a request means at its target, or why it means nothing.
 use Rattle.std.specs.Prelude.{◌≡◌, ◌≤◌, ◌⊎◌, ℕ, List, Result, Ok, Err, unwrap_or, codes}
 use Rattle.rdf_graph.specs.Graph.{IsGraph}
-use Rattle.rdf_graph.specs.Patch.{IsBound}
+use Rattle.graph_patch.specs.Patch.{IsBound}
 use Rattle.rdf_graph.specs.declared.size.TheConstants.{TRIPLES_LIMIT}
 use Rattle.pod_base.specs.declared.field.Field.{Field}
 use Rattle.pod_base.specs.declared.request.Request.{Request}

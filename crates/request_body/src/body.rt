@@ -1,8 +1,8 @@
 //! [`RequestBody`]: what the body of a request means.
 
+use graph_patch::Patch;
 use pod_base::List;
 use pod_command::Content;
-use rdf_graph::Patch;
 use sparql_patch::Named;
 
 /// What the body of a request means at its target.

@@ -11,7 +11,7 @@ use Rattle.std.proofs.lemmas.Str.{IsUtf8-from_ascii}
 use Rattle.std.proofs.lemmas.Str.Ascii.{IsAscii-from_all}
 use Rattle.httparse.specs.Grammar.{trim_ows}
 use Rattle.request_fields.specs.ContentTypes.{is_printable, is_content_type, type_text}
-use Rattle.request_fields.specs.declared.content.TheConstants.{CONTENT_TYPE_LIMIT}
+use Rattle.request_fields.specs.declared.content_types.TheConstants.{CONTENT_TYPE_LIMIT}
 
 pub position_some : (p : ℕ → Bool) (xs : List ℕ) (at : ℕ) → position p xs ≡ Some at → take at xs ≡ before_first p xs
 position_some p xs at e = by_test (ltb (position_or_len p xs) (length xs)) e

@@ -8,9 +8,9 @@ use Rattle.pod_base.specs.Fields.{is_named}
 use Rattle.pod_base.specs.declared.field.Field.{Field}
 use Rattle.field_list.specs.Values.{only_value}
 use Rattle.request_fields.specs.MediaTypes.{media_type}
-use Rattle.request_fields.specs.declared.content.BodyType.{BodyType}
-use Rattle.request_fields.specs.declared.content.BodyType.TheVariants.{Missing, Malformed, Given}
-use Rattle.request_fields.specs.declared.content.TheConstants.{CONTENT_TYPE_LIMIT}
+use Rattle.request_fields.specs.declared.content_types.BodyType.{BodyType}
+use Rattle.request_fields.specs.declared.content_types.BodyType.TheVariants.{Missing, Malformed, Given}
+use Rattle.request_fields.specs.declared.content_types.TheConstants.{CONTENT_TYPE_LIMIT}
 
 -- a byte from space to `~`
 abbrev pub is_printable : ℕ → Bool

@@ -6,7 +6,7 @@ use Rattle.std.specs.Option.{option_map_or}
 use Rattle.std.specs.Str.{str_eq_ignore_ascii_case}
 use Rattle.httparse.specs.Grammar.{is_token, trim_ows}
 use Rattle.field_list.specs.Parts.{parts}
-use Rattle.field_list.specs.Pairs.{Pair, two_parts}
+use Rattle.field_list.specs.Pairs.{Pair, split_pair}
 use Rattle.field_list.specs.QuotedString.{is_quoted_string}
 use Rattle.field_list.specs.declared.quoting.Quoting.TheVariants.{Strings}
 
@@ -17,7 +17,7 @@ parameters link = map trim_ows (drop 1 (parts Strings 59 link))
 
 -- what is before and after the `=` of a parameter
 abbrev pub name_and_value : List ℕ → Option Pair
-name_and_value text = two_parts Strings 61 text
+name_and_value text = split_pair Strings 61 text
 
 abbrev pub is_parameter_value : List ℕ → Bool
 is_parameter_value text = is_token text || is_quoted_string text

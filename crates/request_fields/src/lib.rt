@@ -19,17 +19,17 @@
 //! `base64` and on `pod_base`.
 #![tactic(auto)]
 
-mod content;
-mod link;
+mod container_link;
+mod content_types;
 mod link_parameter;
 mod link_values;
 mod media_types;
-mod part_fields;
 mod relation_type;
+mod slug_and_range;
 mod upgrade;
 
-pub use content::{BodyType, CONTENT_TYPE_LIMIT, body_type, content_type};
-pub use link::links_to_container;
+pub use container_link::links_to_container;
+pub use content_types::{BodyType, CONTENT_TYPE_LIMIT, body_type, content_type};
 pub use media_types::{MediaType, media_type};
-pub use part_fields::{allows_ranges, range, slug};
+pub use slug_and_range::{allows_ranges, range, slug};
 pub use upgrade::upgrade_key;

@@ -7,7 +7,7 @@ ghost use Rattle.field_list.specs.Parts.{parts, parts_rest};
 ghost use Rattle.field_list.specs.declared.quoting.Quoting.TheVariants.{Strings};
 ghost use Rattle.request_fields.specs.LinkParameters as spec;
 
-use field_list::{Parts, Quoting, is_quoted_string, trim, two_parts};
+use field_list::{Parts, Quoting, is_quoted_string, split_pair, trim};
 use httparse::is_token;
 
 /// Whether a text is a token or a quoted string.
@@ -21,7 +21,7 @@ fn is_parameter_value(text: &[u8]) -> bool
 fn is_named_value(text: &[u8]) -> bool
     ensures { result ≡ spec.is_named_value text.now }
 {
-    match two_parts(Quoting::Strings, b'=', text) {
+    match split_pair(Quoting::Strings, b'=', text) {
         Some((name, value)) => is_token(trim(name)) && is_parameter_value(trim(value)),
         None => false,
     }
@@ -38,7 +38,7 @@ fn is_parameter(text: &[u8]) -> bool
 fn value_named<'a>(text: &'a [u8], name: &str) -> Option<&'a [u8]>
     ensures { option_copied result ≡ spec.value_named name.now text.entry.now }
 {
-    match two_parts(Quoting::Strings, b'=', text) {
+    match split_pair(Quoting::Strings, b'=', text) {
         Some((given, value)) => {
             if trim(given).eq_ignore_ascii_case(name.as_bytes()) {
                 Some(trim(value))

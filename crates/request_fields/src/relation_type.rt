@@ -11,7 +11,7 @@ use field_list::{QuotedBytes, is_quoted_string};
 use httparse::is_space_or_tab;
 
 /// What is left of a word after one more byte; none where the bytes differ.
-fn left_after<'a>(left: Option<&'a [u8]>, byte: u8) -> Option<&'a [u8]>
+fn rest_of_word<'a>(left: Option<&'a [u8]>, byte: u8) -> Option<&'a [u8]>
     ensures { option_copied result ≡ progress.left_after (option_copied left.entry) byte }
 {
     match left?.split_first() {
@@ -44,7 +44,7 @@ fn quoted_has_word(text: &[u8], word: &[u8]) -> bool
     let mut bytes = QuotedBytes::of(text);
     while let Some(byte) = bytes.next() {
         if !is_space_or_tab(byte) {
-            left = left_after(left, byte);
+            left = rest_of_word(left, byte);
         } else if is_complete(left) {
             return true;
         } else {

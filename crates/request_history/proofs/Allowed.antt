@@ -2,7 +2,7 @@
 use Rattle.std.proofs.Common.{◌≡◌, ◌⊎◌, inl, inr, ℕ, Bool, true, false, ◌||◌, List, Option, Some, sym, subst}
 use Rattle.journal_log.specs.Frames.{framed_of}
 use Rattle.journal_log.specs.Gates.{IsClosed, IsOpening}
-use Rattle.pod_command.specs.StoredForms.{entry_bytes}
+use Rattle.stored_forms.specs.StoredForms.{entry_bytes}
 use Rattle.pod_command.specs.declared.entry.Entry.{Entry}
 use Rattle.pod_core.specs.KeeperSteps as keeper
 use Rattle.pod_core.specs.KeeperSteps.{Holder, KeeperView}

@@ -17,9 +17,9 @@ use Rattle.request_history.proofs.Numbered.{get_all, get_other, get_set, set_all
 use Rattle.request_history.proofs.Settled.{EventsStay, keeps_request, settled_rests, settled_seen}
 use Rattle.request_history.proofs.Steps.{arrives}
 use Rattle.request_history.specs.Connections.{Rests, SettlesTo}
-use Rattle.request_history.specs.Parts.{HasSeen, HoldsNext, IsWorld, Replaces, ReplacesIfAny, Took, with_new}
+use Rattle.request_history.specs.Parts.{HasSeen, HoldsNext, IsWorld, Replaces, ReplacesIfAny, TookEvent, with_new}
 use Rattle.request_history.specs.Worlds.{any_second, asking_of, numbered, world_of}
-use Rattle.request_history.specs.declared.parts.Parts.{Parts}
+use Rattle.request_history.specs.declared.world_parts.Parts.{Parts}
 
 numbered_other : (connections : List Connection) (conn n : ℕ) (new : Connection) → (n ≡ suc conn → ⊥) → numbered (set connections conn new) n ≡ numbered connections n
 numbered_other connections conn zero new h = refl
@@ -78,7 +78,7 @@ never_arrives parts conn piece none new step = absurd (cc (sym none ∙ step.doe
 
 pub took_replaced : (old new : Parts) (event : Event) (conn : ℕ) (connection : Connection) → IsWorld old → Replaces old event conn connection
     → new.tokens ≡ old.tokens → new.keeper ≡ old.keeper → new.published ≡ old.published → new.stopped ≡ old.stopped → new.connections.items ≡ with_new old conn connection
-    → Took old event new
+    → TookEvent old event new
 took_replaced old new event conn connection fine r tokens view published stopped items = record {
   fine = record {
     published = subst (λ n. n ≤ end_of new.keeper.history) (sym published) (subst (λ (v : KeeperView). old.published ≤ end_of v.history) (sym view) fine.published);

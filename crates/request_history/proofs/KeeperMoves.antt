@@ -1,7 +1,7 @@
 -- What becomes of a keeper.
 use Rattle.std.proofs.Common.{◌≡◌, ℕ, ◌+◌, ◌≤◌, true, false, List, [], ◌∷◌, ◌++◌, Option, Some, None, refl, sym, ap, subst, ◌∙◌, arith}
 use Rattle.journal_log.specs.Frames.{sized}
-use Rattle.pod_command.specs.StoredForms.{entry_bytes}
+use Rattle.stored_forms.specs.StoredForms.{entry_bytes}
 use Rattle.pod_command.specs.declared.entry.Entry.{Entry}
 use Rattle.pod_core.specs.History.{History, IsPlace, end_of, longer}
 use Rattle.pod_core.specs.KeeperSteps as keeper
@@ -15,10 +15,10 @@ use Rattle.request_history.proofs.MaySteps.{taken_holder, written_holder}
 use Rattle.request_history.specs.Keepers.{AppliesAtEnd, AreLater, IsKeeper, IsPending, IsVersionAt, Opens, history_of}
 use Rattle.request_history.specs.Phases.{MayStep, phase_of, step_event}
 use Rattle.request_history.specs.declared.keeper.Opening.{Opening}
-use Rattle.request_history.specs.declared.phase.Stage.{Stage}
-use Rattle.request_history.specs.declared.phase.Stage.TheVariants as stages
-use Rattle.request_history.specs.declared.phase.Step.{Step}
-use Rattle.request_history.specs.declared.phase.Step.TheVariants as steps
+use Rattle.request_history.specs.declared.holder_phase.Stage.{Stage}
+use Rattle.request_history.specs.declared.holder_phase.Stage.TheVariants as stages
+use Rattle.request_history.specs.declared.holder_phase.Step.{Step}
+use Rattle.request_history.specs.declared.holder_phase.Step.TheVariants as steps
 
 -- the view of these parts
 abbrev pub view_of : History → Option Entry → keeper.Phase → KeeperView

@@ -7,8 +7,8 @@ use Rattle.std.proofs.lemmas.Option.{slice_get_within}
 use Rattle.journal_log.specs.CleanJournal.{IsShort}
 use Rattle.journal_log.specs.Frames.{opened, sized}
 use Rattle.journal_log.specs.Heads.{encoded_head}
-use Rattle.pod_command.specs.Storable.{IsStorableSnapshot}
-use Rattle.pod_command.specs.StoredForms.{entry_bytes, snapshot_bytes}
+use Rattle.stored_forms.specs.Storable.{IsStorableSnapshot}
+use Rattle.stored_forms.specs.StoredForms.{entry_bytes, snapshot_bytes}
 use Rattle.pod_command.specs.declared.entry.Entry.{Entry}
 use Rattle.pod_command.specs.declared.snapshot.Snapshot.{Snapshot}
 use Rattle.pod_core.proofs.Histories.{end_grows, moment_at_end, pod_at_end, pod_grows, replayed_next, slice_get-append, slice_get_last}

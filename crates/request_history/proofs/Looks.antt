@@ -22,10 +22,10 @@ use Rattle.request_history.proofs.Settled.{settled_rests, settled_seen}
 use Rattle.request_history.proofs.Steps.{looks}
 use Rattle.request_history.specs.Connections.{HasNext, SettlesTo}
 use Rattle.request_history.specs.Parts.{HasSeen, IsWorld, Replaces}
-use Rattle.request_history.specs.Reads.{Answers, IsAnswerAt, IsLook, IsNoChange, after_answer}
+use Rattle.request_history.specs.Reads.{Answers, IsAnswerAt, IsReadAnswer, IsNoChange, after_answer}
 use Rattle.request_history.specs.Worlds.{HasNoStep, any_second, asking_of}
 use Rattle.request_history.specs.declared.answer.Answer.{Answer}
-use Rattle.request_history.specs.declared.parts.Parts.{Parts}
+use Rattle.request_history.specs.declared.world_parts.Parts.{Parts}
 
 -- ---- the answer to what is next
 
@@ -38,7 +38,7 @@ only_next from event h other n = let e = h.only other n in cc e
 
 module _ (asking : Request → AskedAgent) (history : History) (conn place moment : ℕ) (from : Connection) where
   pub look_read : (request : Request) (stamp : Stamp) (answer : Answer) → stamp ≡ next_stamp conn from moment → IsAnswerAt asking history request place stamp answer
-      → IsNextEvent from (heard.Request request) → IsOnly from (heard.Request request) → is_change request.method ≡ false → IsLook asking history conn place moment from answer
+      → IsNextEvent from (heard.Request request) → IsOnly from (heard.Request request) → is_change request.method ≡ false → IsReadAnswer asking history conn place moment from answer
   look_read request stamp answer is a next only none =
       let b : IsAnswerAt asking history request place (next_stamp conn from moment) answer = subst (λ (s : Stamp). IsAnswerAt asking history request place s answer) is a in
       record {
@@ -63,7 +63,7 @@ module _ (asking : Request → AskedAgent) (history : History) (conn place momen
       }
 
   pub look_refused : (status : ℕ) (answer : Answer) → answer.text ≡ refusal_text status (Some moment) → answer.switched ≡ false
-      → IsNextEvent from (heard.Bad status) → IsOnly from (heard.Bad status) → IsLook asking history conn place moment from answer
+      → IsNextEvent from (heard.Bad status) → IsOnly from (heard.Bad status) → IsReadAnswer asking history conn place moment from answer
   look_refused status answer text switched next only = record {
     event = heard.Bad status;
     next = next;
@@ -102,7 +102,7 @@ module _ (asking : Request → AskedAgent) (history : History) (conn place momen
 
 module _ (parts : Parts) (conn place moment : ℕ) (from : Connection) (is : slice_get parts.connections.items conn ≡ Some from) where
   pub look_replaces : (answer : Answer) (new : Connection) → IsWorld parts → parts.stopped ≡ false → from.seen ≤ place → place ≤ parts.published → IsClockMoment any_second moment
-      → IsLook (asking_of parts.tokens) parts.keeper.history (suc conn) place moment from answer
+      → IsReadAnswer (asking_of parts.tokens) parts.keeper.history (suc conn) place moment from answer
       → ((event : Heard) → IsNextEvent from event → SettlesTo (after_answer from event answer place) new)
       → Replaces parts (world.look (suc conn) place moment) conn new
   look_replaces answer new fine runs seen shown clock k settled =

@@ -18,12 +18,12 @@ use Rattle.request_history.proofs.Settled.{settled_rests, settled_seen}
 use Rattle.request_history.proofs.Steps.{gives_up, proceeds, publishes, stops, world_at}
 use Rattle.request_history.specs.Connections.{Rests, SettlesTo, advanced}
 use Rattle.request_history.specs.Phases.{IsOpened, MayStep, step_event}
-use Rattle.request_history.specs.Parts.{AnswersHolder, HasSeen, HoldsNext, IsFaulted, IsFinished, IsWorld, Took, faulted, finished}
+use Rattle.request_history.specs.Parts.{AnswersHolder, HasSeen, HoldsNext, IsFaulted, IsFinished, IsWorld, TookEvent, faulted, finished}
 use Rattle.request_history.specs.Worlds.{HasNoStep, Steps, any_second, asking_of, holder_event, numbered, world_of}
-use Rattle.request_history.specs.declared.phase.Step.{Step}
-use Rattle.request_history.specs.declared.phase.Step.TheVariants as steps
-use Rattle.request_history.specs.declared.parts.Parts.{Parts}
-use Rattle.request_history.specs.declared.parts.Replaced.{Replaced}
+use Rattle.request_history.specs.declared.holder_phase.Step.{Step}
+use Rattle.request_history.specs.declared.holder_phase.Step.TheVariants as steps
+use Rattle.request_history.specs.declared.world_parts.Parts.{Parts}
+use Rattle.request_history.specs.declared.world_parts.Replaced.{Replaced}
 
 -- ---- whether there is a step
 
@@ -89,7 +89,7 @@ module _ (parts : Parts) (fine : IsWorld parts) (runs : parts.stopped ≡ false)
   steps_proceeded steps.Gate to s = proceeds (asking_of parts.tokens) parts.keeper parts.published parts.connections.items parts.stopped runs fine.rests (world.gate true) (keeper.gate true) to (λ d. d) s
 
 module _ (parts : Parts) (fine : IsWorld parts) (runs : parts.stopped ≡ false) where
-  pub took_proceeded : (step : Step) (to : KeeperView) → KeeperStep parts.keeper (step_event step true) to → Took parts (holder_event step true) (with_view parts to)
+  pub took_proceeded : (step : Step) (to : KeeperView) → KeeperStep parts.keeper (step_event step true) to → TookEvent parts (holder_event step true) (with_view parts to)
   took_proceeded step to s = record {
     fine = fine_proceeded parts fine runs step to s;
     tokens = refl;
@@ -172,7 +172,7 @@ module _ (parts : Parts) (fine : IsWorld parts) (runs : parts.stopped ≡ false)
     failed_at steps.Gate s = gives_up (asking_of parts.tokens) parts.keeper parts.published parts.connections.items parts.stopped runs fine.rests (world.gate false) (keeper.gate false) to a.holder r.at a.from r.connection (λ done d. d) s a.held a.number a.is_there a.settled
 
     pub took_failed : (new : Parts) → new.tokens ≡ parts.tokens → new.keeper ≡ to → new.published ≡ parts.published → new.connections.items ≡ replaced → new.stopped ≡ parts.stopped
-        → Took parts (holder_event step false) new
+        → TookEvent parts (holder_event step false) new
     took_failed new tokens view published items stopped =
         let g = history_after step false parts.keeper to s in
         let f = fine_answered faulted a (begun a.from a.is_there) in
@@ -203,7 +203,7 @@ module _ (parts : Parts) (fine : IsWorld parts) (runs : parts.stopped ≡ false)
     freed = record parts.keeper { phase = keeper.free }
 
     pub took_published : (new : Parts) → new.tokens ≡ parts.tokens → new.keeper ≡ freed → new.published ≡ end → new.connections.items ≡ replaced → new.stopped ≡ parts.stopped
-        → Took parts world.publish new
+        → TookEvent parts world.publish new
     took_published new tokens view published items stopped =
         let f = fine_answered (finished end) a (omega arith) in
         let start : new.keeper.history.start ≡ parts.keeper.history.start = ap (λ (v : KeeperView). v.history.start) view in
@@ -230,7 +230,7 @@ never_stops parts image h new s = let d = s.does in h d.allowed
 pub never_after_stop : (parts : Parts) (event : world.Event) → parts.stopped ≡ true → HasNoStep parts event
 never_after_stop parts event e new s = absurd (cc (sym e ∙ s.runs))
 
-pub took_stopped : (parts : Parts) (image : List ℕ) → IsWorld parts → parts.stopped ≡ false → IsAllowedImage parts.keeper image → Took parts (world.stop image) (record parts { stopped = true })
+pub took_stopped : (parts : Parts) (image : List ℕ) → IsWorld parts → parts.stopped ≡ false → IsAllowedImage parts.keeper image → TookEvent parts (world.stop image) (record parts { stopped = true })
 took_stopped parts image fine runs allowed = record {
   fine = record { published = fine.published; seen = fine.seen; rests = fine.rests; holds = fine.holds };
   tokens = refl;

@@ -4,8 +4,8 @@ use Rattle.std.specs.Option.{option_map}
 use Rattle.pod_base.specs.declared.moment.Stamp.{Stamp}
 use Rattle.pod_base.specs.declared.request.Request.{Request}
 use Rattle.pod_command.specs.Bare.{bare_entry}
-use Rattle.pod_command.specs.Storable.{IsStorable}
-use Rattle.pod_command.specs.StoredForms.{entry_bytes, origin_bytes, request_bytes}
+use Rattle.stored_forms.specs.Storable.{IsStorable}
+use Rattle.stored_forms.specs.StoredForms.{entry_bytes, origin_bytes, request_bytes}
 use Rattle.pod_command.specs.declared.entry.Entry.{Entry}
 use Rattle.pod_core.specs.History.{History, end_of, pod_at}
 use Rattle.pod_base.specs.declared.heard.Heard.TheVariants as heard
@@ -21,8 +21,8 @@ use Rattle.reply_laws.specs.Granted.{is_change}
 use Rattle.token_table.specs.Credentials.{AskedAgent}
 use Rattle.request_history.specs.Answers.{item_of}
 use Rattle.request_history.specs.Reads.{Becomes, ChangesAs, ReplyBecomes}
-use Rattle.request_history.specs.declared.changes.Change.{Change}
-use Rattle.request_history.specs.declared.changes.Change.TheVariants as outcomes
+use Rattle.request_history.specs.declared.change_answers.Change.{Change}
+use Rattle.request_history.specs.declared.change_answers.Change.TheVariants as outcomes
 
 -- a pod, the agent, the number of the next change and the stamp
 abbrev Asking : Type 0

@@ -20,14 +20,14 @@ use Rattle.request_history.proofs.Numbered.{get_all}
 use Rattle.request_history.proofs.Settled.{settled_rests, settled_seen}
 use Rattle.request_history.proofs.Steps.{answers, takes, world_at}
 use Rattle.request_history.specs.Connections.{HasNext, SettlesTo, advanced}
-use Rattle.request_history.specs.Parts.{HasSeen, HoldsNext, IsReady, IsTaken, IsWorld, Replaces, TakesIfAny, Took}
+use Rattle.request_history.specs.Parts.{HasSeen, HoldsNext, IsReady, TakesLock, IsWorld, Replaces, TakesIfAny, TookEvent}
 use Rattle.request_history.specs.Keepers.{AppliesAtEnd}
 use Rattle.request_history.specs.Reads.{ChangesAs, LacksChange, after_answer}
 use Rattle.request_history.specs.Worlds.{HasNoStep, any_second, asking_of, world_of}
 use Rattle.request_history.specs.declared.answer.Answer.{Answer}
-use Rattle.request_history.specs.declared.changes.Change.{Change}
-use Rattle.request_history.specs.declared.changes.Change.TheVariants as outcomes
-use Rattle.request_history.specs.declared.parts.Parts.{Parts}
+use Rattle.request_history.specs.declared.change_answers.Change.{Change}
+use Rattle.request_history.specs.declared.change_answers.Change.TheVariants as outcomes
+use Rattle.request_history.specs.declared.world_parts.Parts.{Parts}
 
 -- ---- where no change is next
 
@@ -68,7 +68,7 @@ module _ (parts : Parts) (conn moment : ℕ) where
 
 module _ (parts : Parts) (fine : IsWorld parts) (runs : parts.stopped ≡ false) (conn moment : ℕ) where
   -- with an entry the change holds the lock
-  pub took_held : (holder : Holder) → (t : IsTaken parts conn moment (outcomes.Held holder)) → Took parts (world.take (suc conn) moment) (record parts { keeper = record parts.keeper { phase = keeper.taken holder } })
+  pub took_held : (holder : Holder) → (t : TakesLock parts conn moment (outcomes.Held holder)) → TookEvent parts (world.take (suc conn) moment) (record parts { keeper = record parts.keeper { phase = keeper.taken holder } })
   took_held holder t =
       let k = t.takes in
       let b = k.becomes in
@@ -86,7 +86,7 @@ module _ (parts : Parts) (fine : IsWorld parts) (runs : parts.stopped ≡ false)
       }
 
   -- without one it is answered
-  pub answer_replaces : (answer : Answer) (new : Connection) (t : IsTaken parts conn moment (outcomes.Answered answer))
+  pub answer_replaces : (answer : Answer) (new : Connection) (t : TakesLock parts conn moment (outcomes.Answered answer))
       → ((event : Heard) → IsNextEvent t.from event → SettlesTo (after_answer t.from event answer (end_of parts.keeper.history)) new)
       → Replaces parts (world.take (suc conn) moment) conn new
   answer_replaces answer new t settled =
@@ -124,7 +124,7 @@ module _ (parts : Parts) (conn moment : ℕ) (from : Connection) (is : slice_get
   takes_if_any (outcomes.Answered answer) t = record { from = from; is_there = is; is_free = is_free; clock = clock; takes = t }
 
 -- the entry of a change that takes the lock applies
-pub held_applies : (parts : Parts) (conn moment : ℕ) (holder : Holder) → IsTaken parts conn moment (outcomes.Held holder) → AppliesAtEnd parts.keeper.history holder
+pub held_applies : (parts : Parts) (conn moment : ℕ) (holder : Holder) → TakesLock parts conn moment (outcomes.Held holder) → AppliesAtEnd parts.keeper.history holder
 held_applies parts conn moment holder t =
     let k = t.takes in
     let b = k.becomes in
@@ -132,7 +132,7 @@ held_applies parts conn moment holder t =
     let end = end_of parts.keeper.history in
     subst (λ (o : Option Entry). IfSome o (Applies (pod_at parts.keeper.history end) end)) c.0 b.applies
 
-pub taken_ready : (parts : Parts) (conn moment : ℕ) (answer : Answer) → IsTaken parts conn moment (outcomes.Answered answer) → IsReady parts conn
+pub taken_ready : (parts : Parts) (conn moment : ℕ) (answer : Answer) → TakesLock parts conn moment (outcomes.Answered answer) → IsReady parts conn
 taken_ready parts conn moment answer t =
     let k = t.takes in
     record { from = t.from; is_there = t.is_there; event = heard.Request k.request; next = k.next }

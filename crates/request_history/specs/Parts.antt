@@ -4,7 +4,7 @@ use Rattle.std.specs.Prelude.{Some, None, IfSome, slice_get, slice_set}
 use Rattle.std.specs.List.{AllByRecursion}
 use Rattle.pod_base.specs.declared.heard.Heard.{Heard}
 use Rattle.pod_base.specs.declared.heard.Heard.TheVariants as heard
-use Rattle.pod_command.specs.Storable.{IsStorable}
+use Rattle.stored_forms.specs.Storable.{IsStorable}
 use Rattle.pod_core.specs.History.{end_of}
 use Rattle.pod_core.specs.KeeperSteps as keeper
 use Rattle.pod_core.specs.KeeperSteps.{Holder}
@@ -16,12 +16,12 @@ use Rattle.request_history.specs.Connections.{Rests, SettlesTo}
 use Rattle.request_history.specs.Worlds.{HasNoStep, Steps, any_second, asking_of, numbered}
 use Rattle.request_history.specs.Worlds.{world_of}
 use Rattle.request_history.specs.Reads.{TakesAs}
-use Rattle.request_history.specs.declared.changes.Change.{Change}
-use Rattle.request_history.specs.declared.changes.Change.TheVariants as outcomes
+use Rattle.request_history.specs.declared.change_answers.Change.{Change}
+use Rattle.request_history.specs.declared.change_answers.Change.TheVariants as outcomes
 use Rattle.request_history.specs.declared.event.StepFault.{StepFault}
 use Rattle.request_history.specs.declared.event.StepFault.TheVariants as faults
-use Rattle.request_history.specs.declared.parts.Parts.{Parts}
-use Rattle.request_history.specs.declared.parts.Replaced.{Replaced}
+use Rattle.request_history.specs.declared.world_parts.Parts.{Parts}
+use Rattle.request_history.specs.declared.world_parts.Replaced.{Replaced}
 
 -- ---- what holds of them
 
@@ -48,7 +48,7 @@ pub record IsWorld (parts : Parts) : Type 0 where
 -- ---- what becomes of them
 
 -- It took the event.
-pub record Took (old : Parts) (event : world.Event) (new : Parts) : Type 0 where
+pub record TookEvent (old : Parts) (event : world.Event) (new : Parts) : Type 0 where
   pub fine : IsWorld new
   pub tokens : new.tokens ≡ old.tokens
   pub steps : Steps old event new
@@ -59,7 +59,7 @@ Refuses faults.NoMemory old event = Unit {0}
 
 -- It took the event; or it has no such step, or memory ran out, and it is as before.
 abbrev pub CameTo : {T : Type 0} → Result T StepFault → Parts → world.Event → Parts → Type 0
-CameTo (Ok done) old event new = Took old event new
+CameTo (Ok done) old event new = TookEvent old event new
 CameTo (Err fault) old event new = (new ≡ old) × Refuses fault old event
 
 -- ---- one connection is replaced
@@ -120,7 +120,7 @@ pub record IsReady (parts : Parts) (conn : ℕ) : Type 0 where
   pub next : world.IsNextEvent from event
 
 -- The connection's change takes the lock, and becomes this.
-pub record IsTaken (parts : Parts) (conn moment : ℕ) (change : Change) : Type 0 where
+pub record TakesLock (parts : Parts) (conn moment : ℕ) (change : Change) : Type 0 where
   pub from : world.Connection
   pub is_there : slice_get parts.connections.items conn ≡ Some from
   pub is_free : parts.keeper.phase ≡ keeper.free
@@ -130,6 +130,6 @@ pub record IsTaken (parts : Parts) (conn moment : ℕ) (change : Change) : Type 
 abbrev pub TakesIfAny : Parts → ℕ → ℕ → Change → Type 0
 TakesIfAny parts conn moment outcomes.Stays = HasNoStep parts (world.take (suc conn) moment)
 TakesIfAny parts conn moment (outcomes.Held holder) =
-    IsTaken parts conn moment (outcomes.Held holder)
+    TakesLock parts conn moment (outcomes.Held holder)
 TakesIfAny parts conn moment (outcomes.Answered answer) =
-    IsTaken parts conn moment (outcomes.Answered answer)
+    TakesLock parts conn moment (outcomes.Answered answer)

@@ -6,7 +6,7 @@ use Rattle.pod_base.specs.declared.moment.Stamp.{Stamp}
 use Rattle.pod_base.specs.declared.heard.Heard.{Heard}
 use Rattle.pod_base.specs.declared.heard.Heard.TheVariants as heard
 use Rattle.pod_base.specs.declared.request.Request.{Request}
-use Rattle.pod_command.specs.Storable.{IsStorable}
+use Rattle.stored_forms.specs.Storable.{IsStorable}
 use Rattle.pod_core.specs.History.{History, end_of, pod_at}
 use Rattle.pod_core.specs.KeeperSteps.{IsReplyAtEnd, item_at_end}
 use Rattle.pod_core.specs.Output.{closes_after, item_text}
@@ -20,8 +20,8 @@ use Rattle.token_table.specs.Credentials.{AskedAgent}
 use Rattle.request_history.specs.Connections.{advanced}
 use Rattle.request_history.specs.Worlds.{any_second}
 use Rattle.request_history.specs.declared.answer.Answer.{Answer}
-use Rattle.request_history.specs.declared.changes.Change.{Change}
-use Rattle.request_history.specs.declared.changes.Change.TheVariants as outcomes
+use Rattle.request_history.specs.declared.change_answers.Change.{Change}
+use Rattle.request_history.specs.declared.change_answers.Change.TheVariants as outcomes
 
 -- ---- looks
 
@@ -51,7 +51,7 @@ pub record IsAnswerAt (asking : Request → AskedAgent) (history : History) (req
   pub switched : answer.switched ≡ (reply.response.status == 101)
 
 -- The answer is that to what is next.
-pub record IsLook (asking : Request → AskedAgent) (history : History) (conn place moment : ℕ)
+pub record IsReadAnswer (asking : Request → AskedAgent) (history : History) (conn place moment : ℕ)
     (from : Connection) (answer : Answer) : Type 0 where
   pub event : Heard
   pub next : IsNextEvent from event
@@ -66,7 +66,7 @@ abbrev pub LooksAs : (Request → AskedAgent) → History → ℕ → ℕ → �
 LooksAs asking history conn place moment from None =
     (to : Connection) → Answers asking history conn place moment from to → ⊥
 LooksAs asking history conn place moment from (Some answer) =
-    IsLook asking history conn place moment from answer
+    IsReadAnswer asking history conn place moment from answer
 
 -- ---- changes
 

@@ -7,7 +7,7 @@ ghost use Rattle.pod_core.specs.Session.{upgrades};
 ghost use Rattle.request_history.specs.Answers.{holder_of};
 
 use crate::answer::{Requester, switches};
-use crate::recorded::Recorded;
+use crate::recorded_entry::Recorded;
 use pod_base::{Bytes, Moment, Request, Response};
 use std::marker::Model;
 

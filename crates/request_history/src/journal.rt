@@ -5,14 +5,15 @@ ghost use Rattle.journal_log.specs.CleanJournal.{IsShort};
 ghost use Rattle.journal_log.specs.Frames.{BeginsWithClosedGate, framed_of, sized};
 ghost use Rattle.journal_log.specs.Gates.{IsClosed, IsOpening};
 ghost use Rattle.journal_log.specs.Heads.{encoded_head};
-ghost use Rattle.pod_command.specs.Storable.{IsStorableSnapshot};
-ghost use Rattle.pod_command.specs.StoredForms.{snapshot_bytes};
+ghost use Rattle.stored_forms.specs.Storable.{IsStorableSnapshot};
+ghost use Rattle.stored_forms.specs.StoredForms.{snapshot_bytes};
 ghost use Rattle.pod_rows.specs.WellFormed.{IsWellFormedSnapshot};
 ghost use Rattle.request_history.specs.Images.{IsGatedRecord, IsRecord};
 
 use pod_base::{Bytes, BytesBuilder, Mem};
-use pod_command::{Snapshot, encode_snapshot};
+use pod_command::Snapshot;
 use std::alloc::Global;
+use stored_forms::encode_snapshot;
 
 /// The head of a journal of format 2 with epoch 1.
 fn head() -> &'static [u8]

@@ -4,7 +4,7 @@ ghost use Rattle.std.specs.Prelude.{OnOk, OnErr};
 ghost use Rattle.std.specs.Option.{option_copied};
 ghost use Rattle.journal_log.specs.Frames.{framed_of};
 ghost use Rattle.journal_log.specs.Gates.{IsOpening};
-ghost use Rattle.pod_command.specs.StoredForms.{entry_bytes};
+ghost use Rattle.stored_forms.specs.StoredForms.{entry_bytes};
 ghost use Rattle.pod_command.specs.declared.entry.Entry.{Entry as EntryValue};
 ghost use Rattle.pod_core.specs.History.{IsPlace, end_of, moment_before, pod_at};
 ghost use Rattle.pod_core.specs.KeeperSteps as keeper;
@@ -16,9 +16,9 @@ ghost use Rattle.request_history.specs.Phases.{IsOpened, MayStep, phase_of, step
 ghost use Rattle.world_laws.specs.CrashedWorlds.{IsRecordableHistory};
 
 use crate::holder::Holder;
+use crate::holder_phase::{Stage, Step, is_opened, may_now};
 use crate::journal::{first_journal, is_closed, is_opening, with_record};
-use crate::phase::{Stage, Step, is_opened, may_now};
-use crate::recorded::Recorded;
+use crate::recorded_entry::Recorded;
 use pod_base::{Bytes, List, Mem, Moment, NoMemory};
 use pod_command::{Entry, Snapshot};
 use pod_pages::Version;

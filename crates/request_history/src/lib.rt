@@ -23,19 +23,19 @@
 
 mod answer;
 mod any_clock;
-mod changes;
+mod change_answers;
 mod connection;
 mod event;
 mod holder;
+mod holder_phase;
 mod input;
 mod journal;
 mod keeper;
 pub mod laws;
-mod parts;
-mod phase;
-mod reads;
-mod recorded;
+mod read_answers;
+mod recorded_entry;
 mod world;
+mod world_parts;
 
 pub use event::{Event, StepFault};
 pub use world::World;

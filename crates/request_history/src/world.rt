@@ -14,7 +14,7 @@ ghost use Rattle.world_laws.specs.CrashedWorlds.{IsRecordableHistory};
 use crate::connection::Connection;
 use crate::event::{Event, StepFault};
 use crate::keeper::Keeper;
-use crate::parts::Parts;
+use crate::world_parts::Parts;
 use pod_base::{Bytes, List, Mem, NoMemory};
 use pod_command::{Entry, Snapshot};
 use std::alloc::Global;
@@ -29,7 +29,7 @@ pub struct World {
 }
 
 impl Model for World {
-    ghost use Rattle.request_history.specs.declared.parts.Parts.{Parts};
+    ghost use Rattle.request_history.specs.declared.world_parts.Parts.{Parts};
 
     ghost Value = { Parts };
 

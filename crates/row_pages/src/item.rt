@@ -3,7 +3,7 @@ ghost use Rattle.std.specs.Prelude.{◌≡◌, IfOk};
 ghost use Rattle.row_pages.specs.Items.{Placed};
 
 use crate::keyed::Keyed;
-use crate::steps::Steps;
+use crate::search_steps::Steps;
 use pod_base::{Mem, NoMemory};
 use pod_command::Row;
 use std::alloc::Global;

@@ -1,7 +1,7 @@
 //! [`Keyed`]: what stands in the order by a path, which is read on a count.
 ghost use Rattle.std.specs.Prelude.{◌≡◌, ◌+◌, ℕ, List};
 
-use crate::steps::Steps;
+use crate::search_steps::Steps;
 use std::sync::ledger::Ledger;
 
 /// What stands in the order by a path, its key: a row by its own, and a page by that of its first

@@ -34,20 +34,20 @@
 //! The crate stands on `pod_command`, `pod_path`, `rdf_graph`, `iri_ref` and `pod_base`.
 #![tactic(auto)]
 
-mod delimited;
 mod item;
 mod keyed;
 mod limits;
+mod listing;
 mod node;
 mod part;
-mod parts;
+mod part_list;
 mod rows;
-mod sought;
-mod steps;
+mod search_steps;
+mod sought_path;
 
 pub use item::Item;
 pub use keyed::Keyed;
 pub use limits::PAGE_LIMIT;
 pub use rows::Rows;
-pub use sought::Sought;
-pub use steps::Steps;
+pub use search_steps::Steps;
+pub use sought_path::Sought;

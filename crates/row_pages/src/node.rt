@@ -7,16 +7,16 @@ ghost use Rattle.row_pages.specs.Items.{AreItemsInOrder, put_item};
 ghost use Rattle.row_pages.specs.Nodes.{IsNode, HaveItems};
 ghost use Rattle.row_pages.specs.Parts.{items_of_both};
 
-use crate::delimited::list_parts;
 use crate::item::Item;
 use crate::keyed::Keyed;
 use crate::limits::PAGE_LIMIT;
+use crate::listing::list_parts;
 use crate::part::{Grown, Listed, Part};
-use crate::parts::{
+use crate::part_list::{
     below_in, find_in, first_from_in, into_with_in, put_in, replace_in, share_all, without_in,
 };
-use crate::sought::Sought;
-use crate::steps::Steps;
+use crate::search_steps::Steps;
+use crate::sought_path::Sought;
 use pod_base::{Mem, NoMemory};
 use std::alloc::Global;
 use std::marker::Model;

@@ -8,11 +8,11 @@ ghost use Rattle.row_pages.specs.Items.{remove_item, items_below, begins_with, f
 ghost use Rattle.row_pages.specs.Parts.{items_if, items_of_both};
 ghost use Rattle.row_pages.specs.Seeks.{IsListed};
 
-use crate::delimited::list_item;
 use crate::item::Item;
 use crate::keyed::Keyed;
-use crate::sought::{Sought, text_is_before};
-use crate::steps::Steps;
+use crate::listing::list_item;
+use crate::search_steps::Steps;
+use crate::sought_path::{Sought, text_is_before};
 use pod_base::Mem;
 use std::alloc::Global;
 use std::cmp::Ordering;

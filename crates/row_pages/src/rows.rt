@@ -6,15 +6,15 @@ ghost use Rattle.row_pages.specs.Items.{AreItemsInOrder, Placed, item_at, put_it
 ghost use Rattle.row_pages.specs.Items.{items_below, first_from};
 ghost use Rattle.row_pages.specs.Delimited.{items_direct};
 
-use crate::delimited::list_parts;
 use crate::item::Item;
+use crate::listing::list_parts;
 use crate::node::{Node, push_nodes};
 use crate::part::Part;
-use crate::parts::{
+use crate::part_list::{
     below_in, find_in, first_from_in, into_with_in, put_in, replace_in, share_all, without_in,
 };
-use crate::sought::{PathText, Sought};
-use crate::steps::Steps;
+use crate::search_steps::Steps;
+use crate::sought_path::{PathText, Sought};
 use pod_base::{Mem, NoMemory};
 use std::alloc::Global;
 use std::marker::{Brand, Model};

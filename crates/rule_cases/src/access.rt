@@ -13,7 +13,7 @@
 //! | `needs` METHOD PATH ROW ABOVE PARTS | what a request needs; ROW is `row` where its path is a row, ABOVE the nearest container. PARTS has `c` for conditions, `d` for deletions, `i` for insertions and `t` for preconditions |
 //! | `allow` USER PUBLIC | the text of `WAC-Allow`, for read, write, append and control as `1` or `0` |
 
-use crate::{decisions, needed};
+use crate::{access_needs, decisions};
 use pod_base::Mem;
 use std::alloc::Global;
 
@@ -29,9 +29,9 @@ pub(crate) fn answer(alloc: Global, call: &str, fields: &[&str]) -> Mem<String> 
         }
         ("many", [count, agent, mode]) => decisions::many(alloc, count, agent, mode),
         ("needs", [method, path, exists, above, parts]) => {
-            needed::needs_of(alloc, [method, path, exists, above, parts])
+            access_needs::needs_of(alloc, [method, path, exists, above, parts])
         }
-        ("allow", [user, public]) => needed::allow(alloc, user, public),
+        ("allow", [user, public]) => access_needs::allow(alloc, user, public),
         _ => Ok(String::from_str(alloc, "no case")?),
     }
 }

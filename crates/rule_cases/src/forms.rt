@@ -8,11 +8,12 @@ ghost use Rattle.pod_command.specs.Encodable.{IsEncodable, IsEncodableSnapshot};
 use crate::form_text::{show_entry, show_snapshot};
 use case_words::{known, push_hex};
 use pod_base::{Bytes, Mem};
-use pod_command::{
-    Entry, ReadBack, Snapshot, decode_entry, decode_entry_1, decode_snapshot, encode_entry,
-    encode_snapshot, entry_size,
-};
+use pod_command::{Entry, Snapshot};
 use std::alloc::{AllocError, Global};
+use stored_forms::{
+    ReadBack, decode_entry, decode_entry_1, decode_snapshot, encode_entry, encode_snapshot,
+    entry_size,
+};
 
 /// The bytes of the pieces.
 fn form_of(alloc: Global, pieces: &[&str]) -> Result<Vec<u8>, AllocError> {

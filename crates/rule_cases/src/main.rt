@@ -16,6 +16,7 @@
 #![tactic(auto)]
 
 mod access;
+mod access_needs;
 mod changes;
 mod decisions;
 mod edit_lists;
@@ -29,16 +30,15 @@ mod groups;
 mod index_runs;
 mod index_text;
 mod lines;
-mod needed;
 mod obstacles;
 mod paths;
 mod pod_words;
 mod pods;
 mod reading;
-mod reads;
 mod replays;
 mod replies;
 mod reports;
+mod representation_words;
 mod representations;
 mod requests;
 mod response_text;

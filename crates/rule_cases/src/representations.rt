@@ -11,7 +11,7 @@
 //! A type is `turtle`, `json-ld` or `stored`. FIELDS have `|` between them, and NAMES commas. The
 //! agent may read, and nobody else may do anything.
 
-use crate::{reads, verdicts};
+use crate::{representation_words, verdicts};
 use case_words::{method_of, path_or_root};
 use pod_base::Mem;
 use pod_command::Row;
@@ -30,11 +30,13 @@ fn result_at<S: PodState>(
         ("verdict", _, [method, fields]) => {
             verdicts::verdict_text(alloc, state, row, method_of(method), fields)
         }
-        ("offers", Some(row), []) => reads::offers_text(alloc, row),
-        ("chosen", Some(row), [fields]) => reads::chosen_text(alloc, row, fields),
-        ("represent", Some(row), [media]) => reads::represented_text(alloc, state, row, media),
+        ("offers", Some(row), []) => representation_words::offers_text(alloc, row),
+        ("chosen", Some(row), [fields]) => representation_words::chosen_text(alloc, row, fields),
+        ("represent", Some(row), [media]) => representation_words::represented_text(
+            alloc, state, row, media,
+        ),
         ("show", Some(row), [method, fields, names]) => {
-            reads::response(alloc, state, row, method_of(method), fields, names)
+            representation_words::response(alloc, state, row, method_of(method), fields, names)
         }
         _ => Ok(String::from_str(alloc, "no case")?),
     }

@@ -23,8 +23,8 @@ use Rattle.pod_serve.specs.Connections.{ConnServed, FollowsRequests}
 use Rattle.pod_serve.specs.Desks.{Conns, GateView, ServedLink}
 use Rattle.pod_serve.specs.PoddRuns.{AreServed, DeskRun}
 use Rattle.pod_serve.specs.Served.{Items, LinkView, changes_in}
-use Rattle.pod_serve.specs.declared.conn_end.ConnEnd.{ConnEnd}
-use Rattle.pod_serve.specs.declared.conn_end.ConnEnd.TheVariants as ends
+use Rattle.pod_serve.specs.declared.connection_end.ConnEnd.{ConnEnd}
+use Rattle.pod_serve.specs.declared.connection_end.ConnEnd.TheVariants as ends
 use Rattle.reply_laws.specs.Laws.{EntriesHaveBases}
 use Rattle.serve_laws.specs.EachOnce.{IsEachOnce, EachChangeOnce, StandsOn, adds_on, conn_items, desk_items, times_added}
 use Rattle.serve_laws.proofs.Counting.{counts_equal, counts_none, once_each, one_if, one_within, sum_below, sum_both, sum_none}

@@ -21,10 +21,10 @@ use Rattle.pod_live.specs.Visits.{Visit}
 use Rattle.pod_serve.specs.Connections.{ConnServed, FollowsRequests, requests_end}
 use Rattle.pod_serve.specs.Desks.{Conns, GateView, IsDeskEnd, NoneOutOfMemory, ServedLink}
 use Rattle.pod_serve.specs.PoddRuns.{AreServed, DeskRun}
-use Rattle.pod_serve.specs.Served.{IsHeard, Items, LinkView}
+use Rattle.pod_serve.specs.Served.{AreEventsRead, Items, LinkView}
 use Rattle.pod_serve.specs.WorldRuns.{IsRun, fresh_connection}
-use Rattle.pod_serve.specs.declared.conn_end.ConnEnd.{ConnEnd}
-use Rattle.pod_serve.specs.declared.conn_end.ConnEnd.TheVariants as ends
+use Rattle.pod_serve.specs.declared.connection_end.ConnEnd.{ConnEnd}
+use Rattle.pod_serve.specs.declared.connection_end.ConnEnd.TheVariants as ends
 use Rattle.pod_serve.specs.declared.desk.DeskEnd.{DeskEnd}
 use Rattle.pod_serve.specs.declared.desk.DeskEnd.TheVariants.{GateEnded, GateFailed, NoMemory}
 use Rattle.reply_laws.specs.Laws.{EntriesHaveBases, ReadsHaveNone}
@@ -68,7 +68,7 @@ all_weaker P Q f (x ∷ xs) h = (f x h.0, all_weaker P Q f xs h.1)
 -- ---- one connection
 
 -- what was read of a connection has a parse, unless it was out of memory
-parse_of : (end : ConnEnd) → end ≢ ends.NoMemory → (read : List ℕ) (events : List Heard) (left : Option (List ℕ)) → IsHeard (requests_end end) read events left → (all : List Heard) × (rest : ℕ) × Messages read all rest
+parse_of : (end : ConnEnd) → end ≢ ends.NoMemory → (read : List ℕ) (events : List Heard) (left : Option (List ℕ)) → AreEventsRead (requests_end end) read events left → (all : List Heard) × (rest : ℕ) × Messages read all rest
 parse_of ends.PeerEnded ne read events left h = (events, 0, h.0)
 parse_of (ends.CutShort cut) ne read events left h = (events, cut, h.0)
 parse_of (ends.BadMessage status) ne read events left h = (events, 0, h.0)

@@ -20,7 +20,7 @@ use Rattle.pod_serve.specs.Connections.{ConnServed}
 use Rattle.pod_serve.specs.Desks.{Conns, GateView, ServedLink}
 use Rattle.pod_serve.specs.PoddRuns.{AreAllServed, AreServed, DeskRun, ListenView}
 use Rattle.pod_serve.specs.Served.{LinkView}
-use Rattle.pod_serve.specs.declared.conn_end.ConnEnd.{ConnEnd}
+use Rattle.pod_serve.specs.declared.connection_end.ConnEnd.{ConnEnd}
 use Rattle.pod_serve.specs.declared.desk.DeskEnd.TheVariants.{NoMemory}
 use Rattle.serve_laws.specs.EachOnce.{desk_items}
 use Rattle.serve_laws.specs.Replied.{IsReplied}

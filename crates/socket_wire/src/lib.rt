@@ -15,8 +15,8 @@
 //! It depends on `tungstenite` for the protocol and on `pod_io` for links and wires.
 #![tactic(auto)]
 
-mod pipe;
 mod web_socket;
+mod wire_buffer;
 mod wires;
 
 pub use web_socket::SocketWire;

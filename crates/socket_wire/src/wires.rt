@@ -3,7 +3,7 @@ ghost use Rattle.std.specs.Prelude.{◌≡◌, ◌<◌, ◌≤◌, IfOk, length}
 ghost use Rattle.pod_base.specs.Counts.{CountIncreased};
 ghost use Rattle.socket_wire.specs.Passing.{PassesLink};
 
-use crate::pipe::Pipe;
+use crate::wire_buffer::Pipe;
 use pod_io::{Link, LinkFailed, Polled};
 use std::alloc::Global;
 use std::io::ErrorKind;

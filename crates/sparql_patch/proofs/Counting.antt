@@ -10,7 +10,7 @@ use Rattle.rdf_graph.specs.Size.{saturated, triple_size}
 use Rattle.rdf_graph.specs.declared.size.TheConstants.{TRIPLES_LIMIT}
 use Rattle.turtle_reader.specs.declared.referent.ResolvedTriple.{ResolvedTriple}
 use Rattle.turtle_reader.proofs.Handing.{each_more}
-use Rattle.sparql_patch.specs.declared.collected.Collected.{Collected}
+use Rattle.sparql_patch.specs.declared.collected_triples.Collected.{Collected}
 use Rattle.sparql_patch.specs.declared.named.Named.{Named}
 use Rattle.sparql_patch.specs.Reading.{blank_in, any_blank, IsNaming, IsNamingOrBlank, IsCounted, IsCollected}
 use Rattle.sparql_patch.specs.UpdateSpells.{named_size}

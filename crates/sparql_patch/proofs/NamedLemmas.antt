@@ -5,10 +5,10 @@ use Rattle.std.proofs.lemmas.Bool.{and_parts, and_from, false≢true, not-true, 
 use Rattle.std.proofs.lemmas.List.Elements.{Contains-append_left, Contains-append_right, Contains-append_cases}
 use Rattle.std.proofs.lemmas.Map.Keys.{IsDistinct-head, IsDistinct-tail, IsDistinct-push}
 use Rattle.rdf_graph.proofs.Members.{contains_cases, contains_here, contains_there, contains_none, contains_filter}
-use Rattle.rdf_graph.specs.Patch.{IsBound}
-use Rattle.rdf_graph.specs.Pattern.{HasVariable}
-use Rattle.rdf_graph.specs.declared.patch.Patch.{Patch}
-use Rattle.rdf_graph.specs.declared.pattern.Pattern.{Pattern}
+use Rattle.graph_patch.specs.Patch.{IsBound}
+use Rattle.graph_patch.specs.Pattern.{HasVariable}
+use Rattle.graph_patch.specs.declared.patch.Patch.{Patch}
+use Rattle.graph_patch.specs.declared.pattern.Pattern.{Pattern}
 use Rattle.rdf_graph.specs.declared.triple.Triple.{Triple}
 use Rattle.sparql_patch.specs.declared.named.Named.{Named}
 use Rattle.sparql_patch.specs.Laws.{LastNamingDecides, DeletionsAreInGraph, EachIsListedOnce, WithoutRepeats, naming}

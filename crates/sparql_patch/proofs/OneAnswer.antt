@@ -10,7 +10,7 @@ use Rattle.turtle_reader.specs.FirstFaults.{NeverLarge}
 use Rattle.turtle_reader.specs.Languages.{KeepsText}
 use Rattle.turtle_reader.proofs.OneFault.{one_first_fault}
 use Rattle.turtle_reader.proofs.OneText.{no_fault, nowhere_large}
-use Rattle.sparql_patch.specs.declared.collected.Collected.{Collected}
+use Rattle.sparql_patch.specs.declared.collected_triples.Collected.{Collected}
 use Rattle.sparql_patch.specs.declared.fault.SparqlFault.{SparqlFault}
 use Rattle.sparql_patch.specs.declared.fault.SparqlFault.TheVariants.{Syntax, Blank, TooLarge, NoMemory}
 use Rattle.sparql_patch.specs.declared.named.Named.{Named}

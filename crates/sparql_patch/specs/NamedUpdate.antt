@@ -5,9 +5,9 @@ use Rattle.std.specs.Prelude.{if◌then◌else◌, Option, Some, None}
 use Rattle.std.specs.List.{filter, list_any}
 use Rattle.rdf_graph.specs.Term.{term_eq}
 use Rattle.rdf_graph.specs.declared.triple.Triple.{Triple}
-use Rattle.rdf_graph.specs.declared.patch.Patch.{Patch}
-use Rattle.rdf_graph.specs.declared.pattern.Pattern.{Pattern}
-use Rattle.rdf_graph.specs.declared.pattern.Slot.TheVariants.{Fixed}
+use Rattle.graph_patch.specs.declared.patch.Patch.{Patch}
+use Rattle.graph_patch.specs.declared.pattern.Pattern.{Pattern}
+use Rattle.graph_patch.specs.declared.pattern.Slot.TheVariants.{Fixed}
 use Rattle.sparql_patch.specs.declared.named.Named.{Named}
 
 -- whether two triples are equal

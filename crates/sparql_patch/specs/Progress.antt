@@ -2,9 +2,9 @@
 use Rattle.std.specs.Prelude.{◌≡◌, ◌++◌, ◌∷◌, [], List, if◌then◌else◌}
 use Rattle.std.specs.BTreeSet.{BTreeSet, contains}
 use Rattle.rdf_graph.specs.Triple.{triple_cmp}
-use Rattle.rdf_graph.specs.declared.pattern.Pattern.{Pattern}
+use Rattle.graph_patch.specs.declared.pattern.Pattern.{Pattern}
 use Rattle.rdf_graph.specs.declared.triple.Triple.{Triple}
-use Rattle.rdf_graph.specs.declared.patch.Patch.{Patch}
+use Rattle.graph_patch.specs.declared.patch.Patch.{Patch}
 use Rattle.sparql_patch.specs.declared.named.Named.{Named}
 use Rattle.sparql_patch.specs.NamedUpdate.{IsSpelledAt, has_triple, is_named, pattern_of}
 

@@ -10,7 +10,7 @@ use Rattle.turtle_reader.specs.declared.referent.Referent.{Referent}
 use Rattle.turtle_reader.specs.declared.referent.Referent.TheVariants as referent_of
 use Rattle.turtle_reader.specs.declared.referent.ResolvedTriple.{ResolvedTriple}
 use Rattle.turtle_reader.specs.Handed.{AreEach}
-use Rattle.sparql_patch.specs.declared.collected.Collected.{Collected}
+use Rattle.sparql_patch.specs.declared.collected_triples.Collected.{Collected}
 use Rattle.sparql_patch.specs.declared.named.Named.{Named}
 use Rattle.sparql_patch.specs.UpdateSpells.{is_blank_referent, is_insert, named_size}
 

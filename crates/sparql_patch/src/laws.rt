@@ -23,7 +23,7 @@ pub fn one_naming()
     ensures { HasOneNaming }
 {}
 
-/// A text has at most one first fault of syntax, which is at the least position of all its faults.
+/// An update has at most one first fault of syntax: that at the least position.
 pub fn first_fault()
     ensures one { HasOneFirstFault }
     ensures least { PlacesAscend }

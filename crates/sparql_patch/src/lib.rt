@@ -25,7 +25,7 @@
 //! and on `rdf_graph` for triples and patches.
 #![tactic(auto)]
 
-mod collected;
+mod collected_triples;
 mod fault;
 pub mod laws;
 mod named;

@@ -6,7 +6,7 @@ ghost use Rattle.sparql_patch.specs.UpdateSpells.{Names, named_size};
 ghost use Rattle.sparql_patch.specs.UpdateFaults.{HasNoFault, told_as};
 ghost use Rattle.sparql_patch.specs.UpdateFaults.{IsSparqlFault, HasOnlyNamed};
 
-use crate::collected::Collected;
+use crate::collected_triples::Collected;
 use crate::fault::SparqlFault;
 use crate::named::Named;
 use iri_ref::Iri;

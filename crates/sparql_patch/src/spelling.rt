@@ -2,15 +2,16 @@
 
 ghost use Rattle.std.specs.Prelude.{◌≡◌, ◌++◌, ◌∷◌, [], ◌||◌, not, IfOk, OnOk};
 ghost use Rattle.std.specs.BTreeSet.{contains};
-ghost use Rattle.rdf_graph.specs.Patch.{IsBound};
+ghost use Rattle.graph_patch.specs.Patch.{IsBound};
 ghost use Rattle.rdf_graph.specs.Triple.{triple_cmp};
 ghost use Rattle.rdf_graph.specs.declared.triple.Triple.{Triple};
 ghost use Rattle.sparql_patch.specs.NamedUpdate.{IsSpelledAt, has_triple, pattern_of, triple_eq};
 ghost use Rattle.sparql_patch.specs.Progress.{IsTaken, ReadsOne};
 
 use crate::named::Named;
+use graph_patch::{Patch, Pattern, Slot};
 use pod_base::{List, Mem, NoMemory};
-use rdf_graph::{Graph, Patch, Pattern, Slot, Triple};
+use rdf_graph::{Graph, Triple};
 use std::alloc::Global;
 use std::collections::BTreeSet;
 

@@ -7,15 +7,16 @@ ghost use Rattle.pod_disk.specs.NotedCalls.{visible_content};
 ghost use Rattle.pod_io.specs.Visible.{IfVisible};
 ghost use Rattle.pod_rows.specs.Base.{is_base};
 
-use crate::held::{Held, MOMENT, OWNER};
+use crate::held_keeper::{Held, MOMENT, OWNER};
 use crate::images::push_record;
 use crate::requests::request;
 use iri_ref::Iri;
 use pod_base::{Bytes, List, Mem, Method, Moment, NoMemory, Text};
-use pod_command::{Entry, ReadBack, decode_entry, encode_entry};
+use pod_command::Entry;
 use pod_disk::{Disks, MemDisk};
 use pod_keeper::{CommitFault, Keeper};
 use std::alloc::Global;
+use stored_forms::{ReadBack, decode_entry, encode_entry};
 
 /// A disk of these bytes whose calls of these numbers fail.
 pub(crate) fn disk(alloc: Global, bytes: &[u8], failing: Vec<u64>) -> Mem<MemDisk> {

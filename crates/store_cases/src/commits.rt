@@ -3,7 +3,7 @@
 
 use crate::begun::{disk, disks_of, images};
 use crate::disks::letters;
-use crate::held::Held;
+use crate::held_keeper::Held;
 use crate::requests::put;
 use case_words::{first_word, number_of, numbers_of};
 use journal_log::OpenFault;

@@ -2,7 +2,7 @@
 //! cut at each length.
 
 use crate::commits::{checked, opened, step};
-use crate::held::Held;
+use crate::held_keeper::Held;
 use crate::tears::tear;
 use pod_base::Mem;
 use pod_disk::{Disks, MemDisk, Tear};

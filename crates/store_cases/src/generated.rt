@@ -3,7 +3,7 @@
 use crate::begun::disks_of;
 use crate::commits::{fault_text, opened};
 use crate::crashes::left;
-use crate::held::Held;
+use crate::held_keeper::Held;
 use crate::requests::request;
 use pod_base::{Mem, Method, Request};
 use pod_disk::{Disks, MemDisk, Tear};

@@ -9,7 +9,7 @@ mod commits;
 mod crashes;
 mod disks;
 mod generated;
-mod held;
+mod held_keeper;
 mod images;
 mod opened;
 mod pairs;

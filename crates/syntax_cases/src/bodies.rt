@@ -4,11 +4,12 @@
 
 use crate::{print, requests};
 use case_words::{iri_of, shown, triples_text};
+use graph_patch::Patch;
 use iri_ref::Iri;
 use pod_base::{Bytes, Mem, Request, Text};
 use pod_command::Content;
 use pod_path::Path;
-use rdf_graph::{Graph, Patch};
+use rdf_graph::Graph;
 use request_body::{BodyFault, RequestBody, read_body};
 use sparql_patch::Named;
 use std::alloc::Global;

@@ -4,7 +4,7 @@
 //! Productions and faults are shown as text: `S P O at END` for a triple, with `in` and the formula
 //! where it stands in one.
 
-use crate::letters::{start, symbols};
+use crate::symbol_letters::{start, symbols};
 use case_words::bytes;
 use std::alloc::{AllocError, Global};
 use turtle_grammar::{

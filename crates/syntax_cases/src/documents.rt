@@ -2,7 +2,7 @@
 //! document is shown as the text of its graph, and each text without a meaning as its fault.
 
 use crate::references::iri;
-use crate::written::graph_text;
+use crate::written_graphs::graph_text;
 use crate::{json_ld, patches};
 use case_words::bytes;
 use iri_ref::Iri;

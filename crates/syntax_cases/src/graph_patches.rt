@@ -1,11 +1,12 @@
 //! Cases of patches of graphs: what a patch leaves, its predicates, the size of its instances, and
 //! whether a change fits a graph.
-ghost use Rattle.rdf_graph.specs.Patch.{BindsPatterns, IsBound};
+ghost use Rattle.graph_patch.specs.Patch.{BindsPatterns, IsBound};
 
 use crate::graphs::{graph, patterns};
 use case_words::{text, triples_text};
+use graph_patch::{Mapping, Patch, PatchFault, instantiate, the_mapping};
 use pod_base::{Mem, NoMemory};
-use rdf_graph::{Change, Graph, Mapping, Patch, PatchFault, changed, instantiate, the_mapping};
+use rdf_graph::{Change, Graph, changed};
 use std::alloc::Global;
 
 /// The patch of three fields: conditions, deletions and insertions.

@@ -4,9 +4,10 @@
 
 use crate::{graph_patches, print};
 use case_words::{marked_graph, marked_term, shown_whole, text, triples_text};
+use graph_patch::{Found, Mapping, Pattern, Slot, solutions};
 use pod_base::{List, Mem, NoMemory, Text};
 use rdf_graph::vocabulary::XSD_INTEGER;
-use rdf_graph::{Found, Graph, Mapping, Pattern, Slot, Term, solutions};
+use rdf_graph::{Graph, Term};
 use std::alloc::Global;
 
 /// The term of a word.

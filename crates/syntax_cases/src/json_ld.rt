@@ -4,8 +4,7 @@
 
 use case_words::{shown_whole, triples_text};
 use iri_ref::Iri;
-use jsonld_expanded::{JsonLdFault, read};
-use jsonld_write::write;
+use jsonld_expanded::{JsonLdFault, read, write};
 use pod_base::{Mem, NoMemory};
 use rdf_graph::Graph;
 use std::alloc::Global;

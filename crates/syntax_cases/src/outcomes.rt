@@ -3,15 +3,16 @@
 //! and what is added with `+ `.
 
 ghost use Rattle.std.specs.Prelude.{IfOk, IfSome};
-ghost use Rattle.rdf_graph.specs.Patch.{IsBound};
+ghost use Rattle.graph_patch.specs.Patch.{IsBound};
 
-use crate::namings::{graph, namings};
+use crate::named_triples::{graph, namings};
 use crate::print;
 use case_words::iri_or_bad;
+use graph_patch::Patch;
 use n3_patch::{N3Fault, read};
 use patch_outcome::{PatchRefusal, outcome, update_outcome};
 use pod_base::{Mem, NoMemory};
-use rdf_graph::{Change, Graph, Patch};
+use rdf_graph::{Change, Graph};
 use std::alloc::Global;
 
 const PREFIXES: &str = "@prefix solid: <http://www.w3.org/ns/solid/terms#>. \

@@ -1,6 +1,6 @@
 //! Cases of the two languages of patches, `n3_patch` and `sparql_patch`, and of `patch_outcome`.
 
-use crate::{documents, judged, namings, outcomes, print};
+use crate::{documents, judged_triples, named_triples, outcomes, print};
 use iri_ref::Iri;
 use n3_patch::N3Fault;
 use pod_base::{Mem, NoMemory};
@@ -44,7 +44,7 @@ pub(crate) fn read_update(alloc: Global, base: &Iri, text: &[u8]) -> Mem<String>
 /// What the libraries return for a call on a patch.
 pub(crate) fn call(alloc: Global, case: &[&str]) -> Mem<String> {
     match case {
-        ["judge", triples] => judged::judged(alloc, triples),
+        ["judge", triples] => judged_triples::judged(alloc, triples),
         ["outcome", kind, graph, parts] => outcomes::patched(alloc, kind, graph, parts),
         _ => documents::call(alloc, "patch", case),
     }
@@ -53,7 +53,7 @@ pub(crate) fn call(alloc: Global, case: &[&str]) -> Mem<String> {
 /// What the libraries return for a call on an update.
 pub(crate) fn update(alloc: Global, case: &[&str]) -> Mem<String> {
     match case {
-        ["spelled", named, graph] => namings::spelled(alloc, named, graph),
+        ["spelled", named, graph] => named_triples::spelled(alloc, named, graph),
         ["outcome", kind, graph, named] => outcomes::updated(alloc, kind, graph, named),
         _ => documents::call(alloc, "update", case),
     }

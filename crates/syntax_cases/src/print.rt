@@ -1,8 +1,9 @@
 //! Terms, patches, changes and updates as cases show them.
 
 use case_words::shown_whole;
+use graph_patch::{Patch, Pattern, Slot};
 use pod_base::{List, Mem};
-use rdf_graph::{Change, Patch, Pattern, Slot, Term, Triple};
+use rdf_graph::{Change, Term, Triple};
 use sparql_patch::Named;
 use std::alloc::Global;
 

@@ -7,7 +7,7 @@ use Rattle.rdf_graph.specs.declared.term.Term.{Term}
 use Rattle.rdf_graph.specs.declared.term.Term.TheVariants.{Iri, Blank, Literal, Tagged}
 use Rattle.rdf_graph.specs.declared.triple.Triple.{Triple}
 use Rattle.jsonld_expanded.specs.Expands.{scope_of, start}
-use Rattle.jsonld_write.specs.ReadsBack.{ReadsBack, TripleReadsBack, GraphReadsBack}
+use Rattle.jsonld_expanded.specs.ReadsBack.{ReadsBack, TripleReadsBack, GraphReadsBack}
 use Rattle.syntax_laws.specs.ReadBack.{IsReadBack, TripleIsReadBack, GraphIsReadBack}
 use Rattle.syntax_laws.specs.JsonldLaws.{ExpandedGraphsAreReadBack, ExpandedGraphsReadBack}
 use Rattle.syntax_laws.proofs.Kept.{keeps-document}

@@ -3,7 +3,7 @@ use Rattle.std.specs.Prelude.{ℕ, List}
 use Rattle.rdf_graph.specs.declared.triple.Triple.{Triple}
 use Rattle.serde_json.specs.Data.{Data}
 use Rattle.jsonld_expanded.specs.Expands.{Expands}
-use Rattle.jsonld_write.specs.ReadsBack.{GraphReadsBack}
+use Rattle.jsonld_expanded.specs.ReadsBack.{GraphReadsBack}
 use Rattle.syntax_laws.specs.ReadBack.{GraphIsReadBack}
 use Rattle.turtle_text.specs.Spells.{Spells}
 

@@ -26,8 +26,8 @@
 //! [`spelled_as_json_ld`] says the latter of each graph that a Turtle text spells.
 #![tactic(auto)]
 
-mod jsonld;
-mod texts;
+mod json_ld_laws;
+mod text_laws;
 
 ghost use Rattle.std.specs.Prelude.{◌≤◌, ℕ, List};
 ghost use Rattle.rdf_graph.specs.Graph.{graph_text};
@@ -39,9 +39,9 @@ ghost use Rattle.syntax_laws.specs.Laws.{WrittenGraphsSpell, WrittenGraphsAreWit
 ghost use Rattle.syntax_laws.specs.Laws.{WrittenGraphsAreRead, SpelledGraphsAreReadBack};
 ghost use Rattle.syntax_laws.specs.ReadBack.{GraphIsReadBack};
 
-pub use jsonld::{expanded_graphs, spelled_as_json_ld};
+pub use json_ld_laws::{expanded_graphs, spelled_as_json_ld};
 use rdf_graph::Graph;
-use texts::graph_texts;
+use text_laws::graph_texts;
 
 /// The text of a graph whose terms are read back spells the graph, for every base.
 pub fn written_graphs()

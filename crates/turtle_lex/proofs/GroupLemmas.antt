@@ -11,8 +11,8 @@ use Rattle.turtle_lex.specs.declared.classes.Quote.TheVariants.{Double as Double
 use Rattle.turtle_lex.specs.declared.token.TokenKind.{TokenKind}
 use Rattle.turtle_lex.specs.declared.token.TokenKind.TheVariants.{IriRef, PnameNs, PnameLn, BlankLabel, LangTag, Integer, Decimal, Double, Quoted, Anon, AtPrefix, AtBase, Prefix, Base, A, True, False, Dot, Semicolon, Comma, Carets, OpenSquare, CloseSquare, OpenRound, CloseRound, OpenBrace, CloseBrace, Variable}
 use Rattle.turtle_lex.specs.declared.numbers.Number.TheVariants as Number
-use Rattle.turtle_lex.specs.declared.groups.Group.{Group}
-use Rattle.turtle_lex.specs.declared.groups.Group.TheVariants.{Names, Nothing}
+use Rattle.turtle_lex.specs.declared.token_groups.Group.{Group}
+use Rattle.turtle_lex.specs.declared.token_groups.Group.TheVariants.{Names, Nothing}
 use Rattle.turtle_lex.specs.Classes.{is_iri_char, is_line_char, is_long_char, is_sign, is_exponent_mark, is_blank, is_pn_chars, is_pn_chars_u, is_pn_chars_base, is_escaped, is_local_escaped}
 use Rattle.turtle_lex.specs.Pattern.{Pattern, Matches, HasNoFirstChar}
 use Rattle.turtle_lex.specs.Terminals.{uchar, echar, plx, iri_ref, short_string, long_string, dotted, label, blank_label, variable, pn_prefix, pname_ns, pn_local, pname_ln, lang_tag, sign, exponent, integer, decimal, double, anon}

@@ -7,8 +7,8 @@ use Rattle.turtle_lex.specs.declared.classes.Quote.TheVariants.{Double as Double
 use Rattle.turtle_lex.specs.declared.numbers.Number.{Number}
 use Rattle.turtle_lex.specs.declared.token.TokenKind.{TokenKind}
 use Rattle.turtle_lex.specs.declared.token.TokenKind.TheVariants.{BlankLabel, LangTag, Integer, Decimal, Double, Quoted, Anon, Dot, Semicolon, Comma, Carets, OpenSquare, CloseSquare, OpenRound, CloseRound, OpenBrace, CloseBrace, Variable}
-use Rattle.turtle_lex.specs.declared.groups.Group.TheVariants as Group
-use Rattle.turtle_lex.specs.declared.groups.Mark.{Mark}
+use Rattle.turtle_lex.specs.declared.token_groups.Group.TheVariants as Group
+use Rattle.turtle_lex.specs.declared.token_groups.Mark.{Mark}
 use Rattle.turtle_lex.specs.Classes.{is_blank, is_sign, quote_char}
 use Rattle.turtle_lex.specs.Pattern.{Pattern, word, one, ◌∘◌, many, Matches, MatchesOnly, MatchesLongest}
 use Rattle.turtle_lex.specs.Terminals.{label, blank_label, variable, anon, integer, decimal, double, sign, exponent, short_string, long_string}

@@ -10,7 +10,7 @@ use lib.Chars.{codes}
 use Rattle.std.specs.Char.{is_ascii_alphabetic, to_ascii_lowercase}
 use Rattle.turtle_lex.specs.declared.token.TokenKind.{TokenKind}
 use Rattle.turtle_lex.specs.declared.token.TokenKind.TheVariants.{PnameNs, PnameLn, LangTag, AtPrefix, AtBase, Prefix, Base, A, True, False}
-use Rattle.turtle_lex.specs.declared.groups.Group.TheVariants as Group
+use Rattle.turtle_lex.specs.declared.token_groups.Group.TheVariants as Group
 use Rattle.turtle_lex.specs.Pattern.{word, one, many, Matches, MatchesOnly, MatchesLongest}
 use Rattle.turtle_lex.specs.Terminals.{lang_tag, pn_prefix, pname_ns, pname_ln, pn_local, dotted, plx}
 use Rattle.turtle_lex.specs.Tokens.{terminal, MatchesKind}

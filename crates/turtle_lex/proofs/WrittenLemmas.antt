@@ -15,8 +15,8 @@ use Rattle.turtle_lex.specs.declared.delimited.Content.TheVariants.{Line}
 use Rattle.turtle_lex.specs.declared.numbers.Number.{Number}
 use Rattle.turtle_lex.specs.declared.token.TokenKind.{TokenKind}
 use Rattle.turtle_lex.specs.declared.token.TokenKind.TheVariants.{IriRef, BlankLabel, LangTag, AtPrefix, AtBase, Quoted, Carets, Dot}
-use Rattle.turtle_lex.specs.declared.groups.Group.TheVariants as Group
-use Rattle.turtle_lex.specs.declared.groups.Mark.TheVariants as Mark
+use Rattle.turtle_lex.specs.declared.token_groups.Group.TheVariants as Group
+use Rattle.turtle_lex.specs.declared.token_groups.Mark.TheVariants as Mark
 use Rattle.turtle_lex.specs.Classes.{is_blank, is_pn_chars, is_pn_chars_u, is_pn_chars_base, is_sign, is_exponent_mark, quote_char, is_line_char}
 use Rattle.turtle_lex.specs.Pattern.{Pattern, Matches, MatchesLongest, Times}
 use Rattle.turtle_lex.specs.Terminals.{iri_ref, quotes, short_string, long_string, dotted, label, blank_label, lang_tag, sign, exponent, gap}

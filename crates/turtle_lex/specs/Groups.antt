@@ -13,11 +13,11 @@ use Rattle.turtle_lex.specs.declared.token.TokenKind.TheVariants.{Comma, Carets,
 use Rattle.turtle_lex.specs.declared.token.TokenKind.TheVariants.{CloseSquare, OpenRound}
 use Rattle.turtle_lex.specs.declared.token.TokenKind.TheVariants.{CloseRound, OpenBrace, CloseBrace}
 use Rattle.turtle_lex.specs.declared.token.TokenKind.TheVariants.{Variable}
-use Rattle.turtle_lex.specs.declared.groups.Group.{Group}
-use Rattle.turtle_lex.specs.declared.groups.Group.TheVariants.{Iris, Strings, Tags, Labels}
-use Rattle.turtle_lex.specs.declared.groups.Group.TheVariants.{Variables, Numbers, Dots, Squares}
-use Rattle.turtle_lex.specs.declared.groups.Group.TheVariants.{Names, Marks, Nothing}
-use Rattle.turtle_lex.specs.declared.groups.Mark.{Mark}
+use Rattle.turtle_lex.specs.declared.token_groups.Group.{Group}
+use Rattle.turtle_lex.specs.declared.token_groups.Group.TheVariants.{Iris, Strings, Tags, Labels}
+use Rattle.turtle_lex.specs.declared.token_groups.Group.TheVariants.{Variables, Numbers, Dots, Squares}
+use Rattle.turtle_lex.specs.declared.token_groups.Group.TheVariants.{Names, Marks, Nothing}
+use Rattle.turtle_lex.specs.declared.token_groups.Mark.{Mark}
 use Rattle.turtle_lex.specs.Tokens.{MatchesKind}
 
 abbrev pub in_group : Group → TokenKind → Bool

@@ -5,9 +5,9 @@ ghost use Rattle.turtle_lex.specs.Pattern.{◌∘◌, Matches, MatchesOnly, HasN
 ghost use Rattle.turtle_lex.specs.Terminals.{comment, gap};
 ghost use Rattle.turtle_lex.specs.Tokens.{gap_start};
 
+use crate::char_runs::strip_run;
 use crate::classes::{Class, strip_one};
 use crate::escapes::strip_word;
-use crate::runs::strip_run;
 
 /// What follows the blanks and comments at the start, or as an `Err` what follows a comment that no
 /// end of its line ends.

@@ -2,9 +2,9 @@
 
 ghost use Rattle.turtle_lex.specs.Names.{HasNoPrefixBefore};
 
-use crate::first::first_token;
 use crate::names::no_prefix_up_to;
 use crate::token::{LexFault, Token, TokenKind};
+use crate::token_search::first_token;
 use std::marker::Model;
 
 /// A suffix of the text before which no prefix begins, where the text begins with a token of this

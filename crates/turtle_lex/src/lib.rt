@@ -22,26 +22,26 @@
 #![tactic(auto)]
 
 mod blanks_and_comments;
+mod char_runs;
 mod chars;
 mod classes;
 mod delimited;
 mod escapes;
-mod first;
-mod groups;
 pub mod laws;
 mod lexer;
 mod names;
 mod numbers;
 mod plain_run;
-mod runs;
 mod scan;
 mod texts;
 mod token;
+mod token_groups;
 mod token_list;
+mod token_search;
 
 pub use classes::Quote;
-pub use first::next_token;
 pub use lexer::Lexer;
 pub use texts::{is_label, is_lang_tag};
 pub use token::{LexFault, Token, TokenKind};
 pub use token_list::{listed_token, tokens};
+pub use token_search::next_token;

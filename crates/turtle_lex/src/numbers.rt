@@ -9,9 +9,9 @@ ghost use Rattle.turtle_lex.specs.Terminals.{exponent};
 ghost use Rattle.turtle_lex.specs.Runs.{IsRun};
 ghost use Rattle.turtle_lex.specs.Numbers.{body, signed, IsLongestNumber, HasNoNumber, IsSigned};
 
+use crate::char_runs::{strip_run, strip_some};
 use crate::classes::{Class, strip_one};
 use crate::escapes::strip_word;
-use crate::runs::{strip_run, strip_some};
 
 /// The kind of a number.
 #[derive(Clone, Copy, Debug, PartialEq, Eq)]

@@ -3,7 +3,7 @@
 ghost use mathlib.Core.List.{IsSuffix};
 ghost use Rattle.std.specs.Prelude.{◌≡◌, Some, None, IfSome, IfNone, MatchBool};
 ghost use Rattle.std.specs.Option.{option_copied};
-ghost use Rattle.turtle_lex.specs.declared.groups.Group.TheVariants as Group;
+ghost use Rattle.turtle_lex.specs.declared.token_groups.Group.TheVariants as Group;
 ghost use Rattle.turtle_lex.specs.declared.token.TokenKind.TheVariants as TokenKind;
 ghost use Rattle.turtle_lex.specs.Pattern.{word, any_case, Matches, MatchesOnly, MatchesLongest};
 ghost use Rattle.turtle_lex.specs.Terminals.{lang_tag};
@@ -11,14 +11,14 @@ ghost use Rattle.turtle_lex.specs.Names.{HasNoPrefixBefore};
 ghost use Rattle.turtle_lex.specs.Groups.{in_group, is_word, IsTokenOfGroup, HasNoTokenOf, kind_of};
 ghost use Rattle.turtle_lex.specs.Tokens.{terminal, IsToken, HasNoToken};
 
+use crate::char_runs::{strip_lang_tag, strip_run};
 use crate::classes::{Class, Quote};
 use crate::delimited::{strip_iri_ref, strip_string};
 use crate::escapes::strip_word;
-use crate::groups::{Group, Mark, group_of};
 use crate::names::{strip_label, strip_local, strip_pname_ns};
 use crate::numbers::{Number, longest_number};
-use crate::runs::{strip_lang_tag, strip_run};
 use crate::token::TokenKind;
+use crate::token_groups::{Group, Mark, group_of};
 
 /// IRIREF.
 fn iri_token(text: &[u8]) -> Option<(TokenKind, &[u8])>

@@ -4,9 +4,9 @@ ghost use Rattle.std.specs.Prelude.{◌++◌, codes, MatchBool, IsTrue};
 ghost use Rattle.turtle_lex.specs.Laws.{IsTextOf};
 ghost use Rattle.turtle_lex.specs.Terminals.{label, lang_tag};
 
+use crate::char_runs::{strip_some, strip_tag_parts};
 use crate::classes::Class;
 use crate::names::strip_label;
-use crate::runs::{strip_some, strip_tag_parts};
 
 /// Whether the text may follow `_:` in a BLANK_NODE_LABEL.
 pub fn is_label(text: &str) -> bool

@@ -4,12 +4,12 @@ use Rattle.std.proofs.Common.{refl, sym, ◌∙◌, subst}
 use Rattle.std.proofs.lemmas.List.Elements.{All-filter, All-push, All-weaker}
 use Rattle.std.proofs.lemmas.Option.{none-some, slice_get_within}
 use Rattle.std.specs.List.{All, filter}
-use Rattle.rdf_graph.proofs.Components.{slice_get-push_before}
+use Rattle.rdf_graph.proofs.Members.{slice_get-push_before}
 use Rattle.rdf_graph.specs.declared.term.Term.TheVariants.{Iri, Blank, Literal, Tagged as TaggedTerm}
 use Rattle.turtle_grammar.specs.declared.production.Node.{Node}
 use Rattle.turtle_grammar.specs.declared.production.Node.TheVariants as node
-use Rattle.turtle_reader.specs.declared.kept.Kept.{Kept}
-use Rattle.turtle_reader.specs.declared.kept.KeptMeanings.{KeptMeanings}
+use Rattle.turtle_reader.specs.declared.kept_meanings.Kept.{Kept}
+use Rattle.turtle_reader.specs.declared.kept_meanings.KeptMeanings.{KeptMeanings}
 use Rattle.turtle_reader.specs.declared.meaning.Meaning.{Meaning}
 use Rattle.turtle_reader.specs.declared.meaning.Meaning.TheVariants as meaning_of
 use Rattle.turtle_reader.specs.declared.referent.Referent.{Referent}

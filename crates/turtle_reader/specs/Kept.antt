@@ -3,8 +3,8 @@ use Rattle.std.specs.Prelude.{◌≡◌, ◌-◌, ℕ, Bool, nat_lt, nat_le, ◌
 use Rattle.std.specs.Prelude.{Some, slice_get}
 use Rattle.std.specs.List.{All}
 use Rattle.turtle_reader.specs.declared.meaning.Meaning.{Meaning}
-use Rattle.turtle_reader.specs.declared.kept.Kept.{Kept}
-use Rattle.turtle_reader.specs.declared.kept.KeptMeanings.{KeptMeanings}
+use Rattle.turtle_reader.specs.declared.kept_meanings.Kept.{Kept}
+use Rattle.turtle_reader.specs.declared.kept_meanings.KeptMeanings.{KeptMeanings}
 
 -- It is what the lexeme of its index means, where all lexemes mean these.
 abbrev pub IsKept : List Meaning → Kept → Type 0

@@ -1,7 +1,7 @@
 //! [`Labels`]: the labels of a document and of its unnamed nodes.
 
-use crate::given::{Given, give_up_to};
-use crate::numbers::taken_numbers;
+use crate::issued_labels::{Given, give_up_to};
+use crate::label_numbers::taken_numbers;
 use pod_base::{List, Mem, Text};
 use std::alloc::Global;
 use std::collections::BTreeSet;

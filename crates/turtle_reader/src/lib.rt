@@ -36,10 +36,10 @@
 
 mod budget;
 mod context;
-mod driver;
-mod given;
-mod kept;
+mod issued_labels;
+mod kept_meanings;
 pub mod label_laws;
+mod label_numbers;
 mod labels;
 mod language;
 pub mod laws;
@@ -47,14 +47,13 @@ mod lazy_labels;
 mod lexeme;
 mod lexing;
 mod meaning;
-mod numbers;
 mod progress;
 mod reader;
 mod referent;
+mod text_walk;
 
 pub use budget::{STATEMENT_LIMIT, TERM_BYTES_LIMIT};
 pub use context::{Context, Directive};
-pub use driver::walk;
 pub use labels::Labels;
 pub use language::Language;
 pub use lazy_labels::LazyLabels;
@@ -62,3 +61,4 @@ pub use lexeme::Lexeme;
 pub use meaning::Meaning;
 pub use reader::Reader;
 pub use referent::{Referent, ResolvedTriple};
+pub use text_walk::walk;

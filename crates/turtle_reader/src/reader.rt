@@ -7,7 +7,7 @@ ghost use Rattle.turtle_terms.specs.declared.fault.TurtleFault.TheVariants.{Bad}
 
 use crate::budget::{STATEMENT_LIMIT, TERM_BYTES_LIMIT};
 use crate::context::Context;
-use crate::kept::KeptMeanings;
+use crate::kept_meanings::KeptMeanings;
 use crate::lexeme::Lexeme;
 use crate::meaning::Meaning;
 use crate::referent::{ResolvedTriple, resolved};

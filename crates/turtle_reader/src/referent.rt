@@ -5,7 +5,7 @@ ghost use Rattle.turtle_reader.specs.declared.meaning.Meaning.{Meaning};
 ghost use Rattle.turtle_reader.specs.Kept.{AreKept};
 ghost use Rattle.turtle_reader.specs.Referents.{term_referent, tagged, typed, referent, IsResolved};
 
-use crate::kept::KeptMeanings;
+use crate::kept_meanings::KeptMeanings;
 use crate::meaning::Meaning;
 use iri_ref::Iri;
 use pod_base::{Mem, NoMemory, Text};

@@ -28,13 +28,13 @@
 //! a term's text.
 #![tactic(auto)]
 
+mod collected_triples;
+mod document_reading;
+mod graph_text;
+mod graph_text_len;
 pub mod laws;
-mod reading;
-mod text;
-mod text_len;
-mod triples;
 
-pub use reading::read;
-pub use text::write;
-pub use text_len::{len, term_len};
+pub use document_reading::read;
+pub use graph_text::write;
+pub use graph_text_len::{len, term_len};
 pub use turtle_terms::{Scope, TurtleFault, TurtleKind, term};

@@ -6,7 +6,7 @@ use Rattle.journal_log.specs.CleanJournal.{IsJournalPrefix, IsShort}
 use Rattle.journal_log.specs.Images.{IsEither, Stands}
 use Rattle.journal_log.specs.JournalState.{JournalState}
 use Rattle.pod_base.specs.declared.request.Request.{Request}
-use Rattle.pod_command.specs.StoredForms.{entry_bytes, snapshot_bytes}
+use Rattle.stored_forms.specs.StoredForms.{entry_bytes, snapshot_bytes}
 use Rattle.pod_command.specs.declared.entry.Entry.{Entry}
 use Rattle.pod_core.specs.History.{History, IsHistory, end_of, longer}
 use Rattle.pod_core.specs.World.{Event, World, WorldRun, first_world}

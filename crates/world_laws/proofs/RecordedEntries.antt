@@ -4,8 +4,8 @@ use Rattle.std.proofs.Common.{◌≡◌, inl, inr, ℕ, Bool, true, false, ◌�
 use Rattle.journal_log.specs.CleanJournal.{IsShort}
 use Rattle.pod_base.specs.declared.moment.Stamp.{Stamp}
 use Rattle.pod_base.specs.declared.request.Request.{Request}
-use Rattle.pod_command.specs.Storable.{IsStorable}
-use Rattle.pod_command.specs.StoredForms.{entry_bytes}
+use Rattle.stored_forms.specs.Storable.{IsStorable}
+use Rattle.stored_forms.specs.StoredForms.{entry_bytes}
 use Rattle.pod_command.specs.declared.entry.Entry.{Entry}
 use Rattle.pod_core.specs.History.{History, end_of, longer, pod_at}
 use Rattle.pod_core.specs.KeeperSteps as keeper
@@ -16,7 +16,7 @@ use Rattle.pod_core.specs.World.{DoesEvent, Event, FollowsStep, World, WorldRun,
 use Rattle.pod_core.specs.WorldImages.{MayFollow}
 use Rattle.pod_reply.specs.Replies.{Reply}
 use Rattle.pod_reply.specs.declared.entry_size.TheConstants.{ENTRY_BYTES_LIMIT}
-use Rattle.answer_laws.specs.RankTable.{EntriesFit}
+use Rattle.refusal_laws.specs.RankTable.{EntriesFit}
 use Rattle.token_table.specs.Credentials.{AskedAgent}
 use Rattle.world_laws.specs.CrashedWorlds.{AppendsStorable, IsRecordable, IsRecordableHistory, WritesStorable}
 use Rattle.world_laws.proofs.WorldLists.{all_snoc}

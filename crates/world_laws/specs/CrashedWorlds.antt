@@ -5,8 +5,8 @@ use Rattle.std.specs.List.{AllByRecursion}
 use Rattle.journal_log.specs.CleanJournal.{IsShort}
 use Rattle.journal_log.specs.Images.{Stands}
 use Rattle.pod_base.specs.declared.request.Request.{Request}
-use Rattle.pod_command.specs.Storable.{IsStorable, IsStorableSnapshot}
-use Rattle.pod_command.specs.StoredForms.{entry_bytes, snapshot_bytes}
+use Rattle.stored_forms.specs.Storable.{IsStorable, IsStorableSnapshot}
+use Rattle.stored_forms.specs.StoredForms.{entry_bytes, snapshot_bytes}
 use Rattle.pod_command.specs.declared.entry.Entry.{Entry}
 use Rattle.pod_command.specs.declared.snapshot.Snapshot.{Snapshot}
 use Rattle.pod_core.specs.History.{History, IsHistory, end_of, longer}

@@ -13,7 +13,7 @@
 //! function does nothing: its contract is the law.
 //!
 //! It depends on `pod_core` for the definitions, on `http_conn` for the laws of messages, on
-//! `reply_laws`, on `answer_laws` for the size of entries, and on `journal_log` and `pod_records` for
+//! `reply_laws`, on `refusal_laws` for the size of entries, and on `journal_log` and `pod_records` for
 //! what an image stands for.
 #![tactic(auto)]
 
@@ -42,5 +42,5 @@ pub fn one_legal_history<C: Clock>(clock: &C)
     http_conn::laws::nothing_after_an_end();
     reply_laws::complete();
     reply_laws::applies();
-    answer_laws::replies_by_rank();
+    refusal_laws::replies_by_rank();
 }

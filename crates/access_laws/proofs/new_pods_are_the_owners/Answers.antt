@@ -1,4 +1,4 @@
-use Rattle.first_rows.specs.FirstPods.{first_pod}
+use Rattle.pod_rows.specs.FirstPods.{first_pod}
 use Rattle.access_laws.proofs.NewPods.{owner_has, others_lack}
 use Rattle.access_laws.proofs.new_pods_are_the_owners.Goals as goal
 

@@ -1,5 +1,5 @@
 use Rattle.std.proofs.Common.{take}
-use Rattle.rdf_graph.specs.Pattern.{IsVariableOf}
+use Rattle.graph_patch.specs.Pattern.{IsVariableOf}
 use Rattle.n3_patch.specs.VariableNames.{HasNames}
 use Rattle.n3_patch.proofs.free_variables.has_all.Given as goal
 

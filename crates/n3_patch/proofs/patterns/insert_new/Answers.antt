@@ -1,6 +1,6 @@
 use Rattle.std.proofs.Common.{true, cond, ap, ◌∙◌}
 use Rattle.std.specs.BTreeSet.{contains}
-use Rattle.rdf_graph.specs.TermOrder.{pattern_cmp}
+use Rattle.graph_patch.specs.PatternOrder.{pattern_cmp}
 use Rattle.std.specs.Ordering.{eq_by_cmp}
 use Rattle.n3_patch.specs.Progress.{pattern_like}
 use Rattle.n3_patch.proofs.PatternLemmas.{cond_or, pattern_eq_laws}

@@ -1,6 +1,6 @@
 use Rattle.std.proofs.Common.{sym, subst}
 use Rattle.turtle_lex.specs.declared.token.TokenKind.{TokenKind}
-use Rattle.turtle_lex.specs.declared.groups.Group.TheVariants.{Dots}
+use Rattle.turtle_lex.specs.declared.token_groups.Group.TheVariants.{Dots}
 use Rattle.turtle_lex.specs.Groups.{in_group, IsTokenOfGroup}
 use Rattle.turtle_lex.proofs.TokenLemmas.{pointed_token, dot_token, no_dot_token}
 use Rattle.turtle_lex.proofs.scan.dot_token.Goals as goal

@@ -1,6 +1,6 @@
 use Rattle.std.proofs.Common.{sym, subst}
 use Rattle.turtle_lex.specs.declared.token.TokenKind.{TokenKind}
-use Rattle.turtle_lex.specs.declared.groups.Group.TheVariants.{Marks}
+use Rattle.turtle_lex.specs.declared.token_groups.Group.TheVariants.{Marks}
 use Rattle.turtle_lex.specs.Groups.{in_group, IsTokenOfGroup}
 use Rattle.turtle_lex.proofs.TokenLemmas.{mark_token, no_mark_token}
 use Rattle.turtle_lex.proofs.scan.mark_token.Goals as goal

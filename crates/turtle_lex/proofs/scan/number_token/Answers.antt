@@ -1,6 +1,6 @@
 use Rattle.std.proofs.Common.{sym, subst}
 use Rattle.turtle_lex.specs.declared.token.TokenKind.{TokenKind}
-use Rattle.turtle_lex.specs.declared.groups.Group.TheVariants.{Numbers}
+use Rattle.turtle_lex.specs.declared.token_groups.Group.TheVariants.{Numbers}
 use Rattle.turtle_lex.specs.Groups.{in_group, IsTokenOfGroup}
 use Rattle.turtle_lex.proofs.TokenLemmas.{number_token, no_number_token}
 use Rattle.turtle_lex.proofs.scan.number_token.Goals as goal

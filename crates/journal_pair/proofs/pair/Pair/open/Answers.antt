@@ -2,7 +2,7 @@ use Rattle.std.proofs.lemmas.Result.{IfErr-weaker}
 use Rattle.std.proofs.Common.{inl, subst}
 use Rattle.journal_log.specs.declared.fault.Side.TheVariants.{First}
 use Rattle.journal_pair.specs.Choices.{IsChosenBy}
-use Rattle.journal_pair.specs.declared.choice.Choice.{Choice}
+use Rattle.journal_pair.specs.declared.disk_choice.Choice.{Choice}
 use Rattle.journal_pair.proofs.PairOpening.{cause_before, chosen_damaged, chosen_empty, opened_first, opened_second, opened_disk, opened_pairs}
 use Rattle.journal_pair.proofs.pair.Pair.open.Goals as goal
 

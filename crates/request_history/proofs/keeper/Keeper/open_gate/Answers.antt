@@ -1,7 +1,7 @@
 use Rattle.std.proofs.Common.{ℕ, List, subst, sym}
 use Rattle.request_history.specs.Keepers.{IsKeeper, history_of}
 use Rattle.request_history.specs.Phases.{phase_of}
-use Rattle.request_history.specs.declared.phase.Stage.TheVariants as stages
+use Rattle.request_history.specs.declared.holder_phase.Stage.TheVariants as stages
 use Rattle.request_history.proofs.KeeperMoves.{opened_kept, opened_step, stayed_kept, stayed_view}
 use Rattle.request_history.proofs.keeper.Keeper.open_gate.Goals as goal
 

@@ -1,7 +1,7 @@
 use Rattle.std.proofs.Common.{true, OnOk, subst, sym}
 use Rattle.pod_core.specs.KeeperSteps.{KeeperStep}
 use Rattle.request_history.specs.Phases.{MayStep, step_event}
-use Rattle.request_history.specs.declared.phase.Step.{Step}
+use Rattle.request_history.specs.declared.holder_phase.Step.{Step}
 use Rattle.request_history.proofs.keeper.Keeper.proceed.Goals as goal
 
 pub write-requires : goal.write-requires

@@ -1,7 +1,7 @@
 use Rattle.request_history.proofs.KeeperMoves.{with_pending, written_pending, written_step}
 use Rattle.request_history.specs.Keepers.{history_of}
 use Rattle.request_history.specs.Phases.{phase_of}
-use Rattle.request_history.specs.declared.phase.Stage.TheVariants as stages
+use Rattle.request_history.specs.declared.holder_phase.Stage.TheVariants as stages
 use Rattle.request_history.proofs.keeper.Keeper.write.Goals as goal
 
 pub invariant_of-self : goal.invariant_of-self

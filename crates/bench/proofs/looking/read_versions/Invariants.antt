@@ -1,5 +1,0 @@
-use Rattle.std.proofs.Common.{[]}
-use Rattle.bench.proofs.looking.read_versions.Given as goal
-
-abbrev pub ghosts-measure : goal.ghosts-measure
-ghosts-measure g a = record { book = a.list; first_number = 0; opening = [] }

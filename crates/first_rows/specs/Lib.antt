@@ -1,2 +1,0 @@
--- the first rows of a pod
-pub mod FirstPods

@@ -1,0 +1,71 @@
+//! Free variables: those of deletions and insertions that no condition has.
+ghost use Rattle.std.specs.Prelude.{◌↔◌, ℕ, List, IsTrue};
+ghost use Rattle.graph_patch.specs.Patch.{AllBound, IsBound, IsBoundIn};
+ghost use Rattle.graph_patch.specs.Pattern.{HasVariable, IsVariableOf};
+
+use crate::connected_components::is_variable;
+use crate::patch::Patch;
+use crate::pattern::{Pattern, Slot};
+use pod_base::Text;
+
+impl Patch {
+    /// Whether each variable of the deletions and insertions is one of the conditions.
+    pub fn is_bound(&self) -> bool
+        ensures { IsTrue result ↔ IsBound self.now }
+    {
+        let conditions = self.conditions.as_slice();
+        all_bound(self.deletions.as_slice(), conditions)
+            && all_bound(self.insertions.as_slice(), conditions)
+    }
+}
+
+/// Whether each variable of the patterns is one of the conditions.
+fn all_bound(patterns: &[Pattern], conditions: &[Pattern]) -> bool
+    ensures { IsTrue result ↔ AllBound patterns.now conditions.now }
+{
+    for pattern in patterns {
+        if !is_bound(pattern, conditions) {
+            return false;
+        }
+    }
+    true
+}
+
+/// Whether each variable of the pattern is one of the conditions.
+fn is_bound(pattern: &Pattern, conditions: &[Pattern]) -> bool
+    ensures { IsTrue result
+        ↔ ((name : List ℕ) → HasVariable pattern.now name → IsVariableOf conditions.now name) }
+{
+    is_bound_in(&pattern.s, conditions)
+        && is_bound_in(&pattern.p, conditions)
+        && is_bound_in(&pattern.o, conditions)
+}
+
+/// Whether the slot has no variable, or one of the conditions.
+fn is_bound_in(slot: &Slot, conditions: &[Pattern]) -> bool
+    ensures { IsTrue result ↔ IsBoundIn slot.now conditions.now }
+{
+    match slot {
+        Slot::Fixed(_) => true,
+        Slot::Var(name) => is_variable_of(conditions, name),
+    }
+}
+
+/// Whether the name is a variable of the conditions.
+fn is_variable_of(conditions: &[Pattern], name: &Text) -> bool
+    ensures { IsTrue result ↔ IsVariableOf conditions.now name.now }
+{
+    for condition in conditions {
+        if has_variable(condition, name) {
+            return true;
+        }
+    }
+    false
+}
+
+/// Whether the pattern has the variable.
+pub(crate) fn has_variable(pattern: &Pattern, name: &Text) -> bool
+    ensures { IsTrue result ↔ HasVariable pattern.now name.now }
+{
+    is_variable(&pattern.s, name) || is_variable(&pattern.p, name) || is_variable(&pattern.o, name)
+}

@@ -1,0 +1,10 @@
+use Rattle.std.proofs.Common.{length, ◌-◌}
+use Rattle.jsonld_expanded.specs.Written.{same_key_by_ref}
+use Rattle.jsonld_expanded.proofs.Runs.{IsRunSoFar}
+use Rattle.jsonld_expanded.proofs.key_order.key_run.Given as goal
+
+abbrev pub invariant-loop-len : goal.invariant-loop-len
+invariant-loop-len l = IsRunSoFar same_key_by_ref l.triples l.len
+
+abbrev pub decreases-loop-len : goal.decreases-loop-len
+decreases-loop-len l = length l.triples - l.len

@@ -1,9 +1,0 @@
-pub mod Runs
-pub mod Sorting
-pub mod Regular
-pub mod Keys
-pub mod Walking
-pub mod Documents
-pub mod Adding
-pub mod Subjects
-pub mod Widths

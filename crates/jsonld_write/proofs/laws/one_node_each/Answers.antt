@@ -1,5 +1,0 @@
-use Rattle.jsonld_write.proofs.Subjects.{one_node_each}
-use Rattle.jsonld_write.proofs.laws.one_node_each.Goals as goal
-
-pub returns : goal.returns
-returns c = one_node_each c.subject_law.ensures

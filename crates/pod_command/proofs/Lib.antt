@@ -1,6 +1,0 @@
-pub mod ReadLaws
-pub mod Deciders
-pub mod Forms
-pub mod Whole
-pub mod Sizes
-pub mod Loops

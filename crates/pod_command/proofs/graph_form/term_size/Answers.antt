@@ -1,7 +1,0 @@
-use Rattle.std.proofs.Common.{sym, ap, ◌∙◌}
-use Rattle.rdf_graph.specs.Size.{saturated}
-use Rattle.pod_command.proofs.Sizes.{term_length}
-use Rattle.pod_command.proofs.graph_form.term_size.Goals as goal
-
-pub returns : goal.returns
-returns c = c.encoded_size.ensures ∙ ap saturated (sym (term_length c.args.term.now))

@@ -1,6 +1,0 @@
-use Rattle.std.proofs.Common.{inl, refl}
-use Rattle.pod_pipe.proofs.report_end.write_end_line.Goals as goal
-
--- a write failed before, and nothing is said here
-pub returns-in-WriteFault-clause-told : goal.returns-in-WriteFault-clause-told
-returns-in-WriteFault-clause-told g c = inl refl

@@ -1,8 +1,0 @@
-use Rattle.std.proofs.Common.{rules, tests}
-use Rattle.std.proofs.lemmas.Iterator.{YieldsList-from_slice}
-use Rattle.std.proofs.lemmas.Iterator.Consumers.{YieldsList-from_filter, count_from_yields_List}
-use Rattle.pod_records.specs.Made.{is_gone}
-use Rattle.pod_records.proofs.touched.count_gone.Goals as goal
-
-pub returns : goal.returns
-returns c = count_from_yields_List _ _ c.count.ensures.ran (YieldsList-from_filter _ is_gone (YieldsList-from_slice c.args.made.now cc) c.filter.ensures.closure (λ x r q k. search (rules, tests)))

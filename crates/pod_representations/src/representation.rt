@@ -1,0 +1,152 @@
+//! [`Shown`]: the representation of a row.
+
+ghost use Rattle.std.specs.Prelude.{◌≡◌, IfOk, true, false};
+ghost use Rattle.pod_rows.specs.WellFormed.{is_container_kind};
+ghost use Rattle.pod_representations.specs.Representations as spec;
+
+use crate::media::Media;
+use conditional_req::{Tag, tag_of};
+use pod_base::{Bytes, Mem, Moment, Text};
+use pod_command::{Content, Kind, Row};
+use pod_rows::{PodState, container_view};
+use rdf_graph::Graph;
+use std::alloc::Global;
+
+/// A representation of a row.
+#[derive(Debug, Drop)]
+pub struct Shown {
+    /// Its content type.
+    pub ctype: Text,
+    /// Its bytes. Stored bytes are shared.
+    pub body: Bytes,
+    /// Its entity tag.
+    pub tag: Tag,
+    /// When the row was last changed.
+    pub modified: Moment,
+    /// Whether parts of it may be requested.
+    pub ranges: bool,
+}
+
+/// Whether a row of that kind is a container.
+pub(crate) fn is_container(kind: Kind) -> bool
+    ensures { result ≡ is_container_kind kind }
+{
+    match kind {
+        Kind::Container => true,
+        Kind::Graph | Kind::Acl | Kind::Bytes | Kind::Meta => false,
+    }
+}
+
+/// The content type of a graph.
+fn graph_type(media: Media) -> &'static str
+    ensures { result.now ≡ spec.graph_type media }
+{
+    match media {
+        Media::JsonLd => "application/ld+json",
+        Media::Turtle | Media::Stored => "text/turtle",
+    }
+}
+
+/// The mark of a graph's tag.
+fn graph_mark(media: Media) -> u8
+    ensures { result ≡ spec.graph_mark media }
+{
+    match media {
+        Media::JsonLd => b'j',
+        Media::Turtle | Media::Stored => b't',
+    }
+}
+
+/// The text of a graph.
+#[tactic(auto, unfolding(crate::specs::Representations::graph_body))]
+fn graph_body(alloc: Global, graph: &Graph, media: Media) -> Mem<Bytes>
+    ensures { IfOk result (λ body. body ≡ spec.graph_body media graph.now) }
+{
+    match media {
+        Media::JsonLd => jsonld_expanded::write(alloc, graph),
+        Media::Turtle | Media::Stored => turtle_text::write(alloc, graph),
+    }
+}
+
+/// The tag of a type, a body and a mark.
+#[tactic(auto, unfolding(crate::specs::Representations::tag))]
+fn tag(ctype: &str, body: &[u8], mark: u8) -> Tag
+    ensures { result ≡ spec.tag ctype.now body.now mark }
+{
+    tag_of(ctype, body, mark)
+}
+
+/// The tag of a graph's text.
+fn body_tag(media: Media, body: &[u8]) -> Tag
+    ensures { result ≡ spec.tag (spec.graph_type media) body.now (spec.graph_mark media) }
+{
+    tag(graph_type(media), body, graph_mark(media))
+}
+
+/// The tag of a graph.
+pub(crate) fn graph_tag(alloc: Global, graph: &Graph, media: Media) -> Mem<Tag>
+    ensures { IfOk result (λ tag. tag ≡ spec.graph_tag media graph.now) }
+{
+    let body = graph_body(alloc, graph, media)?;
+    Ok(body_tag(media, body.as_slice()))
+}
+
+/// The tag of stored bytes.
+pub(crate) fn bytes_tag(ctype: &Text, bytes: &Bytes) -> Tag
+    ensures { result ≡ spec.bytes_tag ctype.now bytes.now }
+{
+    tag(ctype.as_str(), bytes.as_slice(), b'b')
+}
+
+/// A graph in a type.
+fn graph_as(alloc: Global, graph: &Graph, media: Media, modified: Moment) -> Mem<Shown>
+    ensures { IfOk result (λ shown. shown ≡ spec.graph_as media graph.now modified) }
+{
+    let body = graph_body(alloc, graph, media)?;
+    let ctype = Text::of(alloc, graph_type(media))?;
+    let tag = body_tag(media, body.as_slice());
+    Ok(Shown {
+        ctype,
+        body,
+        tag,
+        modified,
+        ranges: false,
+    })
+}
+
+/// Bytes as they are stored.
+fn bytes_as(alloc: Global, ctype: &Text, bytes: &Bytes, modified: Moment) -> Mem<Shown>
+    ensures { IfOk result (λ shown. shown ≡ spec.bytes_as ctype.now bytes.now modified) }
+{
+    let tag = bytes_tag(ctype, bytes);
+    let ctype = ctype.copy(alloc)?;
+    let body = bytes.copy(alloc)?;
+    Ok(Shown {
+        ctype,
+        body,
+        tag,
+        modified,
+        ranges: true,
+    })
+}
+
+/// The representation of a row of a pod in a type.
+///
+/// A container shows its view, every other graph its own triples. A graph is shown as Turtle
+/// where the type isn't JSON-LD, and bytes as they are stored, whatever the type. Stored bytes
+/// are shared.
+pub fn represent<S: PodState>(alloc: Global, state: &S, row: &Row, media: Media) -> Mem<Shown>
+    ensures { IfOk result (λ shown. shown ≡ spec.represented (S.pod state.now) row.now media) }
+{
+    match &row.content {
+        Content::Graph(graph) => {
+            if is_container(row.kind) {
+                let view = container_view(alloc, state, &row.path)?;
+                graph_as(alloc, &view, media, row.modified)
+            } else {
+                graph_as(alloc, graph, media, row.modified)
+            }
+        }
+        Content::Bytes { ctype, bytes } => bytes_as(alloc, ctype, bytes, row.modified),
+    }
+}

@@ -1,4 +1,0 @@
-use Rattle.std.proofs.Common.{subst, sym, ◌∙◌}
-use Rattle.podctl_commands.specs.Endings.{IsReportedSo}
-use Rattle.podctl_commands.proofs.EndedRuns.{written_fails, written_so}
-use Rattle.podctl_commands.proofs.reporting.print_report.Goals as goal

@@ -1,5 +1,0 @@
-use Rattle.rdf_graph.proofs.Instancing.{fault_of_mapping}
-use Rattle.rdf_graph.proofs.patch.instantiate.Goals as goal
-
-pub returns-in-Err-clause-fault : goal.returns-in-Err-clause-fault
-returns-in-Err-clause-fault c = fault_of_mapping c.args.graph.now c.args.patch.now c.in-Err.fault c.in-Err.ensures.fault

@@ -1,7 +1,0 @@
-use Rattle.std.proofs.Common.{◌≡◌, drop}
-use Rattle.rdf_graph.specs.Pattern.{value_of}
-use Rattle.rdf_graph.proofs.pattern.value.Given as goal
-
--- what is left decides
-abbrev pub invariant-loop-other : goal.invariant-loop-other
-invariant-loop-other l = value_of (drop l.other-index l.pairs) l.name ≡ value_of l.pairs l.name

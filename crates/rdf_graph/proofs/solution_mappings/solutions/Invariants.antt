@@ -1,7 +1,0 @@
-use Rattle.rdf_graph.specs.Search.{AnyBinding, IsSearchResult}
-use Rattle.rdf_graph.proofs.Solving.{below}
-use Rattle.rdf_graph.proofs.solution_mappings.solutions.Given as goal
-
--- the components so far
-abbrev pub invariant-loop-label : goal.invariant-loop-label
-invariant-loop-label l = IsSearchResult l.graph (below l.conditions l.labels.items l.label) AnyBinding l.found

@@ -1,6 +1,0 @@
-use Rattle.std.proofs.Common.{◌∙◌, ap}
-use Rattle.pod_command.specs.StoredForms.{entry_bytes}
-use Rattle.request_history.proofs.recorded.Recorded.body.Goals as goal
-
-pub returns : goal.returns
-returns c = c.as_slice.ensures ∙ c.self.invariant.0 ∙ ap entry_bytes c.self.view_is

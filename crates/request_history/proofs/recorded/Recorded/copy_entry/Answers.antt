@@ -1,5 +1,0 @@
-use Rattle.std.proofs.Common.{◌∙◌}
-use Rattle.request_history.proofs.recorded.Recorded.copy_entry.Goals as goal
-
-pub returns : goal.returns
-returns c = c.in_ok-entry.ensures ∙ c.self.invariant.1 ∙ c.self.view_is

@@ -1,0 +1,22 @@
+use Rattle.std.proofs.Common.{rules, ◌≡◌, ◌++◌, ◌∷◌, Some}
+use Rattle.row_pages.proofs.Around.{order_part}
+use Rattle.row_pages.proofs.Done.{put_done}
+use Rattle.row_pages.proofs.Joined.{joined_have}
+use Rattle.row_pages.proofs.part_list.put_in.Goals as goal
+
+pub put-requires : goal.put-requires
+put-requires g c =
+    let whole : c.args.parts.now ≡ c.in-Some.around.before.now ++ (c.in-Some.around.part.now ∷ c.in-Some.around.after.now) = search rules in
+    order_part g.T.Part.items c.args.parts.now c.in-Some.around.before.now c.in-Some.around.after.now c.in-Some.around.part.now whole c.requires
+
+pub returns-in_ok-all-in-Some-clause-items : goal.returns-in_ok-all-in-Some-clause-items
+returns-in_ok-all-in-Some-clause-items g c =
+    let whole : c.args.parts.now ≡ c.in-Some.around.before.now ++ (c.in-Some.around.part.now ∷ c.in-Some.around.after.now) = search rules in
+    put_done g.T.Part.items c.args.parts.now c.in_ok-all-in-Some.all.items c.in-Some.around.before.now c.in-Some.around.after.now c.in-Some.around.part.now
+    c.in_ok-grown-in-Some.grown.part c.in_ok-grown-in-Some.grown.more c.args.item.now whole c.in_ok-all-in-Some.ensures.items c.in_ok-grown-in-Some.ensures (search rules) (search rules)
+
+pub returns-in_ok-all-in-Some-clause-each : goal.returns-in_ok-all-in-Some-clause-each
+returns-in_ok-all-in-Some-clause-each g c h =
+    let whole : c.args.parts.now ≡ c.in-Some.around.before.now ++ (c.in-Some.around.part.now ∷ c.in-Some.around.after.now) = search rules in
+    joined_have g.T.Part.items c.args.parts.now c.in_ok-all-in-Some.all.items c.in-Some.around.before.now c.in-Some.around.after.now c.in-Some.around.part.now
+    (Some c.in_ok-grown-in-Some.grown.part) c.in_ok-grown-in-Some.grown.more whole c.in_ok-all-in-Some.ensures.items c.in_ok-all-in-Some.ensures.part c.in_ok-all-in-Some.ensures.more h

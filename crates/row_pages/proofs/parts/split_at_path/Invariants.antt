@@ -1,4 +1,0 @@
-use Rattle.row_pages.proofs.parts.split_at_path.Given as goal
-
-abbrev pub ghosts-around_blank : goal.ghosts-around_blank
-ghosts-around_blank g a = record { name = a.blank.name; parts = a.blank.parts }

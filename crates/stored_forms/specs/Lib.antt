@@ -1,0 +1,5 @@
+pub mod Storable
+pub mod StoredForms
+-- internal: cited by private clauses alone
+pub mod Readers
+pub mod Reading

@@ -1,5 +1,0 @@
-use Rattle.syntax_laws.proofs.JsonldGraphs.{graph_reads}
-use Rattle.syntax_laws.proofs.jsonld.spelled_as_json_ld.Goals as goal
-
-pub returns : goal.returns
-returns c = λ base bytes graph h. graph_reads graph (c.spelled_graphs.ensures base bytes graph h)

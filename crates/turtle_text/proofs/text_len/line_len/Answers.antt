@@ -1,6 +1,0 @@
-use Rattle.std.proofs.Common.{rules}
-use Rattle.turtle_text.proofs.Lengths.{line_length}
-use Rattle.turtle_text.proofs.text_len.line_len.Goals as goal
-
-pub returns : goal.returns
-returns c = rw line_length (search rules)
