@@ -4,25 +4,20 @@ use Rattle.graph_patch.specs.declared.patch.Patch.{Patch as RdfPatch}
 use Rattle.rdf_graph.specs.declared.size.TheConstants.{TRIPLES_LIMIT}
 use Rattle.turtle_grammar.specs.declared.symbol.Start.TheVariants.{Patch}
 use Rattle.turtle_terms.specs.declared.fault.TurtleFault.{TurtleFault}
-use Rattle.turtle_reader.specs.FirstFaults.{NeverLarge}
-use Rattle.turtle_reader.proofs.OneFault as first
+use Rattle.turtle_reader.specs.FirstFaults.{IsShallow, NeverLarge}
+use Rattle.turtle_reader.specs.LanguageFaults.{IsFirstSyntaxFault}
+use Rattle.turtle_reader.proofs.OneFault.{one_first_fault}
 use Rattle.turtle_reader.proofs.OneText.{no_fault, nowhere_large}
 use Rattle.n3_patch.specs.declared.fault.N3Fault.{N3Fault}
 use Rattle.n3_patch.specs.declared.fault.N3Fault.TheVariants.{Syntax, Constraint, TooLarge, NoMemory}
 use Rattle.n3_patch.specs.declared.triples.PatchTriple.{PatchTriple}
-use Rattle.n3_patch.specs.Answers.{HasOneAnswer, HasOneFirstFault, IsReadAs, PlacesAscend, SameAnswer}
-use Rattle.n3_patch.specs.Faults.{HasNoFault, HasOnlyPatch, HasSyntax, IsFirstFault, IsN3Fault, IsShallow, told_as}
+use Rattle.n3_patch.specs.Answers.{HasOneAnswer, IsReadAs, SameAnswer}
+use Rattle.n3_patch.specs.Faults.{HasNoFault, HasOnlyPatch, HasSyntax, IsN3Fault, told_as}
 use Rattle.n3_patch.specs.Rules.{IsFirstBroken, IsJudged, KeepsRules}
 use Rattle.n3_patch.specs.Size.{patch_size}
 use Rattle.n3_patch.specs.Spells.{PatchSpells}
 use Rattle.n3_patch.proofs.OneSpelled.{one_spelled}
 use Rattle.n3_patch.proofs.RuleLemmas.{one_patch, one_rule, patch_breaks_none}
-
-pub one_first_fault : HasOneFirstFault
-one_first_fault base bytes a b h k = first.one_first_fault NeverLarge Patch base bytes a b h k
-
-pub places_ascend : PlacesAscend
-places_ascend base bytes i j f g h k less = first.places_ascend NeverLarge Patch base bytes i j f g h k less
 
 abbrev Answer : Type 0
 Answer = Result RdfPatch N3Fault
@@ -55,7 +50,7 @@ one_made ts (Err TooLarge) (Err TooLarge) h k = refl
 module _ (base bytes : List ℕ) where
   -- an answer is a fault of syntax, or is made of triples
   abbrev IsBad : Answer → Type 0
-  IsBad a = (f : TurtleFault) × IsFirstFault base bytes f × (a ≡ refused (told_as f))
+  IsBad a = (f : TurtleFault) × IsFirstSyntaxFault Patch base bytes f × (a ≡ refused (told_as f))
 
   abbrev IsSound : Answer → Type 0
   IsSound a = (ts : List PatchTriple) × HasSyntax base bytes ts × IsMade ts a
@@ -72,7 +67,7 @@ module _ (base bytes : List ℕ) where
 
   one_bad : (a b : Answer) → IsBad a → IsBad b → SameAnswer a b
   one_bad a b (f, is, told) (g, is', told') =
-      let same : told_as f ≡ told_as g = ap told_as (one_first_fault base bytes f g is is') in
+      let same : told_as f ≡ told_as g = ap told_as (one_first_fault NeverLarge Patch base bytes f g is is') in
       subst (λ (z : Answer). SameAnswer z b) (sym told) (subst (SameAnswer (refused (told_as f))) (sym told') same)
 
   one_sound : (a b : Answer) → IsSound a → IsSound b → SameAnswer a b
@@ -91,7 +86,7 @@ one_answer base bytes a b h k = same_answer base bytes a b (either base bytes a 
 
 -- What is returned, where the bytes spell a patch and no bracket is too deep
 
-module _ (base bytes : List ℕ) (patch : RdfPatch) (h : PatchSpells base bytes patch) (shallow : IsShallow base bytes) where
+module _ (base bytes : List ℕ) (patch : RdfPatch) (h : PatchSpells base bytes patch) (shallow : IsShallow NeverLarge Patch base bytes) where
   read_as : IsReadAs base bytes (Ok patch)
   read_as = (h, no_fault NeverLarge Patch base bytes h.spells.productions h.spells.meanings h.spells.text shallow (nowhere_large Patch base bytes))
 

@@ -1,23 +1,11 @@
 -- The laws of whole documents. Each is the contract of a function of `laws`.
-use Rattle.std.specs.Prelude.{◌≡◌, ◌<◌, ℕ, List, Result, Ok, Err}
+use Rattle.std.specs.Prelude.{◌≡◌, ℕ, List, Result, Ok, Err}
 use Rattle.graph_patch.specs.declared.patch.Patch.{Patch}
-use Rattle.turtle_terms.specs.declared.fault.TurtleFault.{TurtleFault}
-use Rattle.turtle_reader.specs.FirstFaults.{place_of}
 use Rattle.n3_patch.specs.declared.fault.N3Fault.{N3Fault}
 use Rattle.n3_patch.specs.declared.fault.N3Fault.TheVariants.{NoMemory}
-use Rattle.n3_patch.specs.Faults.{HasFaultAt, HasNoFault, IsFirstFault, IsN3Fault}
+use Rattle.n3_patch.specs.Faults.{HasNoFault, IsN3Fault}
 use Rattle.n3_patch.specs.Laws.{SamePatch}
 use Rattle.n3_patch.specs.Spells.{PatchSpells}
-
--- A text has at most one first fault of syntax.
-abbrev pub HasOneFirstFault : Type 0
-HasOneFirstFault = (base bytes : List ℕ) (a b : TurtleFault) → IsFirstFault base bytes a
-    → IsFirstFault base bytes b → a ≡ b
-
--- Faults of a lesser index have a lesser position.
-abbrev pub PlacesAscend : Type 0
-PlacesAscend = (base bytes : List ℕ) (i j : ℕ) (f g : TurtleFault) → HasFaultAt base bytes i f
-    → HasFaultAt base bytes j g → i < j → place_of f < place_of g
 
 -- A text is read as this patch, or has this fault, which is none of memory.
 abbrev pub IsReadAs : List ℕ → List ℕ → Result Patch N3Fault → Type 0

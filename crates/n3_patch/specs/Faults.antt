@@ -1,7 +1,4 @@
 -- Why a text is not a patch document, and which fault is reported.
---
--- A fault of syntax has an index: the number of lexemes before it. The least index is the least
--- position.
 use Rattle.std.specs.Prelude.{◌≡◌, ◌<◌, ℕ, List, Result, Ok, Err}
 use Rattle.graph_patch.specs.declared.patch.Patch.{Patch as RdfPatch}
 use Rattle.rdf_graph.specs.declared.size.TheConstants.{TRIPLES_LIMIT}
@@ -10,6 +7,7 @@ use Rattle.turtle_terms.specs.declared.fault.TurtleFault.{TurtleFault}
 use Rattle.turtle_terms.specs.declared.fault.TurtleFault.TheVariants as turtle
 use Rattle.turtle_reader.specs.FirstFaults as first
 use Rattle.turtle_reader.specs.FirstFaults.{NeverLarge}
+use Rattle.turtle_reader.specs.LanguageFaults.{IsFirstSyntaxFault}
 use Rattle.n3_patch.specs.declared.fault.N3Fault.{N3Fault}
 use Rattle.n3_patch.specs.declared.fault.N3Fault.TheVariants.{Syntax, Constraint, TooLarge}
 use Rattle.n3_patch.specs.declared.fault.N3Fault.TheVariants.{NoMemory}
@@ -19,16 +17,9 @@ use Rattle.n3_patch.specs.Rules.{IsFirstBroken, KeepsRules}
 use Rattle.n3_patch.specs.Size.{patch_size}
 use Rattle.n3_patch.specs.Spells.{SpellsTriples, PatchSpells}
 
--- The bytes have this fault of syntax at this index, among others.
-abbrev pub HasFaultAt : List ℕ → List ℕ → ℕ → TurtleFault → Type 0
-HasFaultAt base bytes index fault = first.HasFaultAt NeverLarge Patch base bytes index fault
-
+-- The bytes have no fault of syntax.
 abbrev pub HasNoFault : List ℕ → List ℕ → Type 0
 HasNoFault base bytes = first.HasNoFault NeverLarge Patch base bytes
-
--- The fault that is reported: none has a lesser index, and none of this index a lesser rank.
-abbrev pub IsFirstFault : List ℕ → List ℕ → TurtleFault → Type 0
-IsFirstFault base bytes fault = first.IsFirstFault NeverLarge Patch base bytes fault
 
 -- a fault of syntax as it is reported
 abbrev pub told_as : TurtleFault → N3Fault
@@ -45,16 +36,12 @@ pub record HasSyntax (base bytes : List ℕ) (triples : List PatchTriple) : Type
 -- their size.
 abbrev pub IsN3Fault : List ℕ → List ℕ → N3Fault → Type 0
 IsN3Fault base bytes (Syntax at) =
-    (fault : TurtleFault) × IsFirstFault base bytes fault × (told_as fault ≡ Syntax at)
+    (fault : TurtleFault) × IsFirstSyntaxFault Patch base bytes fault × (told_as fault ≡ Syntax at)
 IsN3Fault base bytes (Constraint rule) =
     (triples : List PatchTriple) × HasSyntax base bytes triples × IsFirstBroken triples rule
 IsN3Fault base bytes TooLarge = (triples : List PatchTriple) × HasSyntax base bytes triples
     × KeepsRules triples × (TRIPLES_LIMIT < patch_size triples)
 IsN3Fault base bytes NoMemory = Unit {0}
-
--- no bracket is too deep
-abbrev pub IsShallow : List ℕ → List ℕ → Type 0
-IsShallow base bytes = first.IsShallow NeverLarge Patch base bytes
 
 -- this patch, or out of memory
 abbrev pub IsPatchOrNoMemory : Result RdfPatch N3Fault → RdfPatch → Type 0
@@ -64,4 +51,4 @@ IsPatchOrNoMemory (Err fault) patch = fault ≡ NoMemory
 -- Where the bytes parse to a patch and no bracket is too deep, it is this patch, or out of memory.
 abbrev pub HasOnlyPatch : List ℕ → List ℕ → Result RdfPatch N3Fault → Type 0
 HasOnlyPatch base bytes result = (patch : RdfPatch) → PatchSpells base bytes patch
-    → IsShallow base bytes → IsPatchOrNoMemory result patch
+    → first.IsShallow NeverLarge Patch base bytes → IsPatchOrNoMemory result patch

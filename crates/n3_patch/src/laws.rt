@@ -2,8 +2,11 @@
 //!
 //! Each is the contract of a function that does nothing.
 
+ghost use Rattle.turtle_grammar.specs.declared.symbol.Start.TheVariants.{Patch};
+ghost use Rattle.turtle_reader.specs.FirstFaults.{NeverLarge};
+ghost use Rattle.turtle_reader.specs.LanguageFaults.{HasOneFirstFault, PlacesAscend};
 ghost use Rattle.n3_patch.specs.Laws.{HasOnePatch, HasOneRule, PatchBreaksNone, HasOneSpelledPatch};
-ghost use Rattle.n3_patch.specs.Answers.{HasOneFirstFault, PlacesAscend, HasOneAnswer};
+ghost use Rattle.n3_patch.specs.Answers.{HasOneAnswer};
 
 /// Triples have at most one patch, or at most one rule that they break first.
 pub fn one_judgement()
@@ -19,8 +22,8 @@ pub fn one_spelled_patch()
 
 /// A patch document has at most one first fault of syntax: that at the least position.
 pub fn first_fault()
-    ensures one { HasOneFirstFault }
-    ensures least { PlacesAscend }
+    ensures one { HasOneFirstFault (λ base bytes. NeverLarge) Patch }
+    ensures least { PlacesAscend (λ base bytes. NeverLarge) Patch }
 {}
 
 /// A text is read as one patch, or has one fault beside out of memory.

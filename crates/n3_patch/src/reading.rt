@@ -3,8 +3,9 @@
 ghost use Rattle.std.specs.Prelude.{◌≡◌, ◌≢◌, IfOk, IfErr, OnOk};
 ghost use Rattle.graph_patch.specs.Patch.{IsBound};
 ghost use Rattle.turtle_terms.specs.declared.fault.TurtleFault.TheVariants.{NoMemory as NoMemoryFault};
-ghost use Rattle.n3_patch.specs.Faults.{HasNoFault, HasOnlyPatch, IsFirstFault, IsN3Fault};
-ghost use Rattle.n3_patch.specs.Faults.{told_as};
+ghost use Rattle.turtle_grammar.specs.declared.symbol.Start.TheVariants as start_of;
+ghost use Rattle.turtle_reader.specs.LanguageFaults.{IsFirstSyntaxFault};
+ghost use Rattle.n3_patch.specs.Faults.{HasNoFault, HasOnlyPatch, IsN3Fault, told_as};
 ghost use Rattle.n3_patch.specs.Spells.{PatchSpells, SpellsTriples};
 
 use crate::collected_triples::Made;
@@ -23,7 +24,7 @@ fn read_triples(alloc: Global, base: &Iri, bytes: &[u8]) -> Result<List<PatchTri
     ensures spells { IfOk result (λ list. SpellsTriples base.now bytes.now list.items) }
     ensures sound { OnOk result (HasNoFault base.now bytes.now) }
     ensures fault { IfErr result (λ fault. fault ≢ NoMemoryFault
-        → IsFirstFault base.now bytes.now fault) }
+        → IsFirstSyntaxFault start_of.Patch base.now bytes.now fault) }
 {
     let mut made = Made::new(alloc);
     match walk(alloc, base, bytes, &mut made) {

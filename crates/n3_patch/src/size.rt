@@ -1,6 +1,6 @@
 //! The size of a patch document, which is limited, and what its triples count while they are read.
 
-ghost use Rattle.std.specs.Prelude.{◌≡◌, ◌+◌, ◌<◌, ◌≤◌, ℕ};
+ghost use Rattle.std.specs.Prelude.{◌≡◌, ◌<◌, ◌≤◌};
 ghost use Rattle.std.specs.Bool.{OnTrue, OnFalse};
 ghost use Rattle.rdf_graph.specs.Size.{saturated};
 ghost use Rattle.rdf_graph.specs.declared.size.TheConstants.{TRIPLES_LIMIT};
@@ -8,6 +8,7 @@ ghost use Rattle.n3_patch.specs.Size.{node_size, nodes_size, counted_size, patch
 
 use crate::triples::{PatchNode, PatchTriple};
 use rdf_graph::TRIPLES_LIMIT;
+use turtle_reader::saturating_sum;
 
 /// The most bytes that the triples of a patch document count: past it the parser is out of memory.
 /// It is 8 times the limit of a document, so that the first broken rule of one that is too large is
@@ -26,14 +27,6 @@ fn size_of(number: usize) -> u64
     ensures { result ≡ saturated number }
 {
     number as u64
-}
-
-/// The sum of two sizes, at most 2^64 - 1.
-fn saturating_sum(first: u64, second: u64) -> u64
-    ensures { (m : ℕ) (n : ℕ) → first ≡ saturated m → second ≡ saturated n
-        → result ≡ saturated (m + n) }
-{
-    first.saturating_add(second)
 }
 
 /// The size of a node.

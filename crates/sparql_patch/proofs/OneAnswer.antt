@@ -6,7 +6,8 @@ use Rattle.turtle_grammar.specs.declared.symbol.Start.TheVariants.{Update}
 use Rattle.turtle_terms.specs.declared.fault.TurtleFault.{TurtleFault}
 use Rattle.turtle_terms.specs.declared.fault.TurtleFault.TheVariants as turtle
 use Rattle.turtle_reader.specs.declared.referent.ResolvedTriple.{ResolvedTriple}
-use Rattle.turtle_reader.specs.FirstFaults.{NeverLarge}
+use Rattle.turtle_reader.specs.FirstFaults.{IsShallow, NeverLarge}
+use Rattle.turtle_reader.specs.LanguageFaults.{IsFirstSyntaxFault}
 use Rattle.turtle_reader.specs.Languages.{KeepsText}
 use Rattle.turtle_reader.proofs.OneFault.{one_first_fault}
 use Rattle.turtle_reader.proofs.OneText.{no_fault, nowhere_large}
@@ -17,7 +18,7 @@ use Rattle.sparql_patch.specs.declared.named.Named.{Named}
 use Rattle.sparql_patch.specs.Laws.{IsReadAs}
 use Rattle.sparql_patch.specs.Reading.{AreCounted, IsCollected}
 use Rattle.sparql_patch.specs.UpdateSpells.{has_blank, Names, named_size}
-use Rattle.sparql_patch.specs.UpdateFaults.{HasNoFault, IsFirstFault, IsShallow, IsSparqlFault, told_as}
+use Rattle.sparql_patch.specs.UpdateFaults.{HasNoFault, IsSparqlFault, told_as}
 use Rattle.sparql_patch.proofs.Counting.{over_limit, within_limit}
 use Rattle.sparql_patch.proofs.Namings.{blank_is, namings_are}
 use Rattle.sparql_patch.proofs.OneNamed.{one_named, one_blank}
@@ -41,7 +42,7 @@ pub same_fault : (f g : SparqlFault) → refused f ≡ refused g → f ≡ g
 same_fault f g e = cc
 
 module _ (base bytes : List ℕ) where
-  never : (f : TurtleFault) → HasNoFault base bytes → IsFirstFault base bytes f → ⊥
+  never : (f : TurtleFault) → HasNoFault base bytes → IsFirstSyntaxFault Update base bytes f → ⊥
   never f none first = none first.index f first.has
 
   not_blank : (named : List Named) → Names base bytes named → IsSparqlFault base bytes Blank → ⊥
@@ -74,7 +75,7 @@ module _ (base bytes : List ℕ) where
 
   -- Of a text that names triples within the limits only these are returned.
 
-  module _ (named : List Named) (h : Names base bytes named) (shallow : IsShallow base bytes) (fits : named_size named ≤ TRIPLES_LIMIT) where
+  module _ (named : List Named) (h : Names base bytes named) (shallow : IsShallow NeverLarge Update base bytes) (fits : named_size named ≤ TRIPLES_LIMIT) where
     read_as : IsReadAs base bytes (Ok named)
     read_as = (h, no_fault NeverLarge Update base bytes h.productions h.meanings h.is_update shallow (nowhere_large Update base bytes), fits)
 
@@ -89,7 +90,7 @@ module _ (base bytes : List ℕ) where
 
   -- What the code returns
 
-  pub syntax_told : (f : TurtleFault) → (f ≢ turtle.NoMemory → IsFirstFault base bytes f) → IsSparqlFault base bytes (told_as f)
+  pub syntax_told : (f : TurtleFault) → (f ≢ turtle.NoMemory → IsFirstSyntaxFault Update base bytes f) → IsSparqlFault base bytes (told_as f)
   syntax_told (turtle.Bad at kind) first = (turtle.Bad at kind, first (λ e. cc), refl)
   syntax_told (turtle.TooLarge at) first = (turtle.TooLarge at, first (λ e. cc), refl)
   syntax_told turtle.NoMemory first = tt

@@ -1,17 +1,14 @@
 -- What follows from the definitions. Each law is the contract of a function of `laws`.
-use Rattle.std.specs.Prelude.{◌≡◌, ◌↔◌, ◌<◌, ◌≤◌, ℕ, Bool, false, List, Some, Contains}
+use Rattle.std.specs.Prelude.{◌≡◌, ◌↔◌, ◌≤◌, ℕ, Bool, false, List, Some, Contains}
 use Rattle.std.specs.Prelude.{Result, Ok, Err}
 use Rattle.std.specs.List.{IsDistinct, filter}
 use Rattle.rdf_graph.specs.declared.size.TheConstants.{TRIPLES_LIMIT}
 use Rattle.rdf_graph.specs.declared.triple.Triple.{Triple}
-use Rattle.turtle_terms.specs.declared.fault.TurtleFault.{TurtleFault}
 use Rattle.sparql_patch.specs.declared.fault.SparqlFault.{SparqlFault}
 use Rattle.sparql_patch.specs.declared.fault.SparqlFault.TheVariants.{NoMemory}
 use Rattle.sparql_patch.specs.declared.named.Named.{Named}
 use Rattle.sparql_patch.specs.NamedUpdate.{triple_eq, has_triple, last_named, last_word}
-use Rattle.turtle_reader.specs.FirstFaults.{place_of}
-use Rattle.sparql_patch.specs.UpdateFaults.{HasFaultAt, HasNoFault, IsFirstFault}
-use Rattle.sparql_patch.specs.UpdateFaults.{IsSparqlFault}
+use Rattle.sparql_patch.specs.UpdateFaults.{HasNoFault, IsSparqlFault}
 use Rattle.sparql_patch.specs.UpdateSpells.{Names, named_size}
 
 -- A triple is listed under a word exactly where its last naming is with that word.
@@ -43,16 +40,6 @@ WithoutRepeats = (named : List Named) (insert : Bool) (t : Triple)
 abbrev pub HasOneNaming : Type 0
 HasOneNaming = (base bytes : List ℕ) (a b : List Named) → Names base bytes a → Names base bytes b
     → a ≡ b
-
--- It has at most one first fault of syntax.
-abbrev pub HasOneFirstFault : Type 0
-HasOneFirstFault = (base bytes : List ℕ) (a b : TurtleFault) → IsFirstFault base bytes a
-    → IsFirstFault base bytes b → a ≡ b
-
--- Faults of a lesser index have a lesser position.
-abbrev pub PlacesAscend : Type 0
-PlacesAscend = (base bytes : List ℕ) (i j : ℕ) (f g : TurtleFault) → HasFaultAt base bytes i f
-    → HasFaultAt base bytes j g → i < j → place_of f < place_of g
 
 -- A text is read as these triples, or has this fault, which is none of memory.
 abbrev pub IsReadAs : List ℕ → List ℕ → Result (List Named) SparqlFault → Type 0

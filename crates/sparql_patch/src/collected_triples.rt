@@ -1,7 +1,6 @@
 //! What an update names, as it is read.
 
-ghost use Rattle.std.specs.Prelude.{◌≡◌, ◌+◌, ◌++◌, ◌∷◌, [], ℕ, List as ListOf, IfOk, OnOk};
-ghost use Rattle.rdf_graph.specs.Size.{saturated};
+ghost use Rattle.std.specs.Prelude.{◌≡◌, ◌++◌, ◌∷◌, [], List as ListOf, IfOk, OnOk};
 ghost use Rattle.sparql_patch.specs.declared.named.Named.{Named as NamedTriple};
 ghost use Rattle.sparql_patch.specs.UpdateSpells.{is_insert};
 ghost use Rattle.sparql_patch.specs.Reading.{IsTermOrBlank, triple_from, IsNamingOrBlank};
@@ -12,7 +11,7 @@ use pod_base::{List, Mem, NoMemory};
 use rdf_graph::{TRIPLES_LIMIT, Term, Triple};
 use std::alloc::Global;
 use turtle_grammar::{Start, Within};
-use turtle_reader::{Language, Referent, ResolvedTriple};
+use turtle_reader::{Language, Referent, ResolvedTriple, saturating_sum};
 
 /// What an update names so far. Past the limit on size nothing more is kept, and past a blank node
 /// nothing is known of the rest.
@@ -78,14 +77,6 @@ fn naming_of(resolved: ResolvedTriple) -> Mem<Option<Named>>
         Some(triple) => Ok(Some(Named { triple, insert })),
         None => Ok(None),
     }
-}
-
-/// The sum of two sizes, at most 2^64 - 1.
-fn saturating_sum(first: u64, second: u64) -> u64
-    ensures { (m : ℕ) (n : ℕ) → first ≡ saturated m → second ≡ saturated n
-        → result ≡ saturated (m + n) }
-{
-    first.saturating_add(second)
 }
 
 fn push(alloc: Global, named: &mut List<Named>, naming: Named) -> Mem<()>

@@ -2,9 +2,12 @@
 //!
 //! Each is the contract of a function that does nothing.
 
+ghost use Rattle.turtle_grammar.specs.declared.symbol.Start.TheVariants.{Update};
+ghost use Rattle.turtle_reader.specs.FirstFaults.{NeverLarge};
+ghost use Rattle.turtle_reader.specs.LanguageFaults.{HasOneFirstFault, PlacesAscend};
 ghost use Rattle.sparql_patch.specs.Laws.{LastNamingDecides, DeletionsAreInGraph};
 ghost use Rattle.sparql_patch.specs.Laws.{EachIsListedOnce, WithoutRepeats, HasOneNaming};
-ghost use Rattle.sparql_patch.specs.Laws.{HasOneFirstFault, PlacesAscend, HasOneAnswer};
+ghost use Rattle.sparql_patch.specs.Laws.{HasOneAnswer};
 
 /// The last naming of a triple decides, and each triple is listed once.
 pub fn last_naming()
@@ -25,8 +28,8 @@ pub fn one_naming()
 
 /// An update has at most one first fault of syntax: that at the least position.
 pub fn first_fault()
-    ensures one { HasOneFirstFault }
-    ensures least { PlacesAscend }
+    ensures one { HasOneFirstFault (λ base bytes. NeverLarge) Update }
+    ensures least { PlacesAscend (λ base bytes. NeverLarge) Update }
 {}
 
 /// A text is read as one list of triples, or has one fault beside out of memory.

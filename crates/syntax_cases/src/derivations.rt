@@ -7,10 +7,7 @@
 use crate::symbol_letters::{start, symbols};
 use case_words::bytes;
 use std::alloc::{AllocError, Global};
-use turtle_grammar::{
-    GrammarFault, Machine, Node, Production, Refusal, Start, Symbol, SymbolicTriple, Within,
-    derivation,
-};
+use turtle_grammar::{Machine, Node, Production, Refusal, Start, Symbol, SymbolicTriple, Within};
 
 fn push_node(shown: &mut String, node: Node) -> Result<(), AllocError> {
     match node {
@@ -66,13 +63,30 @@ fn show_productions(alloc: Global, productions: &[Production]) -> Result<String,
     Ok(shown)
 }
 
-/// What the symbols produce, or their fault.
+/// Reads the symbols, and appends what they produce. The refusal of one of them, with its index.
+fn read_all(
+    machine: &mut Machine,
+    produced: &mut Vec<Production>,
+    symbols: &[Symbol],
+) -> Result<Option<(Refusal, usize)>, AllocError> {
+    for (at, symbol) in symbols.iter().enumerate() {
+        match machine.step(*symbol) {
+            Ok(()) => produced.extend_from_slice(machine.produced())?,
+            Err(Refusal::NoMemory) => return Err(AllocError),
+            Err(refusal) => return Ok(Some((refusal, at))),
+        }
+    }
+    Ok(None)
+}
+
+/// What the symbols produce, or the first that is refused, or that they are no derivation.
 fn show_derivation(alloc: Global, start: Start, symbols: &[Symbol]) -> Result<String, AllocError> {
-    match derivation(alloc, start, symbols) {
-        Ok(productions) => show_productions(alloc, productions.as_slice()),
-        Err(GrammarFault::Grammar { at }) => format!(in alloc; "Grammar at {at}"),
-        Err(GrammarFault::Depth { at }) => format!(in alloc; "Depth at {at}"),
-        Err(GrammarFault::NoMemory) => Err(AllocError),
+    let mut machine = Machine::new(alloc, start);
+    let mut produced = Vec::new(alloc);
+    match read_all(&mut machine, &mut produced, symbols)? {
+        Some((refusal, at)) => format!(in alloc; "{refusal:?} at {at}"),
+        None if machine.is_complete() => show_productions(alloc, produced.as_slice()),
+        None => format!(in alloc; "Grammar at {}", symbols.len()),
     }
 }
 
@@ -92,14 +106,11 @@ fn show_machine(alloc: Global, machine: &Machine) -> Result<String, AllocError> 
 /// What the machine says of the last symbol, or the first that it refuses.
 fn show_reading(alloc: Global, start: Start, symbols: &[Symbol]) -> Result<String, AllocError> {
     let mut machine = Machine::new(alloc, start);
-    for (at, symbol) in symbols.iter().enumerate() {
-        match machine.step(*symbol) {
-            Ok(()) => {}
-            Err(Refusal::NoMemory) => return Err(AllocError),
-            Err(refusal) => return format!(in alloc; "{refusal:?} at {at}"),
-        }
+    let mut produced = Vec::new(alloc);
+    match read_all(&mut machine, &mut produced, symbols)? {
+        Some((refusal, at)) => format!(in alloc; "{refusal:?} at {at}"),
+        None => show_machine(alloc, &machine),
     }
-    show_machine(alloc, &machine)
 }
 
 /// What `turtle_grammar` returns for a call, a start symbol and the letters of symbols.

@@ -1,6 +1,6 @@
-//! Cases of `rdf_graph`: graphs, changes and patches. A graph or a list of patterns is a field of
-//! three words for each triple, and `;` after each but the last. A word is one of `marked_term`,
-//! where `"` begins an integer, or begins with `?` for a variable.
+//! Cases of `rdf_graph` and `graph_patch`: graphs, changes and patches. A graph or a list of
+//! patterns is a field of three words for each triple, and `;` after each but the last. A word is
+//! one of `marked_term`, where `"` begins an integer, or begins with `?` for a variable.
 
 use crate::{graph_patches, print};
 use case_words::{marked_graph, marked_term, shown_whole, text, triples_text};
@@ -133,7 +133,7 @@ fn compare(alloc: Global, one: &str, other: &str) -> Mem<String> {
     Ok(format!(in alloc; "{order:?}")?)
 }
 
-/// What `rdf_graph` returns for a call on a graph, which is the first argument.
+/// What `rdf_graph` or `graph_patch` returns for a call on a graph, which is the first argument.
 fn call_on(alloc: Global, graph: &Graph, case: &[&str]) -> Mem<String> {
     match case {
         ["text", _] => triples_text(alloc, graph.as_slice()),
@@ -146,7 +146,7 @@ fn call_on(alloc: Global, graph: &Graph, case: &[&str]) -> Mem<String> {
     }
 }
 
-/// What `rdf_graph` returns for a call and its arguments.
+/// What `rdf_graph` or `graph_patch` returns for a call and its arguments.
 pub(crate) fn call(alloc: Global, case: &[&str]) -> Mem<String> {
     match case {
         ["into_list", only] => list(alloc, only),

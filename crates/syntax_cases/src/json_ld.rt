@@ -1,6 +1,5 @@
-//! Cases of `jsonld_expanded` and `jsonld_write`. `read` shows the lines of the document's graph, or
-//! the fault. `write` shows the text that this graph is written as, after it was read as the same
-//! graph.
+//! Cases of `jsonld_expanded`. `read` shows the lines of the document's graph, or the fault.
+//! `write` shows the text that this graph is written as, after it was read as the same graph.
 
 use case_words::{shown_whole, triples_text};
 use iri_ref::Iri;

@@ -10,7 +10,7 @@
 //! |---|---|
 //! | `reference` CALL FIELD.. | what `iri_ref` returns |
 //! | `path` CALL FIELD.. | what `pod_path` returns |
-//! | `graph` CALL FIELD.. | what `rdf_graph` returns; [`graphs`] says how graphs are written |
+//! | `graph` CALL FIELD.. | what `rdf_graph` or `graph_patch` returns; see [`graphs`] |
 //! | `token` CALL FIELD.. | the tokens of a text |
 //! | `grammar` CALL START SYMBOLS | what symbols produce; [`letters`] has their letters |
 //! | `turtle term` BASE PREFIXES TEXT | the term of the first token |

@@ -18,6 +18,7 @@ fn push_field(alloc: Global, text: &mut String, field: &Field) -> Mem<()> {
 /// Appends a body that the response has itself.
 fn push_body(alloc: Global, text: &mut String, body: &Body) -> Mem<()> {
     if let Body::Whole(body) = body {
+        let body = body.to_bytes(alloc)?;
         let body = shown(alloc, body.as_slice())?;
         write!(text, "||{body}")?;
     }

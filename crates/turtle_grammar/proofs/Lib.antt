@@ -7,12 +7,12 @@ pub mod Shift
 pub mod Fitting
 pub mod Theorem
 pub mod Steps
-pub mod Answering
 pub mod Ends
 pub mod Waiting
 pub mod OneProduced
 pub mod Naming
 pub mod NamingSteps
+pub mod NamedLemmas
 pub mod FirstSymbols
 pub mod OneTree
 pub mod Strings

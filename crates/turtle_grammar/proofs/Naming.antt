@@ -113,7 +113,7 @@ module _ (P : ℕ → Type 0) where
   datatype_names (Token kind.PnameNs) s p x m hs hp hx i h = (tt, said s p (node.Typed x m.at) m hs hp (hx, i) h)
   datatype_names _ s p x m hs hp hx i h = tt
 
-  goals_append : (xs gs : List Goal) → GoalsName P xs → GoalsName P gs → GoalsName P (xs ++ gs)
+  pub goals_append : (xs gs : List Goal) → GoalsName P xs → GoalsName P gs → GoalsName P (xs ++ gs)
   goals_append [] gs h k = k
   goals_append (x ∷ xs) gs h k = (h.0, goals_append xs gs h.1 k)
 
@@ -244,45 +244,3 @@ module _ (P : ℕ → Type 0) where
   pub step_names : (gs : List Goal) (w : Rest) (m : Point) (t : Symbol) → GoalsName P gs → P m.at → Produced m → On (step gs w m t) StageNames
   step_names (goal.Suffix s p x ∷ gs) w m t hg i h = string_names t s p x gs w m hg i h
   step_names gs w m t hg i h = take_names gs w m t hg i h
-
--- what names tokens of P names tokens of Q
-module _ (P Q : ℕ → Type 0) (f : (i : ℕ) → P i → Q i) where
-  node_more : (x : Node) → NodeNames P x → NodeNames Q x
-  node_more (node.Token i) h = f i h
-  node_more (node.Tagged i k) h = (f i h.0, f k h.1)
-  node_more (node.Typed i k) h = (f i h.0, f k h.1)
-  node_more _ h = tt
-
-  formula_more : (u : FormulaUse) → FormulaNames P u → FormulaNames Q u
-  formula_more (formula_use.Object s p i w) h = (node_more s h.0, node_more p h.1)
-  formula_more formula_use.Operation h = tt
-
-  closer_more : (c : Closer) → CloserNames P c → CloserNames Q c
-  closer_more closer.Statement h = tt
-  closer_more closer.Subject h = tt
-  closer_more (closer.Object s p o) h = (node_more s h.0, node_more p h.1, node_more o h.2)
-  closer_more (closer.Formula u) h = formula_more u h
-
-  goal_more : (g : Goal) → GoalNames P g → GoalNames Q g
-  goal_more (goal.One s p) h = (node_more s h.0, node_more p h.1)
-  goal_more (goal.Suffix s p i) h = (node_more s h.0, node_more p h.1, f i h.2)
-  goal_more (goal.Datatype s p i) h = (node_more s h.0, node_more p h.1, f i h.2)
-  goal_more (goal.After s p c) h = (node_more s h.0, node_more p h.1, closer_more c h.2)
-  goal_more (goal.Again s c) h = (node_more s h.0, closer_more c h.1)
-  goal_more (goal.Predicates s c) h = (node_more s h.0, closer_more c h.1)
-  goal_more (goal.Maybe s c) h = (node_more s h.0, closer_more c h.1)
-  goal_more (goal.Formula u) h = formula_more u h
-  goal_more (goal.Collection (collection_use.Subject c)) h = closer_more c h
-  goal_more (goal.Collection (collection_use.Object s p)) h = (node_more s h.0, node_more p h.1)
-  goal_more (goal.Elements c cell_use.Subject) h = (node_more c h.0, tt)
-  goal_more (goal.Elements c (cell_use.Object s p o)) h = (node_more c h.0, (node_more s h.1.0, node_more p h.1.1, node_more o h.1.2))
-  goal_more (goal.PrefixName d) h = tt
-  goal_more (goal.PrefixIri d i) h = f i h
-  goal_more (goal.BaseIri d) h = tt
-  goal_more goal.Dot h = tt
-  goal_more (goal.Data w) h = tt
-  goal_more (goal.Brace w) h = tt
-
-  pub goals_more : (gs : List Goal) → GoalsName P gs → GoalsName Q gs
-  goals_more [] h = tt
-  goals_more (g ∷ gs) h = (goal_more g h.0, goals_more gs h.1)

@@ -1,7 +1,6 @@
 -- What a step of the machine names, as its caller sees it.
-use Rattle.std.proofs.Common.{◌≡◌, ℕ, ◌+◌, ◌<◌, ◌≤◌, List, [], ◌∷◌, ◌++◌, length, Option, Some, None, sym, ap, subst, arith}
+use Rattle.std.proofs.Common.{◌≡◌, ℕ, List, [], ◌∷◌, length, Option, Some, None, sym, ap, subst}
 use Rattle.std.specs.Prelude.{IfSome}
-use Rattle.std.proofs.lemmas.List.{length-append}
 use Rattle.std.proofs.lemmas.List.Elements.{All-nil}
 use Rattle.std.specs.List.{All}
 use Rattle.turtle_grammar.specs.declared.symbol.Start.{Start}
@@ -13,42 +12,26 @@ use Rattle.turtle_grammar.specs.declared.production.Production.TheVariants.{Trip
 use Rattle.turtle_grammar.specs.declared.goal.Goal.{Goal}
 use Rattle.turtle_grammar.specs.declared.goal.Goal.TheVariants as goal
 use Rattle.turtle_grammar.specs.declared.machine.Machine.{Machine}
-use Rattle.turtle_grammar.specs.Names.{Names, IsAmong, GoalsName}
+use Rattle.turtle_grammar.specs.Names.{Names, IsOther, GoalsName}
 use Rattle.turtle_grammar.specs.Stacks.{Stage, step_of, cleared, with_produced, waiting_goals, waiting_triple}
-use Rattle.turtle_grammar.specs.Readings.{HasRead, NamesFrom, NamesNothing, WaitingNames}
+use Rattle.turtle_grammar.specs.Readings.{HasRead, Avoids, NamesNothing, WaitingNames}
 use Rattle.turtle_grammar.proofs.Backward.{On}
 use Rattle.turtle_grammar.proofs.Waiting.{run_settled}
-use Rattle.turtle_grammar.proofs.Naming.{StageNames, step_names, goals_more}
+use Rattle.turtle_grammar.proofs.Naming.{StageNames, step_names}
 
-module _ (since : ℕ) (start : Start) (ts : List Symbol) (ps : List Production) (old : Machine) (t : Symbol) (h : HasRead start ts ps old)
-    (le : since ≤ length ts) (names : NamesFrom since ts old) (x : Stage) (taken : step_of (cleared old.engine) t ≡ Some x) where
-  Among : ℕ → Type 0
-  Among = IsAmong since (length ts + 1)
-
-  here : Among old.engine.point.at
-  unfolding Among
-  here =
-      let now = run_settled start ts _ h.reached h.allowed in
-      let at_is : old.engine.point.at ≡ length ts = now.1.at_is in
-      ((let low : since ≤ old.engine.point.at = omega arith in low), (let high : old.engine.point.at < length ts + 1 = omega arith in high))
-
-  named : StageNames (IsAmong since (length ts + 1)) x
-  unfolding Among
-  named =
-      let more = goals_more (IsAmong since (length ts)) (IsAmong since (length ts + 1))
-      (λ i b. (b.0, (let high : i < length ts + 1 = (let lt : i < length ts = b.1 in omega arith) in high))) old.engine.goals names in
-      let all = step_names (IsAmong since (length ts + 1)) old.engine.goals old.engine.rest (with_produced [] old.engine.point) t more here (All-nil _) in
-      let got : On (Some x) (StageNames (IsAmong since (length ts + 1))) = subst (λ o. On o (StageNames (IsAmong since (length ts + 1)))) taken all in
-      got
-
-  pub names_on : GoalsName (IsAmong since (length (ts ++ t ∷ []))) x.goals × All (Names (IsAmong since (length ts + 1))) x.point.produced
-  names_on =
-      let size : length (ts ++ t ∷ []) ≡ length ts + 1 = length-append ts (t ∷ []) in
-      (subst (λ n. GoalsName (IsAmong since n) x.goals) (sym size) named.0, named.1)
+-- a token that no goal names and that isn't the symbol's is not named after the symbol
+pub names_on : (index : ℕ) (start : Start) (ts : List Symbol) (ps : List Production) (old : Machine) (t : Symbol) → HasRead start ts ps old
+    → IsOther index (length ts) → Avoids index old → (x : Stage) → step_of (cleared old.engine) t ≡ Some x
+    → GoalsName (IsOther index) x.goals × All (Names (IsOther index)) x.point.produced
+names_on index start ts ps old t h other avoids x taken =
+    let now = run_settled start ts _ h.reached h.allowed in
+    let here : IsOther index old.engine.point.at = subst (IsOther index) (sym now.1.at_is) other in
+    let all = step_names (IsOther index) old.engine.goals old.engine.rest (with_produced [] old.engine.point) t avoids here (All-nil _) in
+    subst (λ o. On o (StageNames (IsOther index))) taken all
 
 -- no goal names nothing
 pub none_name : (machine : Machine) → machine.engine.goals ≡ [] → NamesNothing machine
-none_name machine e since ts = subst (GoalsName (IsAmong since (length ts))) (sym e) tt
+none_name machine e index = subst (GoalsName (IsOther index)) (sym e) tt
 
 goals_of : Option Stage → List Goal
 goals_of None = []
@@ -73,8 +56,7 @@ pub waiting_names : (machine : Machine) (found : Option SymbolicTriple) → foun
     → IfSome found (λ x. WaitingNames x machine)
 unfolding WaitingNamed
 waiting_names machine None e = tt
-waiting_names machine (Some x) e = λ since ts names.
-    let got : WaitingNamed (IsAmong since (length ts)) (Some x) =
-    subst (WaitingNamed (IsAmong since (length ts))) (sym e)
-    (goals_waiting (IsAmong since (length ts)) machine.engine.goals machine.engine.point.within names) in
+waiting_names machine (Some x) e = λ index avoids.
+    let got : WaitingNamed (IsOther index) (Some x) =
+    subst (WaitingNamed (IsOther index)) (sym e) (goals_waiting (IsOther index) machine.engine.goals machine.engine.point.within avoids) in
     got

@@ -1,11 +1,8 @@
 -- The machine and the grammar: it takes the symbols that go on, and no goal is left where they are
 -- derived.
-use Rattle.std.proofs.Common.{◌≡◌, ℕ, ◌+◌, ◌-◌, ◌<◌, ◌≤◌, true, false, List, [], ◌∷◌, ◌++◌, length, take, drop}
-use Rattle.std.proofs.Common.{Option, Some, None, inl, inr, refl, sym, ap, ◌∙◌, subst, arith, append_assoc}
+use Rattle.std.proofs.Common.{◌≡◌, ℕ, true, false, List, [], ◌∷◌, ◌++◌, length, take, drop}
+use Rattle.std.proofs.Common.{Option, Some, None, refl, sym, ap, ◌∙◌, subst, append_assoc}
 use Rattle.std.proofs.lemmas.List.{append-nil, take-append-drop}
-use Rattle.std.proofs.lemmas.Bool.{cases_lt}
-use Rattle.std.proofs.Math.Nat.{eq-or-lt_of_le}
-use Rattle.std.proofs.Math.Seq.{take-add}
 use Rattle.turtle_grammar.specs.declared.symbol.Start.{Start}
 use Rattle.turtle_grammar.specs.declared.symbol.Start.TheVariants as start_of
 use Rattle.turtle_grammar.specs.declared.symbol.Symbol.{Symbol}
@@ -14,7 +11,7 @@ use Rattle.turtle_grammar.specs.declared.goal.Goal.{Goal}
 use Rattle.turtle_grammar.specs.declared.goal.Rest.{Rest}
 use Rattle.turtle_grammar.specs.Productions.{Point, start_point}
 use Rattle.turtle_grammar.specs.Derivations.{tree_end, AreAllowed, is_allowed}
-use Rattle.turtle_grammar.specs.Derivations.{braces_after, braces_from, Derives, GoesOn, IsFault}
+use Rattle.turtle_grammar.specs.Derivations.{braces_after, braces_from, Derives, GoesOn}
 use Rattle.turtle_grammar.specs.Stacks.{Stage, stage_to, reach, step, step_of, then, run, first_rest}
 use Rattle.turtle_grammar.proofs.Forward.{run_tree, last_rest}
 use Rattle.turtle_grammar.proofs.Completions.{Reads, tree_of_rest}
@@ -162,31 +159,10 @@ module _ (start : Start) where
     derives = subst (λ z. Derives start z g.productions) (append_assoc ts us g.rest) g.derives;
   }
 
-  pub goes_on_less : (ts : List Symbol) (j k : ℕ) → j ≤ k → GoesOn start (take k ts) → GoesOn start (take j ts)
-  goes_on_less ts j k le g =
-      let split : take k ts ≡ take j ts ++ take (k - j) (drop j ts) =
-      ap (λ n. take n ts) (let e : k ≡ j + (k - j) = omega arith in e) ∙ take-add j (k - j) ts in
-      goes_on_front (take j ts) (take (k - j) (drop j ts)) (subst (GoesOn start) split g)
-
-  not_before : (ts : List Symbol) (j k : ℕ) → IsFault start ts j → IsFault start ts k → j < k → ⊥
-  not_before ts j k f g lt =
-      let within : k ≤ length ts = g.within in
-      f.stops (omega arith) (goes_on_less ts (j + 1) k (omega arith) g.goes_on)
-
-  -- The place of a fault is one place.
-  pub one_place : (ts : List Symbol) (j k : ℕ) → IsFault start ts j → IsFault start ts k → j ≡ k
-  one_place ts j k f g = elim (cases_lt j k) [
-    | inl lt ↦ absurd (not_before ts j k f g lt)
-    | inr le ↦ elim (eq-or-lt_of_le le) [ inl e ↦ sym e | inr lt ↦ absurd (not_before ts k j g f lt) ]
-  ]
-
-  -- What has a derivation goes on at each of its prefixes, and so has no fault.
+  -- What has a derivation goes on at each of its prefixes.
   pub begins_so : (ts : List Symbol) (a : List Production) (k : ℕ) → Derives start ts a → GoesOn start (take k ts)
   begins_so ts a k d = record {
     rest = drop k ts;
     productions = a;
     derives = subst (λ z. Derives start z a) (sym (take-append-drop k ts)) d;
   }
-
-  pub no_fault : (ts : List Symbol) (a : List Production) (k : ℕ) → Derives start ts a → IsFault start ts k → ⊥
-  no_fault ts a k d f = elim (eq-or-lt_of_le f.within) [ inl e ↦ f.short e a d | inr lt ↦ f.stops lt (begins_so ts a (k + 1) d) ]

@@ -1,4 +1,4 @@
--- What a list of symbols derives, and the place of its fault.
+-- What a list of symbols derives, and which of them opens a bracket too many.
 use Rattle.std.specs.Prelude.{ℕ, ◌+◌, ◌-◌, ◌≤◌, ◌<◌, ◌≡◌, List, [], ◌∷◌, ◌++◌, length, take}
 use Rattle.std.specs.Prelude.{Bool, true, false, nat_lt}
 use Rattle.turtle_lex.specs.declared.token.TokenKind.TheVariants.{OpenSquare, CloseSquare}
@@ -76,15 +76,6 @@ pub record GoesOn (start : Start) (symbols : List Symbol) : Type 0 where
   pub rest : List Symbol
   pub productions : List Production
   pub derives : Derives start (symbols ++ rest) productions
-
--- A fault of grammar is at the index k: the first k symbols go on, and with one more they don't; or
--- the symbols end there, and have no derivation.
-pub record IsFault (start : Start) (symbols : List Symbol) (k : ℕ) : Type 0 where
-  pub within : k ≤ length symbols
-  pub goes_on : GoesOn start (take k symbols)
-  pub stops : k < length symbols → GoesOn start (take (k + 1) symbols) → ⊥
-  pub short : k ≡ length symbols → (productions : List Production)
-      → Derives start symbols productions → ⊥
 
 -- how many brackets are open after the symbol, where d are open before it
 abbrev pub depth_after : ℕ → Symbol → ℕ

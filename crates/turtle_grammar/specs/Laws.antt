@@ -4,8 +4,7 @@ use Rattle.turtle_grammar.specs.declared.symbol.Start.{Start}
 use Rattle.turtle_grammar.specs.declared.symbol.Symbol.{Symbol}
 use Rattle.turtle_grammar.specs.declared.production.Production.{Production}
 use Rattle.turtle_grammar.specs.declared.machine.Machine.{Machine}
-use Rattle.turtle_grammar.specs.Derivations.{Tree, tree_symbols, Derives, GoesOn, IsFault}
-use Rattle.turtle_grammar.specs.Derivations.{IsShallow}
+use Rattle.turtle_grammar.specs.Derivations.{Tree, tree_symbols, Derives, GoesOn, IsShallow}
 use Rattle.turtle_grammar.specs.Readings.{HasRead, Produces, NamesNothing}
 
 -- Different trees have different symbols.
@@ -49,18 +48,6 @@ abbrev pub DerivedGoesOn : Type 0
 DerivedGoesOn =
     (start : Start) (symbols : List Symbol) (productions : List Production) (k : ℕ)
     → Derives start symbols productions → GoesOn start (take k symbols)
-
--- the fault of a list of symbols is at one index
-abbrev pub HasOneFault : Type 0
-HasOneFault =
-    (start : Start) (symbols : List Symbol) (i k : ℕ)
-    → IsFault start symbols i → IsFault start symbols k → i ≡ k
-
--- what is derived has no fault
-abbrev pub DerivedHasNoFault : Type 0
-DerivedHasNoFault =
-    (start : Start) (symbols : List Symbol) (productions : List Production) (k : ℕ)
-    → Derives start symbols productions → IsFault start symbols k → ⊥
 
 -- what the machine has read goes on
 abbrev pub ReadGoesOn : Type 0

@@ -7,3 +7,4 @@ pub mod Readings
 pub mod Laws
 -- internal: cited by private clauses alone
 pub mod Stacks
+pub mod Named

@@ -1,5 +1,5 @@
 -- The tokens that productions name, and those that goals name.
-use Rattle.std.specs.Prelude.{ℕ, ◌≤◌, ◌<◌, List, [], ◌∷◌}
+use Rattle.std.specs.Prelude.{ℕ, ◌≡◌, List, [], ◌∷◌}
 use Rattle.turtle_grammar.specs.declared.production.Node.{Node}
 use Rattle.turtle_grammar.specs.declared.production.Node.TheVariants.{Token, Tagged, Typed}
 use Rattle.turtle_grammar.specs.declared.production.Production.{Production}
@@ -28,9 +28,9 @@ Names P (Prefix i k) = P i × P k
 Names P (Base i) = P i
 Names P (Triple t) = NodeNames P t.subject × NodeNames P t.predicate × NodeNames P t.object
 
--- the token is one of those from `since` on and before `end`
-abbrev pub IsAmong : ℕ → ℕ → ℕ → Type 0
-IsAmong since end i = (since ≤ i) × (i < end)
+-- the token i is another one
+abbrev pub IsOther : ℕ → ℕ → Type 0
+IsOther index i = i ≡ index → ⊥
 
 abbrev pub FormulaNames : (ℕ → Type 0) → FormulaUse → Type 0
 FormulaNames P (formula_use.Object s p i w) = NodeNames P s × NodeNames P p

@@ -1,8 +1,7 @@
 -- The machine as its caller sees it: which symbols it has read, and what they produced.
-use Rattle.std.specs.Prelude.{ℕ, ◌+◌, ◌≤◌, ◌<◌, ◌≡◌, List, [], ◌∷◌, ◌++◌, length, take}
-use Rattle.std.specs.Prelude.{Option, Some, None, Result, Ok, Err}
+use Rattle.std.specs.Prelude.{ℕ, ◌+◌, ◌≤◌, ◌<◌, ◌≡◌, List, [], ◌∷◌, ◌++◌, length}
+use Rattle.std.specs.Prelude.{Option, Some, None}
 use Rattle.std.specs.List.{All}
-use Rattle.std.specs.Global.{Vec}
 use Rattle.turtle_lex.specs.declared.token.TokenKind.TheVariants.{LangTag, Carets}
 use Rattle.turtle_grammar.specs.declared.symbol.Start.{Start}
 use Rattle.turtle_grammar.specs.declared.symbol.Symbol.{Symbol}
@@ -12,13 +11,11 @@ use Rattle.turtle_grammar.specs.declared.production.Production.{Production}
 use Rattle.turtle_grammar.specs.declared.production.Production.TheVariants.{Prefix, Base, Triple}
 use Rattle.turtle_grammar.specs.declared.fault.Refusal.{Refusal}
 use Rattle.turtle_grammar.specs.declared.fault.Refusal.TheVariants as refusal
-use Rattle.turtle_grammar.specs.declared.fault.GrammarFault.{GrammarFault}
-use Rattle.turtle_grammar.specs.declared.fault.GrammarFault.TheVariants.{Grammar, Depth, NoMemory}
 use Rattle.turtle_grammar.specs.declared.machine.Machine.{Machine}
 use Rattle.turtle_grammar.specs.declared.fault.TheConstants.{DEPTH_LIMIT}
-use Rattle.turtle_grammar.specs.Derivations.{Derives, GoesOn, IsFault, IsTooDeep, IsShallow}
+use Rattle.turtle_grammar.specs.Derivations.{Derives, GoesOn, IsTooDeep, IsShallow}
 use Rattle.turtle_grammar.specs.Derivations.{AreAllowed, braces_from, depth_from}
-use Rattle.turtle_grammar.specs.Names.{Names, IsAmong, GoalsName}
+use Rattle.turtle_grammar.specs.Names.{Names, IsOther, GoalsName}
 use Rattle.turtle_grammar.specs.Stacks.{run, at_point, with_produced, waiting_triple}
 
 -- the index of the token at which a production ends
@@ -69,36 +66,26 @@ ReadsOn symbol old new =
     → HasRead start symbols productions old
     → HasRead start (symbols ++ symbol ∷ []) (productions ++ produced_by new) new
 
--- the same beside a list of all that was produced
-abbrev pub CollectsOn : Symbol → Machine → List Production → Machine → List Production → Type 0
-CollectsOn symbol old before new after =
-    (start : Start) (symbols : List Symbol) → HasRead start symbols before old
-    → HasRead start (symbols ++ symbol ∷ []) after new
-
--- what is unfinished names tokens from `since` on
-abbrev pub NamesFrom : ℕ → List Symbol → Machine → Type 0
-NamesFrom since symbols machine =
-    GoalsName (IsAmong since (length symbols)) machine.engine.goals
+-- what is unfinished doesn't name the token of this index
+abbrev pub Avoids : ℕ → Machine → Type 0
+Avoids index machine = GoalsName (IsOther index) machine.engine.goals
 
 -- nothing is unfinished that names a token
 abbrev pub NamesNothing : Machine → Type 0
-NamesNothing machine = (since : ℕ) (symbols : List Symbol) → NamesFrom since symbols machine
+NamesNothing machine = (index : ℕ) → Avoids index machine
 
--- Where what is unfinished names tokens from `since` on, it does so after this symbol, and the
--- productions of the symbol name tokens from `since` up to it.
+-- A token that what is unfinished doesn't name, and that isn't this symbol's, is named neither by
+-- what is unfinished after the symbol nor by its productions.
 abbrev pub NamesOn : Symbol → Machine → Machine → Type 0
 NamesOn symbol old new =
-    (since : ℕ) (start : Start) (symbols : List Symbol) (productions : List Production)
-    → HasRead start symbols productions old → since ≤ length symbols
-    → NamesFrom since symbols old
-    → NamesFrom since (symbols ++ symbol ∷ []) new
-    × All (Names (IsAmong since (length symbols + 1))) (produced_by new)
+    (index : ℕ) (start : Start) (symbols : List Symbol) (productions : List Production)
+    → HasRead start symbols productions old → IsOther index (length symbols) → Avoids index old
+    → Avoids index new × All (Names (IsOther index)) (produced_by new)
 
--- and so does the triple of a String that waits
+-- nor by the triple of a String that waits
 abbrev pub WaitingNames : SymbolicTriple → Machine → Type 0
 WaitingNames waiting machine =
-    (since : ℕ) (symbols : List Symbol) → NamesFrom since symbols machine
-    → Names (IsAmong since (length symbols)) (Triple waiting)
+    (index : ℕ) → Avoids index machine → Names (IsOther index) (Triple waiting)
 
 -- whatever was read, it doesn't go on with this symbol
 abbrev pub StopsAt : Symbol → Machine → Type 0
@@ -151,26 +138,3 @@ HasString machine =
 -- there is a triple
 abbrev pub IsTriple : Option SymbolicTriple → Type 0
 IsTriple found = (triple : SymbolicTriple) × (found ≡ Some triple)
-
--- the fault of a list where the symbol at this index is refused
-abbrev pub fault_at : Refusal → ℕ → GrammarFault
-fault_at refusal.Grammar at = Grammar at
-fault_at refusal.Depth at = Depth at
-fault_at refusal.NoMemory at = NoMemory
-
--- The answer for a list of symbols.
-abbrev pub Faults : Start → List Symbol → GrammarFault → Type 0
-Faults start symbols (Grammar at) = IsFault start symbols at × IsShallow symbols at
-Faults start symbols (Depth at) =
-    IsTooDeep symbols at × GoesOn start (take (at + 1) symbols) × IsShallow symbols at
-Faults start symbols NoMemory = Unit {0}
-
-abbrev pub Answers : Start → List Symbol → Result (Vec Production) GrammarFault → Type 0
-Answers start symbols (Ok productions) =
-    Derives start symbols productions.items × IsShallow symbols (length symbols)
-Answers start symbols (Err fault) = Faults start symbols fault
-
--- these productions, or out of memory
-abbrev pub AreOrNoMemory : Result (Vec Production) GrammarFault → List Production → Type 0
-AreOrNoMemory (Ok found) productions = found.items ≡ productions
-AreOrNoMemory (Err fault) productions = fault ≡ NoMemory

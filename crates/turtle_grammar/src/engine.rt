@@ -1,8 +1,10 @@
 //! The stack of goals, and how the whole machine takes a symbol.
 
 ghost use Rattle.std.specs.Prelude.{◌≡◌, ◌↔◌, ◌+◌, ◌∷◌, [], IfOk, OnOk, IfSome, IfNone, IsTrue};
+ghost use Rattle.std.specs.Bool.{OnTrue, OnFalse};
 
 use crate::goal::{Goal, Rest};
+use crate::named::is_in_stack;
 use crate::production::{Node, Production, SymbolicTriple, Within};
 use crate::symbol::Start;
 use pod_base::{Mem, NoMemory};
@@ -30,6 +32,7 @@ impl Model for Engine {
 }
 
 impl Engine {
+    ghost use Rattle.turtle_grammar.specs.Names.{IsOther, GoalsName};
     ghost use Rattle.turtle_grammar.specs.Productions.{start_point, passed, counted, fresh, moved};
     ghost use Rattle.turtle_grammar.specs.Productions.{produces, triple_at, says};
     ghost use Rattle.turtle_grammar.specs.Stacks.{Stage, first_rest, wants, at_point, with_rest};
@@ -144,6 +147,14 @@ impl Engine {
         ensures { result.now ≡ self.now.point.produced }
     {
         self.produced.as_slice()
+    }
+
+    /// Whether a goal names the token of this index.
+    pub fn names(&self, index: usize) -> bool
+        ensures found { OnTrue result (GoalsName (IsOther index) self.now.goals → ⊥) }
+        ensures none { OnFalse result (GoalsName (IsOther index) self.now.goals) }
+    {
+        is_in_stack(index, self.stack.as_slice())
     }
 
     /// Whether no goal is left.

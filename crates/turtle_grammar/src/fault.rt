@@ -1,4 +1,4 @@
-//! Faults of a list of symbols, and the limit on depth.
+//! Why a symbol is refused, and the limit on depth.
 
 use thiserror::Error;
 
@@ -14,22 +14,6 @@ pub enum Refusal {
     /// The symbol opens a bracket more than [`DEPTH_LIMIT`].
     #[error("too many open brackets")]
     Depth,
-    /// Out of memory, or a count is over the limit of its type.
-    #[error("out of memory")]
-    NoMemory,
-}
-
-/// Why a list of symbols has no derivation, with the index of the fault. The least index is given,
-/// and at one index `Grammar` goes before `Depth`.
-#[derive(Clone, Copy, Debug, PartialEq, Eq, Error)]
-pub enum GrammarFault {
-    /// Nothing that begins with the symbols up to and with this one can be derived; at the end,
-    /// the symbols can't be derived.
-    #[error("unexpected token {at}")]
-    Grammar { at: usize },
-    /// The symbol opens a bracket more than [`DEPTH_LIMIT`].
-    #[error("too many open brackets at token {at}")]
-    Depth { at: usize },
     /// Out of memory, or a count is over the limit of its type.
     #[error("out of memory")]
     NoMemory,

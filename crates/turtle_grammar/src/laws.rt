@@ -3,8 +3,8 @@
 //! Each is the contract of a function that does nothing.
 
 ghost use Rattle.turtle_grammar.specs.Laws.{HasOneDerivation, HasOneProduce, PrefixesGoOn};
-ghost use Rattle.turtle_grammar.specs.Laws.{HasOneFault, DerivedHasNoFault, ReadGoesOn};
-ghost use Rattle.turtle_grammar.specs.Laws.{DerivedGoesOn, ReadIsShallow, NothingNamesNothing};
+ghost use Rattle.turtle_grammar.specs.Laws.{DerivedGoesOn, ReadGoesOn, ReadIsShallow};
+ghost use Rattle.turtle_grammar.specs.Laws.{NothingNamesNothing};
 ghost use Rattle.turtle_grammar.specs.Laws.{IsUnambiguous, HasOneTree, HasOneList};
 
 /// What a list of symbols derives is one list, and so is what it produces up to its last symbol.
@@ -25,12 +25,6 @@ pub fn one_tree()
 pub fn prefixes()
     ensures go_on { PrefixesGoOn }
     ensures of_derived { DerivedGoesOn }
-{}
-
-/// A list of symbols has a derivation or a fault of grammar, at one index.
-pub fn one_fault()
-    ensures index { HasOneFault }
-    ensures none { DerivedHasNoFault }
 {}
 
 /// What the machine has read goes on, no bracket of it is too deep, and before the first symbol

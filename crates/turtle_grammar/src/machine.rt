@@ -73,7 +73,7 @@ impl Machine {
     ghost use Rattle.turtle_grammar.specs.Readings.{HasRead, ReadsOn, IsRefused};
     ghost use Rattle.turtle_grammar.specs.Stacks.{Takes, step_of, cleared};
     ghost use Rattle.turtle_grammar.specs.Readings.{IsDerived, IsUnfinished, Waits, produced_by};
-    ghost use Rattle.turtle_grammar.specs.Readings.{NamesOn, NamesNothing, WaitingNames};
+    ghost use Rattle.turtle_grammar.specs.Readings.{Avoids, NamesOn, NamesNothing, WaitingNames};
     ghost use Rattle.turtle_grammar.specs.Readings.{HasString, IsTriple};
 
     /// The machine before the first symbol. It has no memory yet.
@@ -137,6 +137,15 @@ impl Machine {
         ensures string { HasString self.now → IsTriple result }
     {
         self.engine.waiting()
+    }
+
+    /// Whether what is unfinished names the token of this index. One that it doesn't name is named by
+    /// no later production.
+    pub fn names(&self, index: usize) -> bool
+        ensures found { OnTrue result (Avoids index self.now → ⊥) }
+        ensures none { OnFalse result (Avoids index self.now) }
+    {
+        self.engine.names(index)
     }
 
     /// Whether what was read has a derivation. No later production names a token before here.

@@ -1,6 +1,7 @@
 pub mod Sequences
-pub mod Stepping
 pub mod MoreMeanings
+pub mod Holding
+pub mod Stepping
 pub mod Handing
 pub mod HandedFaults
 pub mod Words

@@ -1,19 +1,18 @@
 -- What is kept of meanings, and what a node refers to, stay the same with more meanings.
-use Rattle.std.proofs.Common.{◌≡◌, ℕ, List, [], ◌∷◌, ◌++◌, length, Option, Some, None, slice_get}
+use Rattle.std.proofs.Common.{◌≡◌, ℕ, Bool, true, false, List, [], ◌∷◌, ◌++◌, length, Option, Some, None, slice_get}
 use Rattle.std.proofs.Common.{refl, sym, ◌∙◌, subst}
-use Rattle.std.proofs.lemmas.List.Elements.{All-filter, All-push, All-weaker}
+use Rattle.std.proofs.lemmas.List.Elements.{All-push, All-weaker}
 use Rattle.std.proofs.lemmas.Option.{none-some, slice_get_within}
-use Rattle.std.specs.List.{All, filter}
+use Rattle.std.specs.List.{All}
 use Rattle.rdf_graph.proofs.Members.{slice_get-push_before}
 use Rattle.rdf_graph.specs.declared.term.Term.TheVariants.{Iri, Blank, Literal, Tagged as TaggedTerm}
 use Rattle.turtle_grammar.specs.declared.production.Node.{Node}
 use Rattle.turtle_grammar.specs.declared.production.Node.TheVariants as node
 use Rattle.turtle_reader.specs.declared.kept_meanings.Kept.{Kept}
-use Rattle.turtle_reader.specs.declared.kept_meanings.KeptMeanings.{KeptMeanings}
 use Rattle.turtle_reader.specs.declared.meaning.Meaning.{Meaning}
 use Rattle.turtle_reader.specs.declared.meaning.Meaning.TheVariants as meaning_of
 use Rattle.turtle_reader.specs.declared.referent.Referent.{Referent}
-use Rattle.turtle_reader.specs.Kept.{IsKept, KeepsMeaning, stays}
+use Rattle.turtle_reader.specs.Kept.{IsKept, with_meaning}
 use Rattle.turtle_reader.specs.Referents.{term_referent, tagged, typed, referent}
 
 still_there : (ms : List Meaning) (more : Meaning) (i : ℕ) (m : Meaning) → slice_get ms i ≡ Some m → slice_get (ms ++ more ∷ []) i ≡ Some m
@@ -25,16 +24,14 @@ last_there : (ms : List Meaning) (m : Meaning) → slice_get (ms ++ m ∷ []) (l
 last_there [] m = refl
 last_there (n ∷ ms) m = last_there ms m
 
-pub keeps_none : (index : ℕ) (m : Meaning) (kept : KeptMeanings) → KeepsMeaning index m kept kept
-keeps_none index m kept ms size h = All-weaker (IsKept ms) (IsKept (ms ++ m ∷ [])) (λ k. still_there ms m k.index k.meaning) kept.list.items h
+keeps_more : (m : Meaning) (ms : List Meaning) (list : List Kept) → All (IsKept ms) list → All (IsKept (ms ++ m ∷ [])) list
+keeps_more m ms list h = All-weaker (IsKept ms) (IsKept (ms ++ m ∷ [])) (λ k. still_there ms m k.index k.meaning) list h
 
-pub keeps_one : (one : Kept) (old new : KeptMeanings) → new.list.items ≡ filter (stays one.place one.index) old.list.items ++ one ∷ []
-    → KeepsMeaning one.index one.meaning old new
-keeps_one one old new is ms size h =
-    let all = ms ++ one.meaning ∷ [] in let left = filter (stays one.place one.index) old.list.items in
-    let found : IsKept all one = subst (λ (i : ℕ). slice_get all i ≡ Some one.meaning) size (last_there ms one.meaning) in
-    let more = All-filter (stays one.place one.index) (IsKept all) old.list.items (keeps_none one.index one.meaning old ms size h) in
-    subst (λ (ks : List Kept). All (IsKept all) ks) (sym is) (All-push (IsKept all) left one more found)
+-- with one lexeme more, what is kept of the others and of this one
+pub keeps_with : (b : Bool) (ms : List Meaning) (m : Meaning) (list : List Kept) → All (IsKept ms) list
+    → All (IsKept (ms ++ m ∷ [])) (with_meaning b (length ms) m list)
+keeps_with true ms m list h = All-push (IsKept (ms ++ m ∷ [])) list _ (keeps_more m ms list h) (last_there ms m)
+keeps_with false ms m list h = keeps_more m ms list h
 
 -- What nodes refer to
 

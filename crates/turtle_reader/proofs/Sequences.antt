@@ -1,5 +1,5 @@
 -- Lexemes with their meanings, one more at a time, and that a lexeme means one thing.
-use Rattle.std.proofs.Common.{◌≡◌, ℕ, List, [], ◌∷◌, ◌++◌, Option, Some, None, Result, Ok, Err}
+use Rattle.std.proofs.Common.{◌≡◌, ℕ, suc, List, [], ◌∷◌, ◌++◌, length, Option, Some, None, Result, Ok, Err}
 use Rattle.std.proofs.Common.{refl, sym, ap, ◌∙◌, subst}
 use Rattle.std.proofs.lemmas.List.{map-append}
 use Rattle.std.specs.FinMap as map_of
@@ -39,6 +39,12 @@ means_more bytes c [] [] l m h k = (k, tt)
 means_more bytes c [] (n ∷ ms) l m h k = absurd h
 means_more bytes c (x ∷ ls) [] l m h k = absurd h
 means_more bytes c (x ∷ ls) (n ∷ ms) l m h k = (h.0, means_more bytes (context_after c x n) ls ms l m h.1 k)
+
+pub means_size : (bytes : List ℕ) (c : Context) (ls : List Lexeme) (ms : List Meaning) → AreMeanings bytes c ls ms → length ms ≡ length ls
+means_size bytes c [] [] h = refl
+means_size bytes c [] (m ∷ ms) h = absurd h
+means_size bytes c (l ∷ ls) [] h = absurd h
+means_size bytes c (l ∷ ls) (m ∷ ms) h = ap suc (means_size bytes (context_after c l m) ls ms h.1)
 
 pub context_more : (bytes : List ℕ) (c : Context) (ls : List Lexeme) (ms : List Meaning) (l : Lexeme) (m : Meaning)
     → AreMeanings bytes c ls ms

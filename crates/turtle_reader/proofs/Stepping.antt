@@ -3,13 +3,15 @@ use Rattle.std.proofs.Common.{◌≡◌, ◌≢◌, ℕ, ◌+◌, ◌<◌, ◌�
 use Rattle.std.proofs.Common.{refl, sym, ap, ◌∙◌, subst, arith, append_assoc, length-append}
 use Rattle.std.proofs.lemmas.List.{map-append, length-map, take-append-le}
 use Rattle.std.proofs.Math.Seq.{take-length}
+use Rattle.std.specs.List.{All}
 use Rattle.turtle_grammar.specs.declared.symbol.Start.{Start}
 use Rattle.turtle_grammar.specs.declared.symbol.Symbol.{Symbol}
 use Rattle.turtle_grammar.specs.declared.production.Production.{Production}
 use Rattle.turtle_grammar.specs.declared.fault.TheConstants.{DEPTH_LIMIT}
 use Rattle.turtle_grammar.specs.declared.machine.Machine.{Machine}
 use Rattle.turtle_grammar.specs.Derivations.{GoesOn, depth_from}
-use Rattle.turtle_grammar.specs.Readings.{HasRead, produced_by, StopsAt, IsTooDeepAt}
+use Rattle.turtle_grammar.specs.Names.{Names}
+use Rattle.turtle_grammar.specs.Readings.{HasRead, NamesOn, produced_by, StopsAt, IsTooDeepAt}
 use Rattle.turtle_grammar.specs.Readings.{ReadsOn as MachineReadsOn}
 use Rattle.turtle_grammar.proofs.Steps.{goes_on_now}
 use Rattle.turtle_grammar.proofs.Theorem.{goes_on_front}
@@ -19,34 +21,54 @@ use Rattle.turtle_terms.specs.declared.fault.TurtleFault.TheVariants.{Bad, TooLa
 use Rattle.turtle_reader.specs.declared.lexeme.Lexeme.{Lexeme}
 use Rattle.turtle_reader.specs.declared.meaning.Meaning.{Meaning}
 use Rattle.turtle_reader.specs.declared.context.Context.{Context}
+use Rattle.turtle_reader.specs.declared.kept_meanings.KeptMeanings.{KeptMeanings}
 use Rattle.turtle_reader.specs.declared.reader.Reader.{Reader}
-use Rattle.turtle_reader.specs.Kept.{KeepsMeaning}
+use Rattle.turtle_reader.specs.Kept.{IsKept, AreKept, DropsUnnamed, entries, is_referred_to, with_meaning}
 use Rattle.turtle_reader.specs.Lexemes.{symbols_of}
 use Rattle.turtle_reader.specs.Contexts.{at_start, context_after, context_from}
 use Rattle.turtle_reader.specs.Meanings.{IsMeaning}
 use Rattle.turtle_reader.specs.Faults.{HasNoIri, IsFaultAfter, IsLeastAfter, HasNoFaultAfter, rank}
-use Rattle.turtle_reader.specs.Readings.{IsReading, produced_last, ReadsOn, IsRefused}
+use Rattle.turtle_reader.specs.Readings.{IsReading, IsHeld, AreHeld, produced_last, ReadsOn, IsRefused}
+use Rattle.turtle_reader.proofs.Holding.{held_on}
+use Rattle.turtle_reader.proofs.MoreMeanings.{keeps_with}
 use Rattle.turtle_reader.proofs.OneLexeme.{no_lexeme}
-use Rattle.turtle_reader.proofs.Sequences.{symbols_more, means_more, context_more, no_iri_fault, one_means, meaning_or_fault, faults_agree, IsIriFault, iri_fault}
+use Rattle.turtle_reader.proofs.Sequences.{symbols_more, means_more, means_size, context_more, no_iri_fault, one_means, meaning_or_fault, faults_agree, IsIriFault, iri_fault}
 
 module _ (start : Start) (base bytes : List ℕ) (ls : List Lexeme) (ps : List Production) (ms : List Meaning) (old : Reader)
     (h : IsReading start base bytes ls ps ms old) where
   -- one lexeme more
-  pub reads_more : (l : Lexeme) (m : Meaning) (new : Reader) → MachineReadsOn l.symbol old.machine new.machine
-      → IsMeaning bytes old.context l (Ok m) → new.context ≡ context_after old.context l m
-      → KeepsMeaning old.read m old.kept new.kept → new.read ≡ old.read + 1
-      → IsReading start base bytes (ls ++ l ∷ []) (ps ++ produced_last new) (ms ++ m ∷ []) new
-  reads_more l m new reads means context kept read =
-      let here : IsMeaning bytes (context_from (at_start base) ls ms) l (Ok m) = subst (λ (c : Context). IsMeaning bytes c l (Ok m)) (sym h.context) means in
-      let size : length (ms ++ m ∷ []) ≡ length ms + 1 = length-append ms (m ∷ []) in
-      let before : old.read ≡ length ms = h.read in
-      record {
-        machine = subst (λ (z : List Symbol). HasRead start z (ps ++ produced_last new) new.machine) (sym (symbols_more ls l)) (reads start (symbols_of ls) ps h.machine);
-        means = means_more bytes (at_start base) ls ms l m h.means here;
-        context = context_more bytes (at_start base) ls ms l m h.means ∙ ap (λ (c : Context). context_after c l m) h.context ∙ sym context;
-        kept = kept ms (sym h.read) h.kept;
-        read = omega (arith, read, size, before);
-      }
+  module _ (l : Lexeme) (m : Meaning) (new : Reader) (mid : KeptMeanings) (reads : MachineReadsOn l.symbol old.machine new.machine)
+      (names : NamesOn l.symbol old.machine new.machine) (means : IsMeaning bytes old.context l (Ok m)) (context : new.context ≡ context_after old.context l m)
+      (drops : DropsUnnamed old.machine old.kept mid) (stay : (all : List Meaning) → AreKept all old.kept → AreKept all mid)
+      (kept : entries new.kept ≡ with_meaning (is_referred_to m) old.read m (entries mid)) (read : new.read ≡ old.read + 1) where
+    here_means : IsMeaning bytes (context_from (at_start base) ls ms) l (Ok m)
+    here_means = subst (λ (c : Context). IsMeaning bytes c l (Ok m)) (sym h.context) means
+
+    kept_now : entries new.kept ≡ with_meaning (is_referred_to m) (length ms) m (entries mid)
+    kept_now = subst (λ (n : ℕ). entries new.kept ≡ with_meaning (is_referred_to m) n m (entries mid)) h.read kept
+
+    size_now : length ms ≡ length (symbols_of ls)
+    size_now = means_size bytes (at_start base) ls ms h.means ∙ sym (length-map ls (λ (x : Lexeme). x.symbol))
+
+    held_now : AreHeld (ms ++ m ∷ []) new × All (Names (IsHeld (ms ++ m ∷ []) new.kept)) (produced_last new)
+    held_now = held_on ms m (length (symbols_of ls)) size_now old new mid drops kept_now h.held
+        (λ i other avoids. names i start (symbols_of ls) ps h.machine other avoids)
+
+    pub reads_more : IsReading start base bytes (ls ++ l ∷ []) (ps ++ produced_last new) (ms ++ m ∷ []) new
+        × All (Names (IsHeld (ms ++ m ∷ []) new.kept)) (produced_last new)
+    reads_more =
+        let size : length (ms ++ m ∷ []) ≡ length ms + 1 = length-append ms (m ∷ []) in
+        let before : old.read ≡ length ms = h.read in (
+          record {
+            machine = subst (λ (z : List Symbol). HasRead start z (ps ++ produced_last new) new.machine) (sym (symbols_more ls l)) (reads start (symbols_of ls) ps h.machine);
+            means = means_more bytes (at_start base) ls ms l m h.means here_means;
+            context = context_more bytes (at_start base) ls ms l m h.means ∙ ap (λ (c : Context). context_after c l m) h.context ∙ sym context;
+            kept = subst (All (IsKept (ms ++ m ∷ []))) (sym kept_now) (keeps_with (is_referred_to m) ms m (entries mid) (stay ms h.kept));
+            held = held_now.0;
+            read = omega (arith, read, size, before);
+          },
+          held_now.1,
+        )
 
   module _ (l : Lexeme) where
     more : GoesOn start (symbols_of (ls ++ l ∷ [])) → GoesOn start (symbols_of ls ++ l.symbol ∷ [])
@@ -209,7 +231,10 @@ module _ (bytes : List ℕ) (l : Lexeme) (old : Reader) where
   goes_deep deep start ls ps h = (deep start (symbols_of ls) ps h).0
 
   -- one lexeme more
-  pub reads_on : (m : Meaning) (new : Reader) → MachineReadsOn l.symbol old.machine new.machine
-      → IsMeaning bytes old.context l (Ok m) → new.context ≡ context_after old.context l m
-      → KeepsMeaning old.read m old.kept new.kept → new.read ≡ old.read + 1 → ReadsOn bytes l old new
-  reads_on m new reads means context kept read = λ start base ls ps ms h. (m, reads_more start base bytes ls ps ms old h l m new reads means context kept read)
+  pub reads_on : (m : Meaning) (new : Reader) (mid : KeptMeanings) → MachineReadsOn l.symbol old.machine new.machine
+      → NamesOn l.symbol old.machine new.machine → IsMeaning bytes old.context l (Ok m) → new.context ≡ context_after old.context l m
+      → DropsUnnamed old.machine old.kept mid → ((all : List Meaning) → AreKept all old.kept → AreKept all mid)
+      → entries new.kept ≡ with_meaning (is_referred_to m) old.read m (entries mid) → new.read ≡ old.read + 1 → ReadsOn bytes l old new
+  reads_on m new mid reads names means context drops stay kept read = λ start base ls ps ms h.
+      let both = reads_more start base bytes ls ps ms old h l m new mid reads names means context drops stay kept read in
+      (m, both.0, both.1)

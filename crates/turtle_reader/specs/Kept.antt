@@ -1,30 +1,60 @@
--- What a reader keeps of what its lexemes mean: of each that is kept its index and its place.
-use Rattle.std.specs.Prelude.{◌≡◌, ◌-◌, ℕ, Bool, nat_lt, nat_le, ◌||◌, List, [], ◌∷◌, ◌++◌, length}
-use Rattle.std.specs.Prelude.{Some, slice_get}
+-- What a reader keeps of what its lexemes mean: of each that is kept its index.
+use Rattle.std.specs.Prelude.{◌≡◌, ◌⊎◌, ℕ, Bool, true, false, List, [], ◌∷◌, ◌++◌, Option, Some, None}
+use Rattle.std.specs.Prelude.{IfSome, slice_get}
 use Rattle.std.specs.List.{All}
+use Rattle.turtle_grammar.specs.declared.machine.Machine.{Machine}
+use Rattle.turtle_grammar.specs.Readings.{Avoids}
 use Rattle.turtle_reader.specs.declared.meaning.Meaning.{Meaning}
+use Rattle.turtle_reader.specs.declared.meaning.Meaning.TheVariants as meaning_of
 use Rattle.turtle_reader.specs.declared.kept_meanings.Kept.{Kept}
 use Rattle.turtle_reader.specs.declared.kept_meanings.KeptMeanings.{KeptMeanings}
+
+abbrev pub entries_with : List Kept → Option Kept → List Kept
+entries_with list None = list
+entries_with list (Some last) = list ++ last ∷ []
+
+-- all that is kept, the last one last
+abbrev pub entries : KeptMeanings → List Kept
+entries kept = entries_with kept.list.items kept.last
 
 -- It is what the lexeme of its index means, where all lexemes mean these.
 abbrev pub IsKept : List Meaning → Kept → Type 0
 IsKept all kept = slice_get all kept.index ≡ Some kept.meaning
 
 abbrev pub AreKept : List Meaning → KeptMeanings → Type 0
-AreKept all kept = All (IsKept all) kept.list.items
+AreKept all kept = All (IsKept all) (entries kept)
 
 -- Whatever the lexemes mean, this is what the one of this index means, if these are kept of them.
 abbrev pub FindsIn : List Kept → ℕ → Meaning → Type 0
 FindsIn list index meaning =
     (all : List Meaning) → All (IsKept all) list → slice_get all index ≡ Some meaning
 
--- Whatever the lexemes mean, what is kept of them still is, with one lexeme more, of this index and
--- this meaning.
-abbrev pub KeepsMeaning : ℕ → Meaning → KeptMeanings → KeptMeanings → Type 0
-KeepsMeaning index meaning old new = (all : List Meaning) → length all ≡ index → AreKept all old
-    → AreKept (all ++ meaning ∷ []) new
+-- one of them is of the lexeme of this index
+abbrev pub Has : ℕ → List Kept → Type 0
+Has index [] = ⊥
+Has index (kept ∷ more) = (kept.index ≡ index) ⊎ Has index more
 
--- What stays when a lexeme of this place and this index is kept: lesser places, and the last two
--- lexemes.
-abbrev pub stays : ℕ → ℕ → Kept → Bool
-stays place index kept = nat_lt kept.place place || nat_le (index - kept.index) 2
+-- whether a production can refer to a lexeme of this meaning
+abbrev pub is_referred_to : Meaning → Bool
+is_referred_to meaning_of.Nothing = false
+is_referred_to (meaning_of.Name prefix) = false
+is_referred_to meaning = true
+
+-- with this meaning of the lexeme of this index, if it is kept
+abbrev pub with_meaning : Bool → ℕ → Meaning → List Kept → List Kept
+with_meaning true index meaning list = list ++ record { index = index; meaning = meaning } ∷ []
+with_meaning false index meaning list = list
+
+-- What is dropped, the machine doesn't name, so that no later production does.
+abbrev pub DropsUnnamed : Machine → KeptMeanings → KeptMeanings → Type 0
+DropsUnnamed machine old new = (index : ℕ) → Has index (entries old)
+    → Has index (entries new) ⊎ Avoids index machine
+
+-- They begin with the new ones, and the machine names none of the others.
+abbrev pub ShortensTo : Machine → List Kept → List Kept → Type 0
+ShortensTo machine old new = (dropped : List Kept) × (old ≡ new ++ dropped)
+    × All (λ kept. Avoids kept.index machine) dropped
+
+abbrev pub DropsLast : Machine → Option Kept → Option Kept → Type 0
+DropsLast machine old new = (new ≡ old)
+    ⊎ ((new ≡ None) × IfSome old (λ kept. Avoids kept.index machine))

@@ -7,6 +7,7 @@ pub mod Handed
 pub mod Faults
 pub mod Texts
 pub mod FirstFaults
+pub mod LanguageFaults
 pub mod Languages
 pub mod Readings
 pub mod Laws

@@ -1,75 +1,45 @@
 //! [`KeptMeanings`]: what a reader keeps of the lexemes that it has read.
 
-ghost use Rattle.std.specs.Prelude.{◌≡◌, ◌++◌, ◌∷◌, [], IfSome, OnOk};
-ghost use Rattle.std.specs.List.{All, filter};
-ghost use Rattle.turtle_reader.specs.Kept.{AreKept, FindsIn, IsKept, KeepsMeaning, stays};
+ghost use Rattle.std.specs.Prelude.{◌≡◌, ◌++◌, ◌∷◌, [], ℕ, List, IfSome, IfNone, OnOk, Option};
+ghost use Rattle.std.specs.Bool.{OnTrue};
+ghost use Rattle.turtle_grammar.specs.Readings.{Avoids};
+ghost use Rattle.turtle_reader.specs.Kept.{AreKept, FindsIn, Has, DropsUnnamed, ShortensTo};
+ghost use Rattle.turtle_reader.specs.Kept.{entries, entries_with, is_referred_to, with_meaning};
+ghost use Rattle.turtle_reader.specs.Kept.{DropsLast};
 
-use crate::lexing::is_string;
 use crate::meaning::Meaning;
 use pod_base::Mem;
 use std::alloc::Global;
-use turtle_grammar::Symbol;
-use turtle_lex::TokenKind;
+use std::mem;
+use turtle_grammar::Machine;
 
 /// The meaning of the lexeme of an index.
 #[derive(Debug, Drop)]
 pub struct Kept {
     index: usize,
     meaning: Meaning,
-    /// Of a subject twice the number of open brackets, of a predicate one more, and of any other
-    /// the greatest.
-    place: usize,
 }
 
-/// The meanings of those lexemes to which a later production may refer, in little memory: the last
-/// subject and the last predicate in each open bracket and outside, and what has a meaning of the
-/// last three lexemes. These may be a String, `^^` and its datatype.
+/// The meanings of those lexemes to which a later production may refer, by increasing index: that
+/// of the last one, and in little memory those before it, a subject and a predicate for each open
+/// bracket and outside, and a String with its datatype.
 #[derive(Drop)]
 pub struct KeptMeanings {
     list: Vec<Kept>,
-    /// Twice the number of open brackets.
-    level: usize,
-    /// Whether a triple begins after the last lexeme, in a formula.
-    begins: bool,
+    last: Option<Kept>,
 }
 
 /// Whether a production can refer to a lexeme of this meaning.
-fn is_referred_to(meaning: &Meaning) -> bool {
+fn is_referred_to(meaning: &Meaning) -> bool
+    ensures { result ≡ is_referred_to meaning.now }
+{
     !matches!(meaning, Meaning::Nothing | Meaning::Name(_))
-}
-
-fn level_after(level: usize, symbol: Symbol) -> usize {
-    match symbol {
-        Symbol::Token(TokenKind::OpenSquare | TokenKind::OpenRound | TokenKind::OpenBrace) => {
-            level.saturating_add(2)
-        }
-        Symbol::Token(TokenKind::CloseSquare | TokenKind::CloseRound | TokenKind::CloseBrace) => {
-            level.saturating_sub(2)
-        }
-        _ => level,
-    }
-}
-
-/// Whether a lexeme is no subject or predicate, by whether it produced something: those don't.
-fn is_object(symbol: Symbol, produces: bool) -> bool {
-    produces || is_string(symbol)
-}
-
-/// The place of a lexeme: of an object, else of a subject, where a statement or another triple
-/// begins, else of a predicate.
-fn place(level: usize, is_object: bool, statement: bool, begins: bool) -> usize {
-    if is_object {
-        usize::MAX
-    } else if statement || begins {
-        level
-    } else {
-        level.saturating_add(1)
-    }
 }
 
 /// The meaning of the lexeme of this index among these, looked for from the last one on.
 fn find(kept: &[Kept], index: usize) -> Option<&Meaning>
-    ensures { IfSome result (λ m. FindsIn kept.now index m.now) }
+    ensures found { IfSome result (λ m. FindsIn kept.now index m.now) }
+    ensures none { IfNone result (Has index kept.now → ⊥) }
 {
     let mut left = kept;
     while let Some((last, rest)) = left.split_last() {
@@ -81,17 +51,69 @@ fn find(kept: &[Kept], index: usize) -> Option<&Meaning>
     None
 }
 
-/// Whether it stays when a lexeme of this place and this index is kept.
-fn stays(kept: &Kept, place: usize, index: usize) -> bool
-    ensures { result ≡ stays place index kept.now }
+/// The meaning of the lexeme of this index, if it is this one.
+fn find_last(last: &Option<Kept>, index: usize) -> Option<&Meaning>
+    ensures found { IfSome result (λ m. FindsIn (entries_with [] last.now) index m.now) }
+    ensures none { IfNone result (Has index (entries_with [] last.now) → ⊥) }
 {
-    kept.place < place || index.saturating_sub(kept.index) <= 2
+    match last {
+        Some(kept) if kept.index == index => Some(&kept.meaning),
+        _ => None,
+    }
 }
 
-fn keep_staying(list: &mut Vec<Kept>, place: usize, index: usize)
-    ensures { list.new.items ≡ filter (stays place index) list.old.items }
+/// These, without those at the end that the machine doesn't name.
+fn staying<'a>(kept: &'a [Kept], machine: &Machine) -> &'a [Kept]
+    ensures { ShortensTo machine.now kept.now result.now }
 {
-    list.retain(|kept| stays(kept, place, index));
+    let mut left = kept;
+    while let Some((last, rest)) = left.split_last() {
+        if machine.names(last.index) {
+            return left;
+        }
+        left = rest;
+    }
+    left
+}
+
+/// Drops those at the end that the machine doesn't name.
+fn shorten(list: &mut Vec<Kept>, machine: &Machine)
+    ensures { ShortensTo machine.now list.old.items list.new.items }
+{
+    let count = staying(list.as_slice(), machine).len();
+    list.truncate(count);
+}
+
+/// Whether it is one that the machine doesn't name.
+fn is_unnamed(last: &Option<Kept>, machine: &Machine) -> bool
+    ensures { OnTrue result (IfSome last.now (λ kept. Avoids kept.index machine.now)) }
+{
+    match last {
+        Some(kept) => !machine.names(kept.index),
+        None => false,
+    }
+}
+
+/// Drops it, if the machine doesn't name it.
+fn drop_last(last: &mut Option<Kept>, machine: &Machine)
+    ensures { DropsLast machine.now last.old last.new }
+{
+    if is_unnamed(last, machine) {
+        *last = None;
+    }
+}
+
+/// Appends it, if there is one.
+fn append(list: &mut Vec<Kept>, last: Option<Kept>) -> Mem<()>
+    ensures { OnOk result (list.new.items ≡ entries_with list.old.items last) }
+{
+    match last {
+        Some(kept) => {
+            list.push(kept)?;
+            Ok(())
+        }
+        None => Ok(()),
+    }
 }
 
 impl KeptMeanings {
@@ -101,51 +123,44 @@ impl KeptMeanings {
     {
         KeptMeanings {
             list: Vec::new(alloc),
-            level: 0,
-            begins: false,
+            last: None,
         }
     }
 
     /// The meaning of the lexeme of this index.
     pub(crate) fn meaning(&self, index: usize) -> Option<&Meaning>
-        ensures { IfSome result (λ m. FindsIn self.now.list.items index m.now) }
+        ensures found { IfSome result (λ m. FindsIn (entries self.now) index m.now) }
+        ensures none { IfNone result (Has index (entries self.now) → ⊥) }
     {
-        find(self.list.as_slice(), index)
+        match find_last(&self.last, index) {
+            Some(meaning) => Some(meaning),
+            None => find(self.list.as_slice(), index),
+        }
     }
 
-    /// Keeps a meaning, until another one has its place or a lesser one.
+    /// Drops what no production after the last lexeme names, which the machine has read.
+    pub(crate) fn drop_unnamed(&mut self, machine: &Machine)
+        ensures unnamed { DropsUnnamed machine.now self.old self.new }
+        ensures kept { (all : List Meaning) → AreKept all self.old → AreKept all self.new }
+    {
+        shorten(&mut self.list, machine);
+        drop_last(&mut self.last, machine);
+    }
+
     fn put(&mut self, kept: Kept) -> Mem<()>
-        ensures { OnOk result (self.new.list.items
-            ≡ filter (stays kept.place kept.index) self.old.list.items ++ kept ∷ []) }
+        ensures { OnOk result (entries self.new ≡ entries self.old ++ kept ∷ []) }
     {
-        keep_staying(&mut self.list, kept.place, kept.index);
-        self.list.push(kept)?;
-        Ok(())
+        let earlier = mem::replace(&mut self.last, Some(kept));
+        append(&mut self.list, earlier)
     }
 
-    /// Keeps what the lexeme of this symbol and this index means, if a production can refer to it.
-    /// `statement` says whether a statement begins with it, and `produces` whether it produced
-    /// something.
-    pub(crate) fn keep(
-        &mut self,
-        statement: bool,
-        symbol: Symbol,
-        produces: bool,
-        index: usize,
-        meaning: Meaning,
-    ) -> Mem<()>
-        ensures { OnOk result (KeepsMeaning index meaning self.old self.new) }
+    /// Keeps what the lexeme of this index means, if a production can refer to it.
+    pub(crate) fn keep(&mut self, index: usize, meaning: Meaning) -> Mem<()>
+        ensures { OnOk result (entries self.new
+            ≡ with_meaning (is_referred_to meaning) index meaning (entries self.old)) }
     {
-        let is_object = is_object(symbol, produces);
-        let place = place(self.level, is_object, statement, self.begins);
-        self.level = level_after(self.level, symbol);
-        self.begins = matches!(symbol, Symbol::Token(TokenKind::Dot | TokenKind::OpenBrace));
         if is_referred_to(&meaning) {
-            self.put(Kept {
-                index,
-                meaning,
-                place,
-            })
+            self.put(Kept { index, meaning })
         } else {
             Ok(())
         }

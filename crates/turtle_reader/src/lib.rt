@@ -50,6 +50,7 @@ mod meaning;
 mod progress;
 mod reader;
 mod referent;
+mod sizes;
 mod text_walk;
 
 pub use budget::{STATEMENT_LIMIT, TERM_BYTES_LIMIT};
@@ -61,4 +62,5 @@ pub use lexeme::Lexeme;
 pub use meaning::Meaning;
 pub use reader::Reader;
 pub use referent::{Referent, ResolvedTriple};
+pub use sizes::saturating_sum;
 pub use text_walk::walk;

@@ -49,9 +49,10 @@ impl Reader {
     ghost use Rattle.turtle_grammar.specs.Readings.{HasRead, IsDerived, IsUnfinished, Waits};
     ghost use Rattle.turtle_grammar.specs.Readings.{HasString, IsTriple};
     ghost use Rattle.turtle_reader.specs.Contexts.{advanced};
-    ghost use Rattle.turtle_reader.specs.Kept.{KeepsMeaning};
+    ghost use Rattle.turtle_reader.specs.Kept.{entries, is_referred_to, with_meaning};
     ghost use Rattle.turtle_reader.specs.Lexemes.{IsLexemeOf};
     ghost use Rattle.turtle_reader.specs.Readings.{IsReading, ReadsOn, IsRefused, Resolves};
+    ghost use Rattle.turtle_reader.specs.Readings.{NamesHeld};
     ghost use Rattle.turtle_reader.specs.Readings.{produced_last};
 
     /// Before the first lexeme.
@@ -86,6 +87,7 @@ impl Reader {
             → HasString self.new.machine) }
     {
         let statement = self.machine.is_complete();
+        self.kept.drop_unnamed(&self.machine);
         let meaning = self
             .context
             .meaning(alloc, &self.vocabulary, &mut self.left, bytes, lexeme);
@@ -110,7 +112,8 @@ impl Reader {
     fn keep(&mut self, alloc: Global, statement: bool, symbol: Symbol, meaning: Meaning) -> Mem<()>
         ensures context { OnOk result (self.new.context
             ≡ advanced self.old.context.directive self.old.context symbol meaning) }
-        ensures kept { OnOk result (KeepsMeaning self.old.read meaning self.old.kept self.new.kept) }
+        ensures kept { OnOk result (entries self.new.kept
+            ≡ with_meaning (is_referred_to meaning) self.old.read meaning (entries self.old.kept)) }
         ensures read { OnOk result (self.new.read ≡ self.old.read + 1) }
         ensures machine { OnOk result (self.new.machine ≡ self.old.machine) }
     {
@@ -123,8 +126,7 @@ impl Reader {
             return Err(NoMemory);
         };
         self.context.advance(alloc, symbol, &meaning)?;
-        let produces = !self.machine.produced().is_empty();
-        self.kept.keep(statement, symbol, produces, index, meaning)?;
+        self.kept.keep(index, meaning)?;
         self.read = read;
         Ok(())
     }
@@ -141,6 +143,7 @@ impl Reader {
     pub fn waiting(&self) -> Option<SymbolicTriple>
         ensures waits { Waits result self.now.machine }
         ensures string { HasString self.now.machine → IsTriple result }
+        ensures held { IfSome result (λ triple. NamesHeld triple self.now) }
     {
         self.machine.waiting()
     }
@@ -153,8 +156,9 @@ impl Reader {
         self.machine.is_complete()
     }
 
-    /// What the nodes of a triple refer to that the last lexeme produced, or that waits. It is out
-    /// of memory where a node names a lexeme without such a meaning, which no node of these does.
+    /// What the nodes of a triple refer to that the last lexeme produced, or that waits: the lexemes
+    /// that these name are kept. It is out of memory where one has no such meaning by itself, which
+    /// none of these is.
     pub fn triple(&self, alloc: Global, triple: &SymbolicTriple) -> Mem<ResolvedTriple>
         ensures { IfOk result (λ resolved. Resolves triple.now self.now resolved) }
     {

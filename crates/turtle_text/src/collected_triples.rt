@@ -1,7 +1,6 @@
 //! The triples of a document.
 
-ghost use Rattle.std.specs.Prelude.{◌≡◌, ◌+◌, ◌++◌, ◌∷◌, [], ℕ, Some, IfOk, OnOk};
-ghost use Rattle.rdf_graph.specs.Size.{saturated};
+ghost use Rattle.std.specs.Prelude.{◌≡◌, ◌++◌, ◌∷◌, [], Some, IfOk, OnOk};
 ghost use Rattle.rdf_graph.specs.Triple.{IsRdf};
 ghost use Rattle.turtle_reader.specs.Documents.{AreLazyLabelsOf};
 ghost use Rattle.turtle_text.specs.Triples.{IsReferentTerm, IsReferentTriple};
@@ -11,7 +10,7 @@ use pod_base::{List, Mem, NoMemory};
 use rdf_graph::{TRIPLES_LIMIT, Term, Triple};
 use std::alloc::Global;
 use turtle_grammar::Start;
-use turtle_reader::{Language, LazyLabels, Referent, ResolvedTriple};
+use turtle_reader::{Language, LazyLabels, Referent, ResolvedTriple, saturating_sum};
 
 /// The triples so far, the sum of their encoded sizes, and the labels of unnamed nodes as soon as
 /// there is one.
@@ -65,14 +64,6 @@ fn sound(triple: Triple) -> Mem<Triple>
     } else {
         Err(NoMemory)
     }
-}
-
-/// The sum of two sizes, at most 2^64 - 1.
-fn saturating_sum(first: u64, second: u64) -> u64
-    ensures { (m : ℕ) (n : ℕ) → first ≡ saturated m → second ≡ saturated n
-        → result ≡ saturated (m + n) }
-{
-    first.saturating_add(second)
 }
 
 fn push_item(alloc: Global, list: &mut List<Triple>, triple: Triple) -> Mem<()>

@@ -1,8 +1,10 @@
 //! Laws of documents, for the proofs of readers and writers. Each is the contract of a function
 //! that does nothing.
 
-ghost use Rattle.turtle_text.specs.Laws.{HasOneGraph, HasOneDerivation, HasOneFirstFault};
-ghost use Rattle.turtle_text.specs.Laws.{PlacesAscend};
+ghost use Rattle.turtle_grammar.specs.declared.symbol.Start.TheVariants.{Document};
+ghost use Rattle.turtle_reader.specs.LanguageFaults.{HasOneFirstFault, PlacesAscend};
+ghost use Rattle.turtle_text.specs.Faults.{IsLarge};
+ghost use Rattle.turtle_text.specs.Laws.{HasOneGraph, HasOneDerivation};
 
 /// A text spells at most one graph under a base.
 pub fn one_graph()
@@ -16,10 +18,10 @@ pub fn one_derivation()
 
 /// A text has at most one first fault.
 pub fn one_first_fault()
-    ensures { HasOneFirstFault }
+    ensures { HasOneFirstFault IsLarge Document }
 {}
 
 /// Faults of a lesser index have a lesser position: the first fault has the least.
 pub fn places()
-    ensures { PlacesAscend }
+    ensures { PlacesAscend IsLarge Document }
 {}

@@ -26,8 +26,8 @@ returns-in-Ok-false-clause-refused c start ts ps h =
     (c.in-Ok-false.ensures.engine ∙ ap (λ (v : Bool). cond v (Some c.take.new.self.engine) None) c.in-Ok-false.field-0-test)
 
 pub returns-in-Ok-true-2-clause-names : goal.returns-in-Ok-true-2-clause-names
-returns-in-Ok-true-2-clause-names c since start ts ps h le names =
-    names_on since start ts ps c.args.self.now c.args.symbol h le names c.take.new.self.engine
+returns-in-Ok-true-2-clause-names c index start ts ps h other avoids =
+    names_on index start ts ps c.args.self.now c.args.symbol h other avoids c.take.new.self.engine
     (c.in-Ok-true.ensures.engine ∙ ap (λ (v : Bool). cond v (Some c.take.new.self.engine) None) c.in-Ok-true.field-0-test)
 
 pub returns-in-Ok-true-2-clause-string : goal.returns-in-Ok-true-2-clause-string

@@ -1,7 +1,7 @@
 use Rattle.std.proofs.Common.{sym, subst}
 use Rattle.turtle_grammar.specs.declared.machine.Machine.{Machine}
 use Rattle.turtle_grammar.specs.declared.fault.Refusal.{Refusal}
-use Rattle.turtle_grammar.specs.Readings.{ReadsOn, IsRefused, HasString}
+use Rattle.turtle_grammar.specs.Readings.{ReadsOn, NamesOn, IsRefused, HasString}
 use Rattle.turtle_reader.proofs.Stepping.{grammar_refused, iri_refused, deep_refused, goes_read, goes_deep, reads_on}
 use Rattle.turtle_reader.proofs.reader.Reader.step.Goals as goal
 
@@ -9,8 +9,9 @@ pub returns-in-Ok-meaning-clause-read : goal.returns-in-Ok-meaning-clause-read
 returns-in-Ok-meaning-clause-read c =
     let done = c.in_ok-keep-in-Ok-meaning.ensures in
     let reads = subst (λ (m : Machine). ReadsOn c.args.lexeme.symbol c.args.self.now.machine m) (sym done.machine) c.in-Ok.ensures.read in
-    reads_on c.args.bytes.now c.args.lexeme c.args.self.now c.in-Ok-meaning.meaning c.keep.new.self
-    reads c.in-Ok-meaning.ensures.meaning done.context done.kept done.read
+    let names = subst (λ (m : Machine). NamesOn c.args.lexeme.symbol c.args.self.now.machine m) (sym done.machine) c.in-Ok.ensures.names in
+    reads_on c.args.bytes.now c.args.lexeme c.args.self.now c.in-Ok-meaning.meaning c.keep.new.self c.drop_unnamed.new.self
+    reads names c.in-Ok-meaning.ensures.meaning done.context c.drop_unnamed.ensures.unnamed c.drop_unnamed.ensures.kept done.kept done.read
 
 pub returns-in-Ok-clause-refused : goal.returns-in-Ok-clause-refused
 returns-in-Ok-clause-refused c =

@@ -1,7 +1,7 @@
 use Rattle.std.proofs.Common.{◌∙◌}
 use Rattle.rdf_graph.specs.Size.{saturated}
 use Rattle.rdf_graph.proofs.Sizes.{saturated_sum}
-use Rattle.n3_patch.proofs.size.saturating_sum.Goals as goal
+use Rattle.turtle_reader.proofs.sizes.saturating_sum.Goals as goal
 
 pub returns : goal.returns
 unfolding saturated

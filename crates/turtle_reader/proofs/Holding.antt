@@ -1,0 +1,203 @@
+-- What a reader drops is named by no later production.
+use Rattle.std.proofs.Common.{◌≡◌, ◌⊎◌, inl, inr, ⊎_elim, ℕ, zero, suc, ◌<◌, Bool, true, false, List, [], ◌∷◌, ◌++◌, length, Option, Some, None, slice_get, refl, sym, ap, ◌∙◌, subst, arith}
+use Rattle.std.specs.Prelude.{IfNone, slice_index_or}
+use Rattle.std.proofs.lemmas.List.Elements.{All-nil, All-head, All-tail, All-cons, All-append}
+use Rattle.std.proofs.lemmas.List.{append_assoc}
+use Rattle.std.proofs.lemmas.Option.{none-some, same_Some, slice_get_within}
+use Rattle.std.specs.List.{All}
+use Rattle.turtle_grammar.specs.declared.machine.Machine.{Machine}
+use Rattle.turtle_grammar.specs.declared.production.Node.{Node}
+use Rattle.turtle_grammar.specs.declared.production.Node.TheVariants as node
+use Rattle.turtle_grammar.specs.declared.production.SymbolicTriple.{SymbolicTriple}
+use Rattle.turtle_grammar.specs.declared.production.Production.{Production}
+use Rattle.turtle_grammar.specs.declared.production.Production.TheVariants.{Prefix, Base, Triple}
+use Rattle.turtle_grammar.specs.Names.{IsOther, NodeNames, Names}
+use Rattle.turtle_grammar.specs.Readings.{Avoids, WaitingNames}
+use Rattle.turtle_reader.specs.declared.kept_meanings.Kept.{Kept}
+use Rattle.turtle_reader.specs.declared.kept_meanings.KeptMeanings.{KeptMeanings}
+use Rattle.turtle_reader.specs.declared.meaning.Meaning.{Meaning}
+use Rattle.turtle_reader.specs.declared.reader.Reader.{Reader}
+use Rattle.turtle_reader.specs.Kept.{IsKept, AreKept, Has, entries, entries_with, is_referred_to, with_meaning, DropsUnnamed, ShortensTo, DropsLast}
+use Rattle.turtle_reader.specs.Readings.{IsHeld, AreHeld, produced_last}
+
+-- What is among kept meanings
+
+pub has_left : (i : ℕ) (xs ys : List Kept) → Has i xs → Has i (xs ++ ys)
+has_left i [] ys h = absurd h
+has_left i (x ∷ xs) ys (inl e) = inl e
+has_left i (x ∷ xs) ys (inr h) = inr (has_left i xs ys h)
+
+pub has_right : (i : ℕ) (xs ys : List Kept) → Has i ys → Has i (xs ++ ys)
+has_right i [] ys h = h
+has_right i (x ∷ xs) ys h = inr (has_right i xs ys h)
+
+pub has_parts : (i : ℕ) (xs ys : List Kept) → Has i (xs ++ ys) → Has i xs ⊎ Has i ys
+has_parts i [] ys h = inr h
+has_parts i (x ∷ xs) ys (inl e) = inl (inl e)
+has_parts i (x ∷ xs) ys (inr h) = ⊎_elim (λ l. inl (inr l)) (λ r. inr r) (has_parts i xs ys h)
+
+all_left : (P : Kept → Type 0) (xs ys : List Kept) → All P (xs ++ ys) → All P xs
+all_left P [] ys h = All-nil P
+all_left P (x ∷ xs) ys h = All-cons P x xs (All-head P x (xs ++ ys) h) (all_left P xs ys (All-tail P x (xs ++ ys) h))
+
+all_right : (P : Kept → Type 0) (xs ys : List Kept) → All P (xs ++ ys) → All P ys
+all_right P [] ys h = h
+all_right P (x ∷ xs) ys h = all_right P xs ys (All-tail P x (xs ++ ys) h)
+
+list_kept : (i : ℕ) (list : List Kept) (last : Option Kept) → Has i list → Has i (entries_with list last)
+list_kept i list None h = h
+list_kept i list (Some k) h = has_left i list (k ∷ []) h
+
+split_last : (i : ℕ) (list : List Kept) (last : Option Kept) → Has i (entries_with list last) → Has i list ⊎ Has i (entries_with [] last)
+split_last i list None h = inl h
+split_last i list (Some k) h = has_parts i list (k ∷ []) h
+
+pub in_parts : (all : List Meaning) (list : List Kept) (last : Option Kept) → All (IsKept all) (entries_with list last)
+    → All (IsKept all) list × All (IsKept all) (entries_with [] last)
+in_parts all list None h = (h, All-nil (IsKept all))
+in_parts all list (Some k) h = (all_left (IsKept all) list (k ∷ []) h, all_right (IsKept all) list (k ∷ []) h)
+
+from_parts : (all : List Meaning) (list : List Kept) (last : Option Kept) → All (IsKept all) list → All (IsKept all) (entries_with [] last)
+    → All (IsKept all) (entries_with list last)
+from_parts all list None h k = h
+from_parts all list (Some x) h k = All-append (IsKept all) list (x ∷ []) h k
+
+-- what isn't the last one is among those before it
+pub has_before : (i : ℕ) (list rest : List Kept) (last : Kept) → list ≡ rest ++ last ∷ [] → (last.index ≡ i → ⊥) → Has i list → Has i rest
+has_before i list rest last is other h =
+    ⊎_elim (λ left. left) (λ here. ⊎_elim (λ same. absurd (other same)) (λ none. absurd none) here)
+    (has_parts i rest (last ∷ []) (subst (Has i) is h))
+
+pub not_in_parts : {X : Type 0} (r : Option X) (i : ℕ) (list : List Kept) (last : Option Kept) → IfNone r (Has i list → ⊥)
+    → (Has i (entries_with [] last) → ⊥) → IfNone r (Has i (entries_with list last) → ⊥)
+not_in_parts (Some x) i list last in_list in_last = tt
+not_in_parts None i list last in_list in_last = λ h. ⊎_elim in_list in_last (split_last i list last h)
+
+pub before_kept : (all : List Meaning) (list rest : List Kept) (last : Kept) → list ≡ rest ++ last ∷ [] → All (IsKept all) list → All (IsKept all) rest
+before_kept all list rest last is h = all_left (IsKept all) rest (last ∷ []) (subst (All (IsKept all)) is h)
+
+module _ (machine : Machine) where
+  abbrev Unnamed : Kept → Type 0
+  Unnamed k = Avoids k.index machine
+
+  unnamed_avoided : (i : ℕ) (ks : List Kept) → All Unnamed ks → Has i ks → Avoids i machine
+  unnamed_avoided i [] h has = absurd has
+  unnamed_avoided i (k ∷ ks) h (inl e) = subst (λ n. Avoids n machine) e (All-head Unnamed k ks h)
+  unnamed_avoided i (k ∷ ks) h (inr more) = unnamed_avoided i ks (All-tail Unnamed k ks h) more
+
+  -- one more is dropped at the end
+  pub shortens_on : (old mid new : List Kept) (last : Kept) → ShortensTo machine old mid → mid ≡ new ++ last ∷ [] → Avoids last.index machine
+      → ShortensTo machine old new
+  shortens_on old mid new last (dropped, is, unnamed) parts avoids =
+      (last ∷ dropped, is ∙ ap (λ ks. ks ++ dropped) parts ∙ append_assoc new (last ∷ []) dropped, All-cons Unnamed last dropped avoids unnamed)
+
+  last_kept : (i : ℕ) (list : List Kept) (old new : Option Kept) → DropsLast machine old new
+      → Has i (entries_with [] old) → Has i (entries_with list new) ⊎ Avoids i machine
+  last_kept i list None new drops h = absurd h
+  last_kept i list (Some k) new (inl same) h = inl (subst (λ o. Has i (entries_with list o)) (sym same) (has_right i list (k ∷ []) h))
+  last_kept i list (Some k) new (inr (none, avoids)) (inl e) = inr (subst (λ n. Avoids n machine) e avoids)
+  last_kept i list (Some k) new (inr (none, avoids)) (inr h) = absurd h
+
+  pub drops_unnamed : (old new : KeptMeanings) → ShortensTo machine old.list.items new.list.items → DropsLast machine old.last new.last
+      → DropsUnnamed machine old new
+  drops_unnamed old new (dropped, is, unnamed) drops i h =
+      ⊎_elim
+      (λ in_list. ⊎_elim
+      (λ left. inl (list_kept i new.list.items new.last left))
+      (λ gone. inr (unnamed_avoided i dropped unnamed gone))
+      (has_parts i new.list.items dropped (subst (Has i) is in_list)))
+      (λ in_last. last_kept i new.list.items old.last new.last drops in_last)
+      (split_last i old.list.items old.last h)
+
+  last_stays : (all : List Meaning) (old new : Option Kept) → DropsLast machine old new → All (IsKept all) (entries_with [] old)
+      → All (IsKept all) (entries_with [] new)
+  last_stays all old new (inl same) h = subst (λ o. All (IsKept all) (entries_with [] o)) (sym same) h
+  last_stays all old new (inr (none, avoids)) h = subst (λ o. All (IsKept all) (entries_with [] o)) (sym none) (All-nil (IsKept all))
+
+  pub drops_kept : (old new : KeptMeanings) → ShortensTo machine old.list.items new.list.items → DropsLast machine old.last new.last
+      → (all : List Meaning) → AreKept all old → AreKept all new
+  drops_kept old new (dropped, is, unnamed) drops all h =
+      let parts = in_parts all old.list.items old.last h in
+      from_parts all new.list.items new.last
+      (all_left (IsKept all) new.list.items dropped (subst (All (IsKept all)) is parts.0))
+      (last_stays all old.last new.last drops parts.1)
+
+-- What productions name is kept
+
+module _ (ms : List Meaning) (kept : KeptMeanings) where
+  -- a lexeme to which a production can refer is kept, or P holds
+  abbrev HeldOr : ℕ → Type 0 → Type 0
+  HeldOr i P = (m : Meaning) → slice_get ms i ≡ Some m → is_referred_to m ≡ true → Has i (entries kept) ⊎ P
+
+  held_at : (i : ℕ) → HeldOr i (IsOther i i) → IsHeld ms kept i
+  held_at i h m e r = ⊎_elim (λ has. has) (λ other. absurd (other refl)) (h m e r)
+
+  held_as : (P Q : Type 0) (i : ℕ) → (P → Q) → HeldOr i P → HeldOr i Q
+  held_as P Q i f h m e r = ⊎_elim (λ has. inl has) (λ p. inr (f p)) (h m e r)
+
+  node_held : (n : Node) → ((i : ℕ) → HeldOr i (NodeNames (IsOther i) n)) → NodeNames (IsHeld ms kept) n
+  node_held (node.Token i) h = held_at i (h i)
+  node_held (node.Tagged i k) h = (held_at i (held_as _ _ i (λ names. names.0) (h i)), held_at k (held_as _ _ k (λ names. names.1) (h k)))
+  node_held (node.Typed i k) h = (held_at i (held_as _ _ i (λ names. names.0) (h i)), held_at k (held_as _ _ k (λ names. names.1) (h k)))
+  node_held _ h = tt
+
+  pub production_held : (x : Production) → ((i : ℕ) → HeldOr i (Names (IsOther i) x)) → Names (IsHeld ms kept) x
+  production_held (Prefix i k) h = (held_at i (held_as _ _ i (λ names. names.0) (h i)), held_at k (held_as _ _ k (λ names. names.1) (h k)))
+  production_held (Base i) h = held_at i (h i)
+  production_held (Triple t) h = (
+    node_held t.subject (λ i. held_as _ _ i (λ names. names.0) (h i)),
+    node_held t.predicate (λ i. held_as _ _ i (λ names. names.1) (h i)),
+    node_held t.object (λ i. held_as _ _ i (λ names. names.2) (h i)),
+  )
+
+  pub productions_held : (ps : List Production) → ((i : ℕ) → HeldOr i (All (Names (IsOther i)) ps)) → All (Names (IsHeld ms kept)) ps
+  productions_held ps h k d lt = production_held (slice_index_or ps k d) (λ i. held_as _ _ i (λ all. all k d lt) (h i))
+
+-- One lexeme more
+
+last_or_before : (ms : List Meaning) (m : Meaning) (i : ℕ) (n : Meaning) → slice_get (ms ++ m ∷ []) i ≡ Some n
+    → (slice_get ms i ≡ Some n) ⊎ ((i ≡ length ms) × (m ≡ n))
+last_or_before [] m zero n e = inr (refl, same_Some m n e)
+last_or_before [] m (suc i) n e = absurd (none-some n e)
+last_or_before (x ∷ ms) m zero n e = inl e
+last_or_before (x ∷ ms) m (suc i) n e = ⊎_elim (λ l. inl l) (λ r. inr (ap suc r.0, r.1)) (last_or_before ms m i n e)
+
+more_has : (b : Bool) (i index : ℕ) (m : Meaning) (list : List Kept) → Has i list → Has i (with_meaning b index m list)
+more_has true i index m list h = has_left i list _ h
+more_has false i index m list h = h
+
+new_has : (b : Bool) (index : ℕ) (m : Meaning) (list : List Kept) → b ≡ true → Has index (with_meaning b index m list)
+new_has true index m list e = has_right index list _ (inl refl)
+new_has false index m list e = absurd (let f : false ≡ true = e in cc)
+
+module _ (ms : List Meaning) (m : Meaning) (symbols : ℕ) (size : length ms ≡ symbols) (old new : Reader) (mid : KeptMeanings)
+    (drops : DropsUnnamed old.machine old.kept mid) (is : entries new.kept ≡ with_meaning (is_referred_to m) (length ms) m (entries mid))
+    (held : AreHeld ms old) where
+  -- of each lexeme: it is kept, or wasn't named before
+  kept_or_avoided : (i : ℕ) (n : Meaning) → slice_get (ms ++ m ∷ []) i ≡ Some n → is_referred_to n ≡ true
+      → Has i (entries new.kept) ⊎ (IsOther i symbols × Avoids i old.machine)
+  kept_or_avoided i n e r =
+      ⊎_elim
+      (λ earlier. ⊎_elim
+      (λ has. ⊎_elim (λ left. inl (subst (Has i) (sym is) (more_has (is_referred_to m) i (length ms) m (entries mid) left))) (λ avoids. inr (before earlier, avoids)) (drops i has))
+      (λ avoids. inr (before earlier, avoids))
+      (held i n earlier r))
+      (λ last. inl (subst (Has i) (sym is) (subst (λ k. Has k (with_meaning (is_referred_to m) (length ms) m (entries mid))) (sym last.0)
+      (new_has (is_referred_to m) (length ms) m (entries mid) (ap is_referred_to last.1 ∙ r)))))
+      (last_or_before ms m i n e)
+    where
+      before : slice_get ms i ≡ Some n → IsOther i symbols
+      before e' same = let lt : i < length ms = slice_get_within ms i n e' in let at : symbols ≡ i = same in absurd (omega (arith, lt, at, size))
+
+  pub held_on : ((i : ℕ) → IsOther i symbols → Avoids i old.machine → Avoids i new.machine × All (Names (IsOther i)) (produced_last new))
+      → AreHeld (ms ++ m ∷ []) new × All (Names (IsHeld (ms ++ m ∷ []) new.kept)) (produced_last new)
+  held_on names = (
+    (λ i n e r. ⊎_elim (λ has. inl has) (λ avoids. inr (names i avoids.0 avoids.1).0) (kept_or_avoided i n e r)),
+    productions_held (ms ++ m ∷ []) new.kept (produced_last new)
+        (λ i n e r. ⊎_elim (λ has. inl has) (λ avoids. inr (names i avoids.0 avoids.1).1) (kept_or_avoided i n e r)),
+  )
+
+pub waiting_held : (ms : List Meaning) (reader : Reader) → AreHeld ms reader → (x : SymbolicTriple) → WaitingNames x reader.machine
+    → Names (IsHeld ms reader.kept) (Triple x)
+waiting_held ms reader held x names =
+    production_held ms reader.kept (Triple x) (λ i m e r. ⊎_elim (λ has. inl has) (λ avoids. inr (names i avoids)) (held i m e r))
