@@ -27,4 +27,4 @@ mod tag_list;
 
 pub use conditions::{Conditions, read_conditions};
 pub use preconditions::{Current, Verdict, judge};
-pub use tag::{TAG_DIGEST_LEN, Tag, tag_of};
+pub use tag::{TAG_DIGEST_LEN, Tag, tag_of, tag_of_digest};

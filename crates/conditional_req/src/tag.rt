@@ -1,11 +1,11 @@
 //! [`Tag`]: the entity tag of a representation.
 
-ghost use Rattle.std.specs.Prelude.{◌≡◌, take};
+ghost use Rattle.std.specs.Prelude.{◌≡◌, ℕ, List, take};
 ghost use Rattle.hex.specs.Hex.{encode_lower};
-ghost use Rattle.sha2.specs.Sha256.{sha256};
+ghost use Rattle.stored_bytes.specs.Digests as digests;
 ghost use Rattle.conditional_req.specs.Tags as spec;
 
-use sha2::{Digest, Sha256};
+use stored_bytes::digest_of;
 
 /// How many bytes of the digest a tag has.
 pub const TAG_DIGEST_LEN: usize = 16;
@@ -13,17 +13,6 @@ pub const TAG_DIGEST_LEN: usize = 16;
 /// An entity tag, without its quotes.
 #[derive(Clone, Copy, Debug, PartialEq, Eq)]
 pub struct Tag(pub [u8; 34]);
-
-/// The digest of a content type, a zero byte and a body.
-fn digest_of(ctype: &str, body: &[u8]) -> [u8; 32]
-    ensures { result ≡ sha256 (spec.tagged_bytes ctype.now body.now) }
-{
-    let mut hasher = Sha256::new();
-    hasher.update(ctype.as_bytes());
-    hasher.update(b"\0".as_slice());
-    hasher.update(body);
-    hasher.finalize()
-}
 
 /// The hexadecimal digits of the first bytes of a digest.
 fn digits_of(digest: &[u8; 32]) -> [u8; 32]
@@ -43,8 +32,15 @@ fn digits_of(digest: &[u8; 32]) -> [u8; 32]
 pub fn tag_of(ctype: &str, body: &[u8], mark: u8) -> Tag
     ensures { result.0 ≡ spec.tag_text ctype.now body.now mark }
 {
-    let digest = digest_of(ctype, body);
-    let digits = digits_of(&digest);
+    tag_of_digest(&digest_of(ctype, body), mark)
+}
+
+/// [`tag_of`] by the digest of a content type and a body.
+pub fn tag_of_digest(digest: &[u8; 32], mark: u8) -> Tag
+    ensures { (ctype body : List ℕ) → digest.now ≡ digests.digest_of ctype body
+        → result.0 ≡ spec.tag_text ctype body mark }
+{
+    let digits = digits_of(digest);
     let mut tag = [b'-'; 34];
     tag[..32].copy_from_slice(&digits);
     tag[33] = mark;

@@ -1,8 +1,7 @@
 -- The segments of a response's text, one after the other, are the text.
-use Rattle.std.proofs.Common.{◌≡◌, ◌≢◌, ℕ, ◌+◌, ◌-◌, ◌<◌, ◌≤◌, Bool, true, false, cond, List, [], ◌∷◌, ◌++◌, length, take, drop, min, codes, decimal, refl, sym, ap, ap₂, ◌∙◌, arith, length-append, append_assoc, append-nil}
-use Rattle.std.proofs.lemmas.List.{take-append-drop, length-take-le, length-drop, drop_all, take_all, drop_more, drop-drop, take-append-le, drop-append-le}
+use Rattle.std.proofs.Common.{◌≡◌, ◌≢◌, ℕ, ◌+◌, ◌-◌, ◌<◌, ◌≤◌, Bool, true, false, cond, List, [], ◌∷◌, ◌++◌, length, take, drop, min, codes, decimal, refl, sym, ap, ap₂, ◌∙◌, arith, length-append, append_assoc}
+use Rattle.std.proofs.lemmas.List.{take-append-drop, length-take-le, length-drop, drop_all, drop_more, drop-drop, take-append-le, drop-append-le}
 use Rattle.std.proofs.Math.Seq.{take-append-add, take-append_seam, drop-append_seam}
-use borrow.Rule.Slice.PartMut.{put_mid}
 use Rattle.http.specs.StatusCode.{code_digits}
 use Rattle.pod_base.specs.declared.field.Field.{Field}
 use Rattle.pod_base.specs.declared.response.Response.{Response}
@@ -131,15 +130,6 @@ copies_more old middle new slice first_slice rest_slice given more x y =
           ∙ ap (λ (t : List ℕ). take (given + more) old ++ t) (drop-drop more given slice);
       left = y.left ∙ ap (λ (t : List ℕ). drop more t) x.left ∙ drop-drop more given old;
     }
-
--- what a slice holds once its rest was written
-pub put_rest : (at : ℕ) (xs ys : List ℕ) → put_mid at (length xs - at) xs ys ≡ take at xs ++ ys
-put_rest at xs ys =
-    ap (λ (t : List ℕ). take at xs ++ t)
-    (ap (λ (t : List ℕ). ys ++ t) (drop_all (length xs - at) (drop at xs) (omega (arith, length-drop at xs))) ∙ append-nil ys)
-
-pub rest_of : (at : ℕ) (xs : List ℕ) → take (length xs - at) (drop at xs) ≡ drop at xs
-rest_of at xs = take_all (length xs - at) (drop at xs) (omega (arith, length-drop at xs))
 
 pub copies_nothing : (old slice : List ℕ) → CopiesPrefix old old slice slice 0
 copies_nothing old slice = record { within = omega arith; room = omega arith; given = refl; left = refl }

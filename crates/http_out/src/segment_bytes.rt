@@ -10,19 +10,7 @@ ghost use Rattle.http_out.specs.Segments.{length_digits, segment_text};
 use crate::head_parts::{HeadParts, phrase_of};
 use crate::segment::Segment;
 use itoa::Buffer;
-use pod_base::{Body, Field, Fields, Response};
-
-/// Copies a text from a byte on, as far as both slices go: returns how many bytes.
-fn copy_bytes(text: &[u8], offset: usize, into: &mut [u8]) -> usize
-    ensures count { result ≡ min (length text.now - offset) (length into.old) }
-    ensures copied { into.new ≡ take result (drop offset text.now) ++ drop result into.old }
-    ensures fits { offset + result < 2 ^ 64 }
-{
-    let rest = &text[offset.min(text.len())..];
-    let count = rest.len().min(into.len());
-    into[..count].copy_from_slice(&rest[..count]);
-    count
-}
+use pod_base::{Body, Field, Fields, Response, copy_bytes};
 
 /// The field of that number.
 fn field_at(fields: &Fields, i: usize) -> Option<&Field>
@@ -70,24 +58,10 @@ fn closing_line(status: u16, close: bool) -> &'static [u8]
     }
 }
 
-/// The bytes of a body that are sent after a head of that status.
-fn body_bytes(response: &Response) -> &[u8]
-    ensures { result.now ≡ text.body_text response.now }
-{
-    if has_no_length(response.status) {
-        return b"";
-    }
-    match &response.body {
-        Body::Whole(bytes) => bytes.as_slice(),
-        Body::Absent => b"",
-        Body::LengthOnly(_) => b"",
-    }
-}
-
-/// The bytes of a segment, but for the digits of the length.
+/// The bytes of a segment, but for the digits of the length and the body.
 fn segment_bytes<'a>(response: &'a Response, head: &'a HeadParts, segment: Segment) -> &'a [u8]
     requires { head.now.code ≡ response.now.status }
-    ensures { segment ≢ Segment.Length → result.now
+    ensures { segment ≢ Segment.Length → segment ≢ Segment.Body → result.now
         ≡ segment_text response.now head.now.date head.now.close segment }
 {
     match segment {
@@ -104,7 +78,6 @@ fn segment_bytes<'a>(response: &'a Response, head: &'a HeadParts, segment: Segme
         Segment::Closing => closing_line(response.status, head.close),
         Segment::LengthName if !has_no_length(response.status) => b"Content-Length: ",
         Segment::LengthEnd if !has_no_length(response.status) => b"\r\n",
-        Segment::Body => body_bytes(response),
         _ => b"",
     }
 }
@@ -115,7 +88,7 @@ fn body_length(body: &Body) -> u64
 {
     match body {
         Body::Absent => 0,
-        Body::Whole(bytes) => bytes.as_slice().len() as u64,
+        Body::Whole(bytes) => bytes.len() as u64,
         Body::LengthOnly(length) => *length,
     }
 }
@@ -133,6 +106,23 @@ fn copy_length(response: &Response, offset: usize, into: &mut [u8]) -> usize
     let mut digits = Buffer::new();
     let length = body_length(&response.body);
     copy_bytes(digits.format(length).as_bytes(), offset, into)
+}
+
+/// Copies the body that is sent from a byte on, as far as it goes: returns how many bytes.
+fn copy_body(response: &Response, offset: usize, into: &mut [u8]) -> usize
+    ensures count { result ≡ min (length (text.body_text response.now) - offset) (length into.old) }
+    ensures copied { into.new ≡ take result (drop offset (text.body_text response.now))
+        ++ drop result into.old }
+    ensures fits { offset + result < 2 ^ 64 }
+{
+    if has_no_length(response.status) {
+        return 0;
+    }
+    match &response.body {
+        Body::Whole(bytes) => bytes.copy_from(offset, into),
+        Body::Absent => 0,
+        Body::LengthOnly(_) => 0,
+    }
 }
 
 /// Copies a segment from a byte on, as far as it goes: returns how many bytes.
@@ -154,6 +144,7 @@ pub(crate) fn copy_segment(
 {
     match segment {
         Segment::Length => copy_length(response, offset, into),
+        Segment::Body => copy_body(response, offset, into),
         _ => copy_bytes(segment_bytes(response, head, segment), offset, into),
     }
 }

@@ -2,7 +2,7 @@
 
 use case_words::iri_of;
 use iri_ref::Iri;
-use pod_base::{Body, Mem, NoMemory, Response};
+use pod_base::{Body, Mem, NoMemory, Response, Rope};
 use pod_path::Path;
 use std::alloc::{AllocError, Global};
 
@@ -28,12 +28,20 @@ fn push_fields(alloc: Global, text: &mut String, response: &Response) -> Result<
     Ok(())
 }
 
+/// A body as a field.
+fn body_text(alloc: Global, body: &Rope) -> Result<String, AllocError> {
+    match body.to_bytes(alloc) {
+        Ok(bytes) => case_words::shown(alloc, bytes.as_slice()),
+        Err(NoMemory) => Err(AllocError),
+    }
+}
+
 /// Appends the body of a response.
 fn push_body(alloc: Global, text: &mut String, body: &Body) -> Result<(), AllocError> {
     match body {
         Body::Absent => Ok(()),
         Body::Whole(bytes) => {
-            let bytes = case_words::shown(alloc, bytes.as_slice())?;
+            let bytes = body_text(alloc, bytes)?;
             write!(text, "||{bytes}")
         }
         Body::LengthOnly(length) => write!(text, "||{length} bytes"),

@@ -5,7 +5,7 @@ ghost use Rattle.std.specs.List.{list_all};
 ghost use Rattle.range_req.specs.RangeSets.{is_within};
 
 use case_words::{bytes, shown_whole};
-use pod_base::{List, NoMemory};
+use pod_base::{Bytes, List, Mem, NoMemory};
 use range_req::{Part, RangeSet, multipart, ranges};
 use std::alloc::{AllocError, Global};
 
@@ -29,20 +29,20 @@ pub(crate) fn answer(alloc: Global, value: &str, size: &str) -> Result<String, A
 }
 
 /// The boundary of several parts, and the length and the text of their response's body.
-fn show_multipart(
-    alloc: Global,
-    ctype: &str,
-    body: &[u8],
-    parts: &List<Part>,
-) -> Result<String, AllocError>
+fn show_multipart(alloc: Global, ctype: &str, body: &Bytes, parts: &List<Part>) -> Mem<String>
     requires { list_all (is_within (length body.now)) parts.now.items ≡ true }
 {
-    match multipart(alloc, ctype, body, parts) {
-        Ok((boundary, text)) => {
-            let shown = shown_whole(alloc, text.as_slice())?;
-            format!(in alloc; "{} {} {shown}", boundary.as_str(), text.len())
-        }
-        Err(NoMemory) => Err(AllocError),
+    let (boundary, text) = multipart(alloc, ctype, body, parts)?;
+    let text = text.to_bytes(alloc)?;
+    let shown = shown_whole(alloc, text.as_slice())?;
+    Ok(format!(in alloc; "{} {} {shown}", boundary.as_str(), text.len())?)
+}
+
+/// The body of a response with the parts of a body that a field names.
+fn body_of_parts(alloc: Global, ctype: &str, body: &Bytes, value: &[u8]) -> Mem<String> {
+    match ranges(alloc, value, body.len() as u64)? {
+        RangeSet::Parts(parts) => show_multipart(alloc, ctype, body, &parts),
+        _ => Ok(String::from_str(alloc, "no parts")?),
     }
 }
 
@@ -54,11 +54,12 @@ pub(crate) fn text(
     value: &str,
 ) -> Result<String, AllocError> {
     let body = bytes(alloc, body)?;
-    let body = body.as_slice();
     let value = bytes(alloc, value)?;
-    match ranges(alloc, value.as_slice(), body.len() as u64) {
-        Ok(RangeSet::Parts(parts)) => show_multipart(alloc, ctype, body, &parts),
-        Ok(_) => String::from_str(alloc, "no parts"),
+    let Ok(body) = Bytes::from_vec(alloc, body) else {
+        return Err(AllocError);
+    };
+    match body_of_parts(alloc, ctype, &body, value.as_slice()) {
+        Ok(text) => Ok(text),
         Err(NoMemory) => Err(AllocError),
     }
 }

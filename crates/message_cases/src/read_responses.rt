@@ -3,7 +3,7 @@
 use crate::print::{place, shown};
 use conditional_req::{Tag, tag_of};
 use http_out::date_of;
-use pod_base::{Body, Bytes, Mem, Moment, Response};
+use pod_base::{Body, Bytes, Mem, Moment, Response, Rope};
 use pod_responses::{Representation, not_modified, partial, shown as shown_response, upgraded};
 use std::alloc::{AllocError, Global};
 
@@ -25,8 +25,8 @@ fn representation(alloc: Global, ctype: &str, ranges: bool) -> Mem<Representatio
     })
 }
 
-fn hello() -> Body {
-    Body::Whole(Bytes::from_static(b"hello"))
+fn hello(alloc: Global) -> Body {
+    Body::Whole(Rope::of(alloc, Bytes::from_static(b"hello")))
 }
 
 fn reading(alloc: Global, path: &str, ctype: &str, ranges: bool) -> Mem<Option<Response>> {
@@ -34,7 +34,7 @@ fn reading(alloc: Global, path: &str, ctype: &str, ranges: bool) -> Mem<Option<R
         return Ok(None);
     };
     let representation = representation(alloc, ctype, ranges)?;
-    Ok(Some(shown_response(alloc, &base, &path, representation, hello())?))
+    Ok(Some(shown_response(alloc, &base, &path, representation, hello(alloc))?))
 }
 
 pub(crate) fn shown_at(
@@ -64,7 +64,7 @@ fn part_reading(
     };
     let representation = representation(alloc, ctype, true)?;
     let range = range_value(alloc, range)?;
-    Ok(Some(partial(alloc, &base, &path, representation, range, hello())?))
+    Ok(Some(partial(alloc, &base, &path, representation, range, hello(alloc))?))
 }
 
 pub(crate) fn part(

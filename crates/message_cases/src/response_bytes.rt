@@ -7,7 +7,7 @@ ghost use Rattle.http_out.specs.Text.{AreFieldLines};
 
 use case_words::{bytes, shown_whole};
 use http_out::{Out, bytes_of, disk_text, interim, memory_text};
-use pod_base::{Body, Bytes, Field, Fields, Moment, Response, Text};
+use pod_base::{Body, Bytes, Field, Fields, Moment, Response, Rope, Text};
 use std::alloc::{AllocError, Global};
 
 /// Whether a byte may be part of a line.
@@ -70,7 +70,10 @@ fn body_of(alloc: Global, field: &str) -> Result<Body, AllocError> {
         return Ok(Body::LengthOnly(length.parse::<u64>().unwrap_or(0)));
     }
     match field.strip_prefix("bytes=") {
-        Some(text) => Ok(Body::Whole(owned(alloc, text)?)),
+        Some(text) => {
+            let bytes = owned(alloc, text)?;
+            Ok(Body::Whole(Rope::of(alloc, bytes)))
+        }
         None => Ok(Body::Absent),
     }
 }

@@ -2,3 +2,4 @@
 pub mod CountLemmas
 pub mod EachToLemmas
 pub mod Prefixes
+pub mod RopeLemmas

@@ -26,6 +26,7 @@ mod method;
 mod moment;
 mod request;
 mod response;
+mod rope;
 mod shared_bytes;
 mod text;
 
@@ -39,6 +40,7 @@ pub use method::Method;
 pub use moment::{Moment, Stamp, moment_of};
 pub use request::Request;
 pub use response::{Body, Response};
+pub use rope::{Rope, copy_bytes};
 pub use shared_bytes::Bytes;
 pub use text::Text;
 

@@ -1,14 +1,14 @@
 //! [`Response`]: the answer to a request.
 use crate::field::Fields;
-use crate::shared_bytes::Bytes;
+use crate::rope::Rope;
 
 /// The body of a response.
 #[derive(Debug, Drop)]
 pub enum Body {
     /// No body.
     Absent,
-    /// These bytes.
-    Whole(Bytes),
+    /// These bytes, whose pieces are shared with what they were cut from.
+    Whole(Rope),
     /// No bytes, though their number is given: the response to a HEAD.
     LengthOnly(u64),
 }

@@ -114,3 +114,23 @@ fn a_moment_ends_with_the_year_9999(rt: HostRuntime) {
         assert_eq!(rt; moment_of(seconds), Moment(moment));
     }
 }
+
+#[test]
+fn a_rope_is_copied_piece_by_piece(rt: HostRuntime) -> Result<(), Fail> {
+    let alloc = rt.alloc();
+    let body = Bytes::of(alloc, b"hello, pod")?;
+    let mut rope = Rope::of(alloc, Bytes::from_static(b"[1]"));
+    rope.push(alloc, body.slice(alloc, 0, 5)?)?;
+    rope.push(alloc, Bytes::from_static(b"[2]"))?;
+    rope.push(alloc, body.slice(alloc, 7, 10)?)?;
+    assert_eq!(rt; rope.len(), 14);
+    let mut into = [0u8; 8];
+    assert_eq!(rt; rope.copy_from(1, &mut into), 8);
+    assert_eq!(rt; into.as_slice(), b"1]hello[".as_slice());
+    assert_eq!(rt; rope.copy_from(9, &mut into), 5);
+    assert_eq!(rt; into.as_slice(), b"2]podlo[".as_slice());
+    assert_eq!(rt; rope.copy_from(20, &mut into), 0);
+    let flat = rope.to_bytes(alloc)?;
+    assert_eq!(rt; flat.as_slice(), b"[1]hello[2]pod".as_slice());
+    Ok(())
+}

@@ -1,10 +1,11 @@
 //! Rows: the resources of a pod.
 ghost use Rattle.std.specs.Prelude.{◌≡◌, IfOk};
 
-use pod_base::{Bytes, Mem, Moment, Text};
+use pod_base::{Mem, Moment, Text};
 use pod_path::Path;
 use rdf_graph::Graph;
 use std::alloc::Global;
+use stored_bytes::StoredBytes;
 
 /// What kind of resource a row is.
 #[derive(Clone, Copy, Debug, PartialEq, Eq, Hash)]
@@ -21,11 +22,11 @@ pub enum Kind {
     Meta,
 }
 
-/// What a row holds: triples, or bytes and their media type.
+/// What a row holds: triples, or bytes and their media type. Bytes keep the digest of their tag.
 #[derive(Debug, Drop)]
 pub enum Content {
     Graph(Graph),
-    Bytes { ctype: Text, bytes: Bytes },
+    Bytes { ctype: Text, bytes: StoredBytes },
 }
 
 /// A resource: its path, its kind, what it holds, and when it was last changed.

@@ -6,8 +6,7 @@ use Rattle.pod_base.specs.declared.field.Field.{Field}
 use Rattle.pod_base.specs.declared.method.Method.{Method}
 use Rattle.pod_base.specs.declared.method.Method.TheVariants.{Get, Head, Options, Post, Put, Patch}
 use Rattle.pod_base.specs.declared.method.Method.TheVariants.{Delete, Other}
-use Rattle.pod_base.specs.declared.response.Body.{Body}
-use Rattle.pod_base.specs.declared.response.Body.TheVariants.{Whole, LengthOnly}
+use Rattle.pod_base.specs.declared.response.Body.TheVariants.{Whole}
 use Rattle.pod_base.specs.declared.response.Response.{Response}
 use Rattle.pod_responses.specs.Responses.{shown, partial, unsatisfiable}
 use Rattle.pod_responses.specs.declared.read_responses.Representation.{Representation}
@@ -39,17 +38,6 @@ unfoldable pub asked : Shown → Method → List Field → sets.Asked
 asked shown method fields = if takes_ranges method shown.ranges
     then asked_by shown fields (range fields) else sets.whole
 
--- The response to a HEAD has the length of the body alone.
-abbrev pub body_for : Method → List ℕ → Body
-body_for Get bytes = Whole bytes
-body_for Head bytes = LengthOnly (length bytes)
-body_for Options bytes = Whole bytes
-body_for Post bytes = Whole bytes
-body_for Put bytes = Whole bytes
-body_for Patch bytes = Whole bytes
-body_for Delete bytes = Whole bytes
-body_for Other bytes = Whole bytes
-
 -- the fields of a response that describe the representation
 abbrev pub representation : List ℕ → Shown → List ℕ → Representation
 representation ctype shown granted = record {
@@ -61,9 +49,9 @@ representation ctype shown granted = record {
 }
 
 -- 200
-abbrev pub whole_response : List ℕ → List ℕ → Shown → List ℕ → Method → Response
-whole_response base path shows granted method =
-    shown base path (representation shows.ctype shows granted) (body_for method shows.body)
+abbrev pub whole_response : List ℕ → List ℕ → Shown → List ℕ → Response
+whole_response base path shows granted =
+    shown base path (representation shows.ctype shows granted) (Whole shows.body)
 
 -- the bytes of a part, and `bytes F-L/N`
 abbrev pub part_bytes : List ℕ → Part → List ℕ
@@ -97,15 +85,14 @@ parts_response base path shows granted (part ∷ next ∷ more) =
     multipart_response base path shows granted (part ∷ next ∷ more)
 
 -- 416 where no selected byte exists
-abbrev pub response_for : List ℕ → List ℕ → Shown → List ℕ → Method → sets.Asked → Response
-response_for base path shows granted method sets.whole =
-    whole_response base path shows granted method
-response_for base path shows granted method sets.unsatisfiable =
-    unsatisfiable (length shows.body)
-response_for base path shows granted method (sets.parts list) =
+abbrev pub response_for : List ℕ → List ℕ → Shown → List ℕ → sets.Asked → Response
+response_for base path shows granted sets.whole = whole_response base path shows granted
+response_for base path shows granted sets.unsatisfiable = unsatisfiable (length shows.body)
+response_for base path shows granted (sets.parts list) =
     parts_response base path shows granted list
 
--- The response that shows the resource at the path, with the value of `WAC-Allow`.
+-- The response that shows the resource at the path, with the value of `WAC-Allow`. A HEAD loses the
+-- body where the reply is sent.
 unfoldable pub read_response : List ℕ → List ℕ → Shown → List ℕ → Method → List Field → Response
 read_response base path shows granted method fields =
-    response_for base path shows granted method (asked shows method fields)
+    response_for base path shows granted (asked shows method fields)

@@ -71,7 +71,7 @@ fn judge_offers<S: PodState>(
             }
         }
         Content::Bytes { ctype, bytes } => {
-            let tag = bytes_tag(ctype, bytes);
+            let tag = bytes_tag(alloc, ctype, bytes);
             Ok(judge_tags(conditions, method, &[tag], row.modified))
         }
     }

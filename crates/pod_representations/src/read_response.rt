@@ -6,12 +6,12 @@ ghost use Rattle.range_req.specs.RangeSets.{is_within};
 ghost use Rattle.pod_representations.specs.ReadResponses as spec;
 
 use crate::representation::Shown;
-use crate::selected_parts::{asked, content_range, multipart_type, part_bytes};
+use crate::selected_parts::{asked, content_range, multipart_type};
 use iri_ref::Iri;
-use pod_base::{Body, Bytes, Fields, List, Mem, Method, Response};
+use pod_base::{Body, Bytes, Fields, List, Mem, Method, Response, Rope};
 use pod_path::Path;
 use pod_responses::{Representation, partial, shown, unsatisfiable};
-use range_req::{Part, RangeSet, multipart};
+use range_req::{Part, RangeSet, multipart, part_bytes};
 use std::alloc::Global;
 
 /// The fields of a response that describe a representation.
@@ -33,22 +33,6 @@ fn representation_fields(
     })
 }
 
-/// The body of a response: of a HEAD its length alone.
-fn body_for(method: Method, body: Bytes) -> Body
-    ensures { result ≡ spec.body_for method body }
-{
-    match method {
-        Method::Head => Body::LengthOnly(body.len() as u64),
-        Method::Get
-        | Method::Options
-        | Method::Post
-        | Method::Put
-        | Method::Patch
-        | Method::Delete
-        | Method::Other => Body::Whole(body),
-    }
-}
-
 /// The response with the whole representation.
 fn whole_response(
     alloc: Global,
@@ -56,14 +40,13 @@ fn whole_response(
     path: &Path,
     shows: &Shown,
     granted: Bytes,
-    method: Method,
 ) -> Mem<Response>
     ensures { IfOk result (λ response. response
-        ≡ spec.whole_response base.now path.now shows.now granted method) }
+        ≡ spec.whole_response base.now path.now shows.now granted) }
 {
     let tells = representation_fields(alloc, shows.ctype.as_str().as_bytes(), shows, granted)?;
     let body = shows.body.copy(alloc)?;
-    shown(alloc, base, path, tells, body_for(method, body))
+    shown(alloc, base, path, tells, Body::Whole(Rope::of(alloc, body)))
 }
 
 /// The response with one part.
@@ -82,7 +65,14 @@ fn part_response(
     let tells = representation_fields(alloc, shows.ctype.as_str().as_bytes(), shows, granted)?;
     let range = content_range(alloc, part, shows.body.len() as u64)?;
     let bytes = part_bytes(alloc, &shows.body, part)?;
-    partial(alloc, base, path, tells, Some(range), Body::Whole(bytes))
+    partial(
+        alloc,
+        base,
+        path,
+        tells,
+        Some(range),
+        Body::Whole(Rope::of(alloc, bytes)),
+    )
 }
 
 /// The response with several parts.
@@ -98,7 +88,7 @@ fn multipart_response(
     ensures { IfOk result (λ response. response
         ≡ spec.multipart_response base.now path.now shows.now granted parts.now.items) }
 {
-    let (boundary, text) = multipart(alloc, shows.ctype.as_str(), shows.body.as_slice(), parts)?;
+    let (boundary, text) = multipart(alloc, shows.ctype.as_str(), &shows.body, parts)?;
     let ctype = multipart_type(alloc, boundary.as_str().as_bytes())?;
     let tells = representation_fields(alloc, ctype.as_slice(), shows, granted)?;
     partial(alloc, base, path, tells, None, Body::Whole(text))
@@ -129,7 +119,7 @@ fn parts_response(
 /// It is 200 with the whole representation; of a GET of bytes with one Range field that applies it
 /// is 206 with the selected parts, or 416 where there are none. A Range field applies where it is
 /// well-formed and there is no If-Range, or one alone that is the strong tag of the representation.
-/// A HEAD has the fields of 200 and the length of its body.
+/// A HEAD has the response of 200: it loses the body where the reply is sent.
 #[tactic(auto, unfolding(crate::specs::ReadResponses::read_response))]
 pub fn show(
     alloc: Global,
@@ -144,7 +134,7 @@ pub fn show(
         ≡ spec.read_response base.now path.now shows.now granted method fields.now) }
 {
     match asked(alloc, shows, method, fields)? {
-        RangeSet::Whole => whole_response(alloc, base, path, shows, granted, method),
+        RangeSet::Whole => whole_response(alloc, base, path, shows, granted),
         RangeSet::Unsatisfiable => unsatisfiable(alloc, shows.body.len() as u64),
         RangeSet::Parts(parts) => parts_response(alloc, base, path, shows, granted, &parts),
     }

@@ -5,9 +5,9 @@ ghost use Rattle.pod_rows.specs.WellFormed.{is_container_kind};
 ghost use Rattle.pod_representations.specs.Representations as spec;
 
 use crate::media::Media;
-use conditional_req::{Tag, tag_of};
+use conditional_req::{Tag, tag_of, tag_of_digest};
 use pod_base::{Bytes, Mem, Moment, Text};
-use pod_command::{Content, Kind, Row};
+use pod_command::{Content, Kind, Row, StoredBytes};
 use pod_rows::{PodState, container_view};
 use rdf_graph::Graph;
 use std::alloc::Global;
@@ -91,11 +91,12 @@ pub(crate) fn graph_tag(alloc: Global, graph: &Graph, media: Media) -> Mem<Tag>
     Ok(body_tag(media, body.as_slice()))
 }
 
-/// The tag of stored bytes.
-pub(crate) fn bytes_tag(ctype: &Text, bytes: &Bytes) -> Tag
+/// The tag of stored bytes. Their digest is made once.
+#[tactic(auto, unfolding(crate::specs::Representations::tag))]
+pub(crate) fn bytes_tag(alloc: Global, ctype: &Text, bytes: &StoredBytes) -> Tag
     ensures { result ≡ spec.bytes_tag ctype.now bytes.now }
 {
-    tag(ctype.as_str(), bytes.as_slice(), b'b')
+    tag_of_digest(&bytes.digest(alloc, ctype), b'b')
 }
 
 /// A graph in a type.
@@ -115,12 +116,12 @@ fn graph_as(alloc: Global, graph: &Graph, media: Media, modified: Moment) -> Mem
 }
 
 /// Bytes as they are stored.
-fn bytes_as(alloc: Global, ctype: &Text, bytes: &Bytes, modified: Moment) -> Mem<Shown>
+fn bytes_as(alloc: Global, ctype: &Text, bytes: &StoredBytes, modified: Moment) -> Mem<Shown>
     ensures { IfOk result (λ shown. shown ≡ spec.bytes_as ctype.now bytes.now modified) }
 {
-    let tag = bytes_tag(ctype, bytes);
+    let tag = bytes_tag(alloc, ctype, bytes);
     let ctype = ctype.copy(alloc)?;
-    let body = bytes.copy(alloc)?;
+    let body = bytes.bytes().copy(alloc)?;
     Ok(Shown {
         ctype,
         body,

@@ -62,15 +62,6 @@ pub(crate) fn asked(alloc: Global, shown: &Shown, method: Method, fields: &Field
     }
 }
 
-/// The bytes of a part, which share those of the body.
-pub(crate) fn part_bytes(alloc: Global, body: &Bytes, part: &Part) -> Mem<Bytes>
-    requires { sets.is_within (length body.now) part.now ≡ true }
-    ensures { IfOk result (λ bytes. bytes ≡ spec.part_bytes body.now part.now) }
-{
-    let _end = body.len();
-    body.slice(alloc, part.first as usize, part.last as usize + 1)
-}
-
 /// The value of `Content-Range` of a part of a body of that size.
 #[tactic(auto, unfolding(crate::specs::ReadResponses::content_range))]
 pub(crate) fn content_range(alloc: Global, part: &Part, size: u64) -> Mem<Bytes>

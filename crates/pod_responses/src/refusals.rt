@@ -8,7 +8,7 @@ use crate::allow::{add_accept_patch, add_accept_put, add_allow};
 use crate::field::{add, add_static};
 use crate::read_responses::{add_validators, add_vary};
 use conditional_req::Tag;
-use pod_base::{Body, Bytes, BytesBuilder, Fields, Mem, Method, Moment, Response};
+use pod_base::{Body, Bytes, BytesBuilder, Fields, Mem, Method, Moment, Response, Rope};
 use pod_path::Path;
 use std::alloc::Global;
 
@@ -41,7 +41,7 @@ fn refused(alloc: Global, status: u16, word: &[u8], fields: Fields) -> Mem<Respo
     Ok(Response {
         status,
         fields,
-        body: Body::Whole(line),
+        body: Body::Whole(Rope::of(alloc, line)),
     })
 }
 

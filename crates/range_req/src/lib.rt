@@ -10,9 +10,10 @@
 //! ```
 //!
 //! Proved: [`ranges`] is the definition `range_set` of the field's value and the size, and its
-//! parts are inside of the body (`within`). [`multipart`] writes exactly the text `multipart_text`,
+//! parts are inside of the body (`within`). [`multipart`] makes exactly the text `multipart_text`,
 //! with the first boundary that isn't in the body, which is a function of the body
-//! (`free_boundary`).
+//! (`free_boundary`). It shares the bytes of the parts with the body, as [`part_bytes`] does, so
+//! no number of parts takes more memory than their fields.
 //!
 //! It stands on `field_list`, which reads the list, on `memchr`, which searches the body, on `itoa`
 //! and on `pod_base`.
@@ -25,6 +26,6 @@ mod number;
 mod range_set;
 
 pub use byte_range::{ByteRange, Part};
-pub use multipart_body::multipart;
+pub use multipart_body::{multipart, part_bytes};
 pub use number::NUMBER_LIMIT;
 pub use range_set::{RANGE_LIMIT, RangeSet, ranges};

@@ -1,6 +1,7 @@
-//! The body of a response with several parts of a body (RFC 9110, section 14.6).
+//! The body of a response with several parts of a body (RFC 9110, section 14.6), which shares their
+//! bytes.
 
-ghost use Rattle.std.specs.Prelude.{◌≡◌, ◌+◌, ◌++◌, true, IfOk, length, slice_range};
+ghost use Rattle.std.specs.Prelude.{◌≡◌, ◌+◌, ◌++◌, true, IfOk, length, slice_range, codes};
 ghost use Rattle.std.specs.List.{flat_map, list_all};
 ghost use Rattle.range_req.specs.Multipart as spec;
 ghost use Rattle.range_req.specs.RangeSets.{is_within};
@@ -8,7 +9,7 @@ ghost use Rattle.range_req.specs.RangeSets.{is_within};
 use crate::boundary_search::free_boundary;
 use crate::byte_range::Part;
 use itoa::Buffer;
-use pod_base::{Bytes, BytesBuilder, List, Mem, Text};
+use pod_base::{Bytes, BytesBuilder, List, Mem, Rope, Text};
 use std::alloc::Global;
 
 /// Appends pieces one after another.
@@ -51,38 +52,53 @@ fn append_fields(
     )
 }
 
-/// The bytes of a part of a body.
-fn bytes_of<'a>(body: &'a [u8], part: &Part) -> &'a [u8]
+/// The bytes of a part of a body, which share its block. It takes no memory.
+pub fn part_bytes(alloc: Global, body: &Bytes, part: &Part) -> Mem<Bytes>
     requires { is_within (length body.now) part.now ≡ true }
-    ensures { result.now ≡ slice_range body.entry.now part.now.first (part.now.last + 1) }
+    ensures { IfOk result (λ bytes. bytes ≡ slice_range body.now part.now.first (part.now.last + 1)) }
 {
-    &body[part.first as usize..part.last as usize + 1]
+    let _end = body.len();
+    body.slice(alloc, part.first as usize, part.last as usize + 1)
 }
 
-/// Appends a part: its delimiter, its fields and its bytes.
-fn append_part(
+/// What precedes the bytes of a part: its delimiter and its fields.
+fn part_head(alloc: Global, boundary: &str, ctype: &str, part: &Part, size: u64) -> Mem<Bytes>
+    ensures { IfOk result (λ head. head
+        ≡ spec.delimiter boundary.now ++ spec.part_fields ctype.now part.now size) }
+{
+    let mut head = BytesBuilder::new(alloc);
+    append_all(alloc, &mut head, &[b"--".as_slice(), boundary.as_bytes()])?;
+    append_fields(alloc, &mut head, ctype, part, size)?;
+    head.freeze(alloc)
+}
+
+/// Appends a part: its delimiter, its fields and its bytes, which aren't copied.
+fn push_part(
     alloc: Global,
-    text: &mut BytesBuilder,
+    text: &mut Rope,
     boundary: &str,
     ctype: &str,
-    body: &[u8],
+    body: &Bytes,
     part: &Part,
 ) -> Mem<()>
     requires { is_within (length body.now) part.now ≡ true }
     ensures { IfOk result (λ _. text.new ≡ text.old ++ spec.part_text boundary.now ctype.now body.now part.now) }
 {
-    append_all(alloc, text, &[b"--".as_slice(), boundary.as_bytes()])?;
-    append_fields(alloc, text, ctype, part, body.len() as u64)?;
-    append_all(alloc, text, &[bytes_of(body, part), b"\r\n".as_slice()])
+    let head = part_head(alloc, boundary, ctype, part, body.len() as u64)?;
+    let bytes = part_bytes(alloc, body, part)?;
+    text.push(alloc, head)?;
+    text.push(alloc, bytes)?;
+    text.push(alloc, Bytes::from_static(b"\r\n"))?;
+    Ok(())
 }
 
 /// Appends all parts.
-fn append_parts(
+fn push_parts(
     alloc: Global,
-    text: &mut BytesBuilder,
+    text: &mut Rope,
     boundary: &str,
     ctype: &str,
-    body: &[u8],
+    body: &Bytes,
     parts: &[Part],
 ) -> Mem<()>
     requires { list_all (is_within (length body.now)) parts.now ≡ true }
@@ -90,25 +106,38 @@ fn append_parts(
 {
     let mut rest = parts;
     while let Some((part, more)) = rest.split_first() {
-        append_part(alloc, text, boundary, ctype, body, part)?;
+        push_part(alloc, text, boundary, ctype, body, part)?;
         rest = more;
     }
     Ok(())
 }
 
-/// The boundary and the body of a response with these parts of a body.
+/// The last delimiter.
+fn last_delimiter(alloc: Global, boundary: &str) -> Mem<Bytes>
+    ensures { IfOk result (λ end. end ≡ spec.delimiter boundary.now ++ codes "--\r\n") }
+{
+    let mut end = BytesBuilder::new(alloc);
+    append_all(
+        alloc,
+        &mut end,
+        &[b"--".as_slice(), boundary.as_bytes(), b"--\r\n".as_slice()],
+    )?;
+    end.freeze(alloc)
+}
+
+/// The boundary and the body of a response with these parts of a body, whose bytes are shared.
 ///
 /// The boundary is the first of `pod-0`, `pod-1`, .. whose delimiter isn't in the body. The content
 /// type of the response is `multipart/byteranges; boundary=` and the boundary.
-pub fn multipart(alloc: Global, ctype: &str, body: &[u8], parts: &List<Part>) -> Mem<(Text, Bytes)>
+pub fn multipart(alloc: Global, ctype: &str, body: &Bytes, parts: &List<Part>) -> Mem<(Text, Rope)>
     requires { list_all (is_within (length body.now)) parts.now.items ≡ true }
     ensures boundary { IfOk result (λ r. spec.IsFreeBoundary body.now r.0) }
     ensures named { IfOk result (λ r. r.0 ≡ spec.free_boundary body.now) }
     ensures text { IfOk result (λ r. r.1 ≡ spec.multipart_text r.0 ctype.now body.now parts.now.items) }
 {
-    let boundary = free_boundary(alloc, body)?;
-    let mut text = BytesBuilder::new(alloc);
-    append_parts(
+    let boundary = free_boundary(alloc, body.as_slice())?;
+    let mut text = Rope::of(alloc, Bytes::new());
+    push_parts(
         alloc,
         &mut text,
         boundary.as_str(),
@@ -116,12 +145,8 @@ pub fn multipart(alloc: Global, ctype: &str, body: &[u8], parts: &List<Part>) ->
         body,
         parts.as_slice(),
     )?;
-    append_all(
-        alloc,
-        &mut text,
-        &[b"--".as_slice(), boundary.as_bytes(), b"--\r\n".as_slice()],
-    )?;
-    let text = text.freeze(alloc)?;
+    let end = last_delimiter(alloc, boundary.as_str())?;
+    text.push(alloc, end)?;
     let boundary = Text::from_string(alloc, boundary)?;
     Ok((boundary, text))
 }

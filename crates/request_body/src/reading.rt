@@ -10,7 +10,7 @@ use iri_ref::Iri;
 use jsonld_expanded::JsonLdFault;
 use n3_patch::{N3Fault, PatchRule};
 use pod_base::{Fields, Mem, NoMemory, Request, Text};
-use pod_command::Content;
+use pod_command::{Content, StoredBytes};
 use pod_path::Path;
 use request_fields::content_type;
 use sparql_patch::SparqlFault;
@@ -35,7 +35,7 @@ fn read_opaque(alloc: Global, request: &Request) -> Mem<Outcome>
     ensures { IfOk result (spec.IsOpaqueBody request.now) }
 {
     let ctype = Text::of(alloc, opaque_type(&request.fields))?;
-    let bytes = request.body.copy(alloc)?;
+    let bytes = StoredBytes::new(alloc, request.body.copy(alloc)?);
     Ok(Ok(RequestBody::Content(Content::Bytes { ctype, bytes })))
 }
 

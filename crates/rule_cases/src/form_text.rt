@@ -36,7 +36,7 @@ fn push_row(alloc: Global, out: &mut String, row: &Row) -> Result<(), AllocError
     write!(out, "{} {kind} {} ", row.path.as_str(), row.modified.0)?;
     match &row.content {
         Content::Graph(graph) => push_graph(alloc, out, graph),
-        Content::Bytes { ctype, bytes } => push_bytes(alloc, out, ctype.as_str(), bytes),
+        Content::Bytes { ctype, bytes } => push_bytes(alloc, out, ctype.as_str(), bytes.bytes()),
     }
 }
 

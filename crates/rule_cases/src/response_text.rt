@@ -26,6 +26,7 @@ fn push_body(alloc: Global, text: &mut String, body: &Body) -> Mem<()> {
     match body {
         Body::Absent => Ok(()),
         Body::Whole(bytes) => {
+            let bytes = bytes.to_bytes(alloc)?;
             let shown = shown_whole(alloc, bytes.as_slice())?;
             write!(text, "||{shown}")?;
             Ok(())

@@ -5,7 +5,7 @@
 
 use case_words::{first_word, number_of, path_or_root, pod_graph, text};
 use pod_base::{Bytes, Mem, Moment, Text};
-use pod_command::{Content, Kind, Row};
+use pod_command::{Content, Kind, Row, StoredBytes};
 use rdf_graph::Graph;
 use std::alloc::Global;
 
@@ -51,7 +51,7 @@ fn content_of(alloc: Global, content: &str) -> Mem<Content> {
         Some(ctype) => {
             let ctype = text(alloc, ctype)?;
             let ctype = Text::of(alloc, ctype.as_str())?;
-            let bytes = Bytes::of(alloc, rest.as_bytes())?;
+            let bytes = StoredBytes::new(alloc, Bytes::of(alloc, rest.as_bytes())?);
             Ok(Content::Bytes { ctype, bytes })
         }
         None => Ok(Content::Graph(graph_of(alloc, content)?)),

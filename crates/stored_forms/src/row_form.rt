@@ -18,6 +18,7 @@ use crate::writing::{
 use pod_base::{Mem, Moment};
 use pod_command::{Content, Kind, Row};
 use std::alloc::Global;
+use stored_bytes::StoredBytes;
 
 /// The byte of a kind.
 fn kind_byte(kind: Kind) -> u8
@@ -111,6 +112,7 @@ fn bytes_content(alloc: Global, bytes: &[u8]) -> Result<(Content, &[u8]), ReadBa
 {
     let (ctype, rest) = text_of(alloc, bytes)?;
     let (bytes, rest) = bytes_of(alloc, rest)?;
+    let bytes = StoredBytes::new(alloc, bytes);
     Ok((Content::Bytes { ctype, bytes }, rest))
 }
 

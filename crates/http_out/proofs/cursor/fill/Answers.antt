@@ -1,6 +1,7 @@
 use Rattle.std.proofs.Common.{◌+◌, subst, sym}
 use Rattle.http_out.specs.Segments.{left_at, CopiesPrefix}
-use Rattle.http_out.proofs.SegmentLemmas.{copies_more, put_rest, rest_of}
+use Rattle.pod_base.proofs.RopeLemmas.{put_rest, rest_of}
+use Rattle.http_out.proofs.SegmentLemmas.{copies_more}
 use Rattle.http_out.proofs.cursor.fill.Goals as goal
 
 pub loop-count-preserved : goal.loop-count-preserved

@@ -2,7 +2,7 @@ use Rattle.std.proofs.Common.{◌≡◌, true, ◌++◌, length}
 use Rattle.std.specs.List.{flat_map, list_all}
 use Rattle.range_req.specs.RangeSets.{is_within}
 use Rattle.range_req.specs.Multipart.{part_text}
-use Rattle.range_req.proofs.multipart_body.append_parts.Given as goal
+use Rattle.range_req.proofs.multipart_body.push_parts.Given as goal
 
 -- the parts that are left are inside of the body, and make the rest of the text
 abbrev pub invariant-loop-part : goal.invariant-loop-part
