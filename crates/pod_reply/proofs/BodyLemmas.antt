@@ -6,7 +6,7 @@ use Rattle.pod_base.specs.declared.request.Request.{Request}
 use Rattle.request_body.specs.Bodies.{Outcome, IsBoundOutcome, Means, MeansIn}
 use Rattle.request_body.specs.Syntaxes.{holds_graph, patch_syntax, put_syntax, syntax_by, typed_syntax}
 use Rattle.request_body.specs.declared.body.RequestBody.{RequestBody}
-use Rattle.request_body.specs.declared.body.RequestBody.TheVariants.{Nothing, Content, Patch, Update}
+use Rattle.request_body.specs.declared.body.RequestBody.TheVariants.{Content, Patch, Update}
 use Rattle.request_body.specs.declared.fault.BodyFault.{BodyFault}
 use Rattle.request_body.specs.declared.syntax.BodySyntax.{BodySyntax}
 use Rattle.request_fields.specs.Links.{links_to_container}
@@ -15,7 +15,6 @@ use Rattle.request_fields.specs.declared.media_types.MediaType.{MediaType}
 use Rattle.request_fields.specs.declared.media_types.MediaType.TheVariants as media
 use Rattle.pod_reply.specs.PatchReplies.{IsPatchBody}
 use Rattle.pod_reply.specs.PostReplies.{IsContentBody}
-use Rattle.pod_reply.specs.Ranks.{Case}
 use Rattle.pod_reply.specs.Reply.{HasContent}
 
 no_fault : (body : RequestBody) (fault : BodyFault) → Ok body ≡ Err fault → ⊥
@@ -54,12 +53,6 @@ pub has_content : (base path : List ℕ) (request : Request) (body : RequestBody
     → HasContent request.method → Means base path request (Ok body) → IsContentBody body
 unfolding Means
 has_content base path request body has h = content_by request.method base path request body has h
-
--- what was read in a context
-pub same_read : (base : List ℕ) (a b : Case) (read found : Outcome) → a ≡ b → read ≡ found
-    → Means base a.path a.request read → Means base b.path b.request found
-same_read base a b read found same is h = subst (λ (o : Outcome). Means base b.path b.request o) is
-    (subst (λ (k : Case). Means base k.path k.request read) same h)
 
 -- ---- PATCH
 

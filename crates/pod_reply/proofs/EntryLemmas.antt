@@ -1,29 +1,23 @@
 -- The size of an entry, and the reply that has it.
-use Rattle.std.proofs.Common.{◌≡◌, Bool, true, false, cond, Result, Ok, Err, refl, ap, ◌∙◌}
+use Rattle.std.proofs.Common.{◌≡◌, Bool, true, false, cond, Some, Ok, Err, refl, ap, ◌∙◌}
 use Rattle.pod_base.specs.declared.response.Response.{Response}
 use Rattle.pod_command.specs.Bare.{bare_entry}
 use Rattle.stored_forms.specs.StoredForms.{entry_bytes, origin_bytes, request_bytes}
 use Rattle.pod_command.specs.declared.entry.Entry.{Entry}
-use Rattle.pod_reply.specs.EntrySize.{is_too_large, size_refusal, sized}
-use Rattle.pod_reply.specs.Replies.{changed_by, change_reply}
+use Rattle.pod_reply.specs.EntrySize.{is_too_large, size_refusal}
+use Rattle.pod_reply.specs.Replies.{Reply, changed_by, change_reply, unchanged}
 
--- an entry that passed, without the spare room of lists
-abbrev bare : Result Entry Response → Result Entry Response
-bare (Ok entry) = Ok (bare_entry entry)
-bare (Err response) = Err response
+abbrev told : Response → Entry → Bool → Reply
+told response e large = cond large (unchanged size_refusal) (record { response = response; entry = Some e })
 
-bare_by : (e : Entry) (b : Bool)
-    → bare (cond b (Err size_refusal) (Ok e)) ≡ cond b (Err size_refusal) (Ok (bare_entry e))
-bare_by e true = refl
-bare_by e false = refl
+told_by : (response : Response) (e : Entry) (large : Bool)
+    → told response e large ≡ changed_by response (cond large (Err size_refusal) (Ok e))
+told_by response e true = refl
+told_by response e false = refl
 
 -- the spare room of lists isn't stored
-bare_sized : (e : Entry) → bare (sized e) ≡ sized (bare_entry e)
+pub bounded : (response : Response) (e d : Entry) (large : Bool) → large ≡ is_too_large e → bare_entry e ≡ d
+    → told response (bare_entry e) large ≡ change_reply response d
 unfolding entry_bytes origin_bytes request_bytes
-bare_sized e = bare_by e (is_too_large e)
-
-pub bounded : (response : Response) (e d : Entry) (r : Result Entry Response) → bare_entry e ≡ d → r ≡ sized e
-    → changed_by response (bare r) ≡ change_reply response d
-bounded response e d r is h =
-    ap (λ (s : Result Entry Response). changed_by response (bare s)) h ∙ ap (changed_by response) (bare_sized e)
-    ∙ ap (change_reply response) is
+bounded response e d large is h =
+    ap (told response (bare_entry e)) is ∙ told_by response (bare_entry e) (is_too_large e) ∙ ap (change_reply response) h

@@ -3,5 +3,4 @@ pub mod RankLemmas
 pub mod MemberLemmas
 pub mod BodyLemmas
 pub mod DispatchLemmas
-pub mod OneName
 pub mod OneReply

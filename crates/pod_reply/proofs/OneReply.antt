@@ -1,5 +1,5 @@
 -- A pod gives one reply to a request.
-use Rattle.std.proofs.Common.{◌≡◌, ℕ, Bool, false, List, Option, Some, None, Result, Ok, Err, sym, ◌∙◌, ap, subst}
+use Rattle.std.proofs.Common.{◌≡◌, ℕ, Bool, false, List, Option, Some, None, Result, Ok, Err, ◌⊎◌, inl, inr, sym, ◌∙◌, ap, subst}
 use Rattle.std.specs.List.{list_any}
 use Rattle.patch_outcome.specs.Outcomes.{HasGraphs}
 use Rattle.patch_outcome.specs.Updates.{IsUpdateOutcome}
@@ -12,6 +12,8 @@ use Rattle.pod_base.specs.declared.response.Response.{Response}
 use Rattle.pod_command.specs.declared.basis.Basis.{Basis}
 use Rattle.pod_command.specs.declared.row.Content.{Content as RowContent}
 use Rattle.pod_path.specs.Hierarchy.{is_container, uri_of}
+use Rattle.pod_path.specs.Norm.{norm}
+use Rattle.pod_path.specs.declared.fault.PathFault.TheVariants.{TooLong, TooDeep}
 use Rattle.pod_rows.specs.Pod.{Pod}
 use Rattle.rdf_graph.specs.declared.change.Change.{Change}
 use Rattle.rdf_graph.specs.declared.triple.Triple.{Triple}
@@ -28,8 +30,10 @@ use Rattle.request_target.specs.Admission.{admitted}
 use Rattle.request_target.specs.declared.target.Target.{Target}
 use Rattle.request_target.specs.declared.target.Target.TheVariants.{Server, Resource}
 use Rattle.slug_naming.specs.Stems.{stem_of}
+use Rattle.slug_naming.proofs.FirstName.{one_free_name}
 use Rattle.sparql_patch.specs.declared.named.Named.{Named}
 use Rattle.pod_reply.specs.AccessRank.{access_of}
+use Rattle.pod_reply.specs.MemberNames.{HasNoName, IsMemberPath, IsNamed}
 use Rattle.pod_reply.specs.PatchReplies.{IsApplied, IsBodyOutcome, outcome_reply, patch_refusal}
 use Rattle.pod_reply.specs.PostReplies.{IsMade, IsMemberReply, IsNamedReply, IsPosted, IsPostReply, judged_member, member_refusal}
 use Rattle.pod_reply.specs.PutReplies.{IsUnlessRefused, put_reply}
@@ -39,7 +43,29 @@ use Rattle.pod_reply.specs.Shapes.{shape_of, is_some_of, is_deletion, is_inserti
 use Rattle.pod_reply.specs.Laws.{HasOneReply}
 use Rattle.pod_reply.specs.declared.origin.Origin.{Origin}
 use Rattle.pod_access.specs.declared.request_needs.Shape.{Shape}
-use Rattle.pod_reply.proofs.OneName.{one_named}
+
+-- ---- a new member has one path, or none
+
+within_limits : (path : List ℕ) → norm path ≡ Ok path → (norm path ≡ Err TooLong) ⊎ (norm path ≡ Err TooDeep)
+    → ⊥
+within_limits path e (inl k) = cc
+within_limits path e (inr k) = cc
+
+-- the first free name isn't within the limits and past them
+no_other : (pod : Pod) (container stem : List ℕ) (folder : Bool) (path : List ℕ)
+    → IsMemberPath pod container stem folder path → HasNoName pod container stem folder → ⊥
+no_other pod container stem folder path h k =
+    let same : k.path ≡ path = one_free_name _ container stem folder k.path path k.first h.first in
+    within_limits k.path (subst (λ (p : List ℕ). norm p ≡ Ok p) (sym same) h.normal) k.fault
+
+one_named : (pod : Pod) (container stem : List ℕ) (folder : Bool)
+    (a b : Result (List ℕ) Response) → IsNamed pod container stem folder a
+    → IsNamed pod container stem folder b → a ≡ b
+one_named pod container stem folder (Ok p) (Ok q) h k =
+    ap Ok (one_free_name _ container stem folder p q h.first k.first)
+one_named pod container stem folder (Ok p) (Err r) h k = absurd (no_other pod container stem folder p h k.0)
+one_named pod container stem folder (Err r) (Ok q) h k = absurd (no_other pod container stem folder q k h.0)
+one_named pod container stem folder (Err r) (Err s) h k = ap Err (h.1 ∙ sym k.1)
 
 -- ---- bodies that are the same
 

@@ -1,6 +1,6 @@
 -- How ranks end, and what is granted without bases.
-use Rattle.std.proofs.Common.{◌≡◌, ℕ, Bool, true, false, not, cond, ◌&&◌, List, [], ◌∷◌, Option, Some, None, Result, Ok, Err, refl, sym, ap, ◌∙◌, subst}
-use Rattle.std.specs.Prelude.{codes, is_some}
+use Rattle.std.proofs.Common.{◌≡◌, ℕ, Bool, true, false, cond, ◌&&◌, List, [], ◌∷◌, Option, Some, None, Result, Ok, Err, refl, sym, ap, ◌∙◌, subst}
+use Rattle.std.specs.Prelude.{is_some}
 use Rattle.std.specs.List.{list_all}
 use Rattle.pod_access.specs.Bases.{bases_of, basis_of, with_basis}
 use Rattle.pod_base.specs.Listed.{Listed}
@@ -10,22 +10,14 @@ use Rattle.pod_base.specs.declared.method.Method.TheVariants.{Get, Head, Options
 use Rattle.pod_base.specs.declared.request.Request.{Request}
 use Rattle.pod_base.specs.declared.response.Response.{Response}
 use Rattle.pod_command.specs.declared.basis.Basis.{Basis}
-use Rattle.pod_command.specs.declared.row.Content.{Content}
-use Rattle.pod_responses.specs.Responses.{refusal}
-use Rattle.pod_rows.specs.Pod.{Pod, is_row}
+use Rattle.pod_rows.specs.Pod.{Pod}
 use Rattle.request_body.specs.declared.body.RequestBody.{RequestBody}
-use Rattle.request_fields.specs.Links.{links_to_container}
-use Rattle.request_fields.specs.PartFields.{slug}
-use Rattle.slug_naming.specs.Stems.{stem_of}
 use Rattle.pod_access.specs.Needs.{needs_of}
 use Rattle.pod_access.specs.declared.request_needs.Need.{Need}
 use Rattle.pod_access.specs.declared.request_needs.Shape.{Shape}
 use Rattle.pod_reply.specs.AccessRank.{access_of, access_refusal, unless_denied}
-use Rattle.pod_reply.specs.MemberNames.{IsNamed}
-use Rattle.pod_reply.specs.Obstacles.{refuse_if}
-use Rattle.pod_reply.specs.PostReplies.{IsNamedReply, IsPosted, IsPostReply}
 use Rattle.pod_reply.specs.PutReplies.{IsUnlessRefused}
-use Rattle.pod_reply.specs.Ranks.{Case, Ends, IsGrant, Passes, Tells, reads}
+use Rattle.pod_reply.specs.Ranks.{Ends, IsGrant, Passes, Tells, reads}
 use Rattle.pod_reply.specs.Replies.{Reply, unchanged}
 use Rattle.pod_reply.specs.Reply.{IsGrantedReply, IsMethodReply}
 use Rattle.pod_reply.specs.declared.origin.Origin.{Origin}
@@ -96,35 +88,18 @@ pub made_ends : (r : Result Replied Stop) (o : Option Response) (Q : Reply → T
     → Ends r Q → Ends r (IsUnlessRefused o Q)
 made_ends r o Q is h = subst (λ (p : Option Response). Ends r (IsUnlessRefused p Q)) (sym is) h
 
-refused_here : (stop : Stop) (o : Option Response) (Q : Reply → Type 0)
+pub refused_ends : (stop : Stop) (o : Option Response) (Q : Reply → Type 0)
     → Passes {A = Unit {0}} (Err stop) o (λ _. Unit {0}) → Ends (Err stop) (IsUnlessRefused o Q)
-refused_here (Refused response) o Q h =
+refused_ends (Refused response) o Q h =
     subst (λ (p : Option Response). IsUnlessRefused p Q (unchanged response)) (sym h) refl
-refused_here NoMemory o Q h = tt
+refused_ends NoMemory o Q h = tt
 
-pub refused_ends : (r : Result Replied Stop) (stop : Stop) (o : Option Response) (Q : Reply → Type 0)
-    → r ≡ Err stop → Passes {A = Unit {0}} (Err stop) o (λ _. Unit {0}) → Ends r (IsUnlessRefused o Q)
-refused_ends r stop o Q is h =
-    subst (λ (s : Result Replied Stop). Ends s (IsUnlessRefused o Q)) (sym is) (refused_here stop o Q h)
-
-told_here : {A : Type 0} (stop : Stop) (P : Result A Response → Type 0) (Q : Reply → Type 0)
+pub told_ends : {A : Type 0} (stop : Stop) (P : Result A Response → Type 0) (Q : Reply → Type 0)
     → ((response : Response) → P (Err response) → Q (unchanged response)) → Tells {A = A} (Err stop) P
     → Ends (Err stop) Q
-told_here (Refused response) P Q f h = f response h
-told_here NoMemory P Q f h = tt
+told_ends (Refused response) P Q f h = f response h
+told_ends NoMemory P Q f h = tt
 
-pub told_ends : {A : Type 0} (r : Result Replied Stop) (stop : Stop) (P : Result A Response → Type 0)
-    (Q : Reply → Type 0) → r ≡ Err stop → ((response : Response) → P (Err response) → Q (unchanged response))
-    → Tells {A = A} (Err stop) P → Ends r Q
-told_ends r stop P Q is f h = subst (λ (s : Result Replied Stop). Ends s Q) (sym is) (told_here stop P Q f h)
-
--- a container that is there, and the name of a member or its refusal
-pub posted : (k : Case) (bases : List Basis) (content : Content) (named : Result (List ℕ) Response)
-    (r : Result Replied Stop)
-    → refuse_if (not (is_row k.pod.rows k.path)) (refusal 404 (codes "missing")) ≡ None
-    → IsNamed k.pod k.path (stem_of (slug k.request.fields)) (links_to_container k.request.fields) named
-    → Ends r (IsNamedReply k.pod k.request k.path k.origin bases content named)
-    → Ends r (IsPostReply k.pod k.request k.path k.origin bases content)
-posted k bases content named r found is h = made_ends r _ _ found
-    (ends_weaker r _ (IsPosted k.pod k.request k.path k.origin bases content)
-    (λ reply follows. record { named = named; is = is; follows = follows }) h)
+pub handed_on : (r : Result Replied Stop) (stop : Stop) (Q : Reply → Type 0) → r ≡ Err stop
+    → Ends (Err stop) Q → Ends r Q
+handed_on r stop Q is h = subst (λ (s : Result Replied Stop). Ends s Q) (sym is) h

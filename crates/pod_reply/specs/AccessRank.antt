@@ -1,7 +1,6 @@
 -- Access to a request: what it needs is granted, with a basis for each need, or it is refused (Web
 -- Access Control; RFC 9110, sections 15.5.2 and 15.5.4).
 use Rattle.std.specs.Prelude.{List, Option, Some, None, Result, Ok, Err, codes}
-use Rattle.pod_base.specs.Listed.{Listed}
 use Rattle.pod_base.specs.declared.agent.Agent.{Agent}
 use Rattle.pod_base.specs.declared.agent.Agent.TheVariants.{Public, Known}
 use Rattle.pod_base.specs.declared.response.Response.{Response}
@@ -16,10 +15,6 @@ use Rattle.pod_access.specs.declared.request_needs.Shape.{Shape}
 abbrev pub access_refusal : Agent → Response
 access_refusal Public = unauthorized (codes "access")
 access_refusal (Known agent) = refusal 403 (codes "access")
-
-abbrev pub bases_in : Result (Listed Basis) Response → Result (List Basis) Response
-bases_in (Ok bases) = Ok bases.items
-bases_in (Err response) = Err response
 
 abbrev pub unless_denied : Agent → Option (List Basis) → Result (List Basis) Response
 unless_denied agent (Some bases) = Ok bases

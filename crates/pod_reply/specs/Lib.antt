@@ -7,9 +7,10 @@ pub mod PostReplies
 pub mod PatchReplies
 pub mod DeleteReplies
 pub mod Obstacles
-pub mod Ranks
 pub mod Shapes
 pub mod AccessRank
 pub mod MemberNames
 pub mod EntrySize
 pub mod Laws
+-- internal: cited by private clauses alone
+pub mod Ranks

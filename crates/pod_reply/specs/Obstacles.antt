@@ -3,8 +3,7 @@
 use Rattle.std.specs.Prelude.{ℕ, Bool, true, false, ◌||◌, List, Option, Some, None, codes}
 use Rattle.conditional_req.specs.Conditions.{conditions}
 use Rattle.conditional_req.specs.declared.preconditions.Verdict.{Verdict}
-use Rattle.conditional_req.specs.declared.preconditions.Verdict.TheVariants.{Go, NotModified}
-use Rattle.conditional_req.specs.declared.preconditions.Verdict.TheVariants.{Failed}
+use Rattle.conditional_req.specs.declared.preconditions.Verdict.TheVariants.{Go}
 use Rattle.pod_base.specs.declared.request.Request.{Request}
 use Rattle.pod_base.specs.declared.response.Response.{Response}
 use Rattle.pod_edits.specs.Refusals.{meets_twin, lacks_subject, added_rows, exceeds_rows}
@@ -41,8 +40,7 @@ new_path_refusal pod seq path =
 -- the preconditions of a change
 abbrev pub failed : Verdict → Option Response
 failed Go = None
-failed NotModified = Some (refusal 412 (codes "condition"))
-failed Failed = Some (refusal 412 (codes "condition"))
+failed _ = Some (refusal 412 (codes "condition"))
 
 unfoldable pub condition_refusal : Pod → Request → List ℕ → Option Response
 condition_refusal pod request path = failed

@@ -60,42 +60,38 @@ triples_after graph change = changed_graph graph change.removed change.added
 abbrev pub new_row : List ℕ → Change → Moment → Row
 new_row path change modified = row_of path (contents.Graph (triples_after [] change)) modified
 
--- a row is changed, a new one is made
-abbrev pub changing_reply : Pod → Request → List ℕ → Origin → List Basis → Change → Bool → Reply
-changing_reply pod request path origin bases change true = change_reply changed
-    (entry_of origin request.method path (change_edits path change origin.stamp.moment) bases)
-changing_reply pod request path origin bases change false = make_reply pod request path origin bases
-    (new_row path change origin.stamp.moment) false
-
 -- the graph after a change takes control from the owner
 abbrev pub guard_refusal : Pod → List ℕ → Change → Option Response
 guard_refusal pod path change = refuse_if (breaks_guard pod path
     (triples_after (patched_triples (row_at pod.rows path)) change)) (conflict (codes "owner"))
-
-abbrev pub outcome_reply : Pod → Request → List ℕ → Origin → List Basis
-    → Result Change PatchRefusal → Reply
-outcome_reply pod request path origin bases (Err refusal) = unchanged (conflict (word_of refusal))
-outcome_reply pod request path origin bases (Ok change) =
-    unless_refused (guard_refusal pod path change)
-    (changing_reply pod request path origin bases change (is_row pod.rows path))
-
--- the reply where no refusal holds
-pub record IsApplied (pod : Pod) (request : Request) (path : List ℕ) (origin : Origin)
-    (bases : List Basis) (body : RequestBody) (reply : Reply) : Type 0 where
-  pub outcome : Result Change PatchRefusal
-  pub is : IsBodyOutcome body path (patched_triples (row_at pod.rows path)) outcome
-  pub graphs : HasGraphs outcome
-  pub follows : reply ≡ outcome_reply pod request path origin bases outcome
-
--- The reply to a granted PATCH of a path with this body.
-abbrev pub IsPatchReply : Pod → Request → List ℕ → Origin → List Basis → RequestBody → Reply
-    → Type 0
-IsPatchReply pod request path origin bases body reply =
-    IsUnlessRefused (patch_refusal pod request origin.seq path)
-    (IsApplied pod request path origin bases body) reply
 
 -- A PATCH has a patch or an update.
 abbrev pub IsPatchBody : RequestBody → Type 0
 IsPatchBody (Patch patch) = IsBound patch
 IsPatchBody (Update named) = Unit {0}
 IsPatchBody other = ⊥
+
+module _ (pod : Pod) (request : Request) (path : List ℕ) (origin : Origin) (bases : List Basis) where
+  -- a row is changed, a new one is made
+  abbrev pub changing_reply : Change → Bool → Reply
+  changing_reply change true = change_reply changed
+      (entry_of origin request.method path (change_edits path change origin.stamp.moment) bases)
+  changing_reply change false =
+      make_reply pod request path origin bases (new_row path change origin.stamp.moment) false
+
+  abbrev pub outcome_reply : Result Change PatchRefusal → Reply
+  outcome_reply (Err refusal) = unchanged (conflict (word_of refusal))
+  outcome_reply (Ok change) =
+      unless_refused (guard_refusal pod path change) (changing_reply change (is_row pod.rows path))
+
+  -- the reply where no refusal holds
+  pub record IsApplied (body : RequestBody) (reply : Reply) : Type 0 where
+    pub outcome : Result Change PatchRefusal
+    pub is : IsBodyOutcome body path (patched_triples (row_at pod.rows path)) outcome
+    pub graphs : HasGraphs outcome
+    pub follows : reply ≡ outcome_reply outcome
+
+  -- The reply to a granted PATCH of a path with this body.
+  abbrev pub IsPatchReply : RequestBody → Reply → Type 0
+  IsPatchReply body reply =
+      IsUnlessRefused (patch_refusal pod request origin.seq path) (IsApplied body) reply

@@ -7,8 +7,7 @@ use Rattle.pod_base.specs.declared.request.Request.{Request}
 use Rattle.pod_base.specs.declared.response.Response.{Response}
 use Rattle.conditional_req.specs.Conditions.{conditions}
 use Rattle.conditional_req.specs.declared.preconditions.Verdict.{Verdict}
-use Rattle.conditional_req.specs.declared.preconditions.Verdict.TheVariants.{Go, NotModified}
-use Rattle.conditional_req.specs.declared.preconditions.Verdict.TheVariants.{Failed}
+use Rattle.conditional_req.specs.declared.preconditions.Verdict.TheVariants as verdicts
 use Rattle.pod_command.specs.declared.row.Row.{Row}
 use Rattle.pod_representations.specs.Offers.{chosen}
 use Rattle.pod_representations.specs.Preconditions.{read_verdict}
@@ -21,34 +20,29 @@ use Rattle.pod_rows.specs.Pod.{Pod, row_at}
 use Rattle.request_fields.specs.Upgrades.{upgrade_key}
 use Rattle.websocket.specs.Handshake.{accept_key_of}
 
--- by the verdict on the preconditions
-abbrev pub judged_read : Pod → Request → List ℕ → Agent → Shown → Verdict → Response
-judged_read pod request path agent shown NotModified = not_modified shown.tag.0 shown.modified.0
-judged_read pod request path agent shown Failed = refusal 412 (codes "condition")
-judged_read pod request path agent shown Go = read_response pod.base path shown
-    (allow_field pod agent path) request.method request.fields
+module _ (pod : Pod) (request : Request) (path : List ℕ) (agent : Agent) where
+  -- by the verdict on the preconditions
+  abbrev pub judged_read : Shown → Verdict → Response
+  judged_read shown verdicts.NotModified = not_modified shown.tag.0 shown.modified.0
+  judged_read shown verdicts.Failed = refusal 412 (codes "condition")
+  judged_read shown verdicts.Go = read_response pod.base path shown (allow_field pod agent path)
+      request.method request.fields
 
--- by the offer that is chosen
-abbrev pub chosen_read : Pod → Request → List ℕ → Agent → Row → Option Media → Response
-chosen_read pod request path agent row None = refusal 406 (codes "accept")
-chosen_read pod request path agent row (Some media) =
-    let shown = represented pod row media in judged_read pod request path agent shown
-    (read_verdict (conditions request.fields) request.method shown)
+  -- by the offer that is chosen
+  abbrev pub chosen_read : Row → Option Media → Response
+  chosen_read row None = refusal 406 (codes "accept")
+  chosen_read row (Some media) = let shown = represented pod row media in
+      judged_read shown (read_verdict (conditions request.fields) request.method shown)
 
--- 101: the connection becomes a WebSocket
-abbrev pub upgraded_by : List ℕ → Response
-upgraded_by key = upgraded (accept_key_of key)
+  -- An upgrade is answered before a representation is chosen, by 101: the connection becomes a
+  -- WebSocket.
+  abbrev pub row_read : Row → Option (List ℕ) → Response
+  row_read row (Some key) = upgraded (accept_key_of key)
+  row_read row None = chosen_read row (chosen row request.fields)
 
--- An upgrade is answered before a representation is chosen.
-abbrev pub row_read : Pod → Request → List ℕ → Agent → Row → Option (List ℕ) → Response
-row_read pod request path agent row (Some key) = upgraded_by key
-row_read pod request path agent row None =
-    chosen_read pod request path agent row (chosen row request.fields)
-
-abbrev pub found_read : Pod → Request → List ℕ → Agent → Option Row → Response
-found_read pod request path agent None = refusal 404 (codes "missing")
-found_read pod request path agent (Some row) =
-    row_read pod request path agent row (upgrade_key request)
+  abbrev pub found_read : Option Row → Response
+  found_read None = refusal 404 (codes "missing")
+  found_read (Some row) = row_read row (upgrade_key request)
 
 -- The response to a granted GET or HEAD of a path.
 unfoldable pub read_reply : Pod → Request → List ℕ → Agent → Response

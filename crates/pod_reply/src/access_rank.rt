@@ -1,4 +1,4 @@
-//! [`decide_access`]: whether what a request needs is granted.
+//! [`grant`]: whether what a request needs is granted.
 
 ghost use Rattle.std.specs.Prelude.{◌≡◌, IfOk, is_some, true};
 ghost use Rattle.std.specs.List.{list_all};
@@ -15,32 +15,13 @@ use pod_responses::{refusal, unauthorized};
 use pod_rows::PodState;
 use std::alloc::Global;
 
-/// The refusal of a request of which a need isn't granted.
+/// 401 `access` for anybody, 403 `access` for a known agent (RFC 9110, sections 15.5.2 and 15.5.4).
 fn refuse_access(alloc: Global, agent: &Agent) -> Mem<Response>
     ensures { IfOk result (λ response. response ≡ spec.access_refusal agent.now) }
 {
     match agent {
         Agent::Public => unauthorized(alloc, b"access"),
         Agent::Known(_) => refusal(alloc, 403, b"access"),
-    }
-}
-
-/// Whether all that a request of this shape needs is granted to the agent: a basis for each need,
-/// in the order of the needs, or the refusal: 401 `access` for anybody, 403 `access` for a known
-/// agent (RFC 9110, sections 15.5.2 and 15.5.4).
-pub fn decide_access<S: PodState>(
-    alloc: Global,
-    state: &S,
-    agent: &Agent,
-    shape: &Shape,
-) -> Mem<Result<List<Basis>, Response>>
-    ensures access { IfOk result (λ access. spec.bases_in access
-        ≡ spec.access_of (S.pod state.now) agent.now shape.now) }
-{
-    let needs = needs(alloc, shape)?;
-    match decide(alloc, state, agent, &needs)? {
-        Some(bases) => Ok(Ok(bases)),
-        None => Ok(Err(refuse_access(alloc, agent)?)),
     }
 }
 
@@ -76,18 +57,19 @@ fn is_reading(method: Method) -> bool
     matches!(method, Method::Get | Method::Head | Method::Options)
 }
 
-/// 401 or 403 `access`, unless all that a request of this shape needs is granted; else the bases,
-/// which only a change has.
+/// 401 or 403 `access`, unless all that a request of this shape needs is granted; else the bases, in
+/// the order of the needs, which only a change has.
 pub(crate) fn grant<S: PodState>(context: &Context<'_, S>, shape: &Shape) -> Rank<List<Basis>>
     ensures { Tells result (IsGrant (reads context.now.request.method)
         (spec.access_of context.now.pod context.now.origin.agent shape.now)) }
 {
-    let agent = &context.origin.agent;
+    let (alloc, state, agent) = (context.alloc, context.state, &context.origin.agent);
     if is_reading(context.request.method) {
-        return admit_reader(context.alloc, context.state, agent, shape);
+        return admit_reader(alloc, state, agent, shape);
     }
-    match decide_access(context.alloc, context.state, agent, shape)? {
-        Ok(bases) => Ok(bases),
-        Err(response) => Err(Stop::Refused(response)),
+    let needs = needs(alloc, shape)?;
+    match decide(alloc, state, agent, &needs)? {
+        Some(bases) => Ok(bases),
+        None => Err(Stop::Refused(refuse_access(alloc, agent)?)),
     }
 }

@@ -152,24 +152,6 @@ fn reply_admitted<S: PodState>(
     }
 }
 
-/// The reply to a request, a refusal or a success, before it is sent.
-fn reply_unsent<S: PodState>(
-    alloc: Global,
-    state: &S,
-    request: &Request,
-    asked: &Asked<'_>,
-    origin: &Origin,
-) -> Mem<Replied>
-    ensures { IfOk result (λ replied. spec.IsAdmittedReply (S.pod state.now) request.now origin.now
-        (admitted (S.pod state.now).base request.now (asked_view asked.now)) (reply_of replied)) }
-{
-    match reply_admitted(alloc, state, request, asked, origin) {
-        Ok(replied) => Ok(replied),
-        Err(Stop::Refused(response)) => Ok(unchanged(response)),
-        Err(Stop::NoMemory) => Err(NoMemory),
-    }
-}
-
 /// The reply of a pod to a request. Its entry, where it has one, gets that number and that stamp.
 pub fn reply<S: PodState>(
     alloc: Global,
@@ -183,7 +165,12 @@ pub fn reply<S: PodState>(
         (asked_view asked.now) seq stamp (reply_of replied)) }
 {
     let origin = origin_of(alloc, asked, seq, stamp)?;
-    let Replied { response, entry } = reply_unsent(alloc, state, request, asked, &origin)?;
-    let response = sent_to(request.method, response);
-    Ok(Replied { response, entry })
+    match reply_admitted(alloc, state, request, asked, &origin) {
+        Ok(Replied { response, entry }) => {
+            let response = sent_to(request.method, response);
+            Ok(Replied { response, entry })
+        }
+        Err(Stop::Refused(response)) => Ok(unchanged(sent_to(request.method, response))),
+        Err(Stop::NoMemory) => Err(NoMemory),
+    }
 }

@@ -31,9 +31,7 @@ mod replied;
 mod shape;
 mod stop;
 
-pub use access_rank::decide_access;
 pub use dispatch::reply;
-pub use entry_size::{ENTRY_BYTES_LIMIT, bound_entry};
-pub use member_names::name_member;
+pub use entry_size::ENTRY_BYTES_LIMIT;
 pub use origin::Origin;
 pub use replied::Replied;

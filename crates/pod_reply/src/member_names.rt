@@ -7,7 +7,9 @@ ghost use Rattle.pod_path.specs.declared.fault.PathFault.TheVariants.{NoMemory a
 ghost use Rattle.pod_responses.specs.Responses.{refusal};
 ghost use Rattle.slug_naming.specs.Stems.{stem_of};
 ghost use Rattle.pod_reply.specs.MemberNames as spec;
+ghost use Rattle.pod_reply.specs.Ranks.{Tells};
 
+use crate::stop::{Rank, Stop};
 use pod_base::{Mem, NoMemory, Response};
 use pod_path::{Path, PathFault};
 use pod_responses::refusal;
@@ -29,20 +31,20 @@ fn refuse_name(alloc: Global, fault: PathFault) -> Mem<Response>
 /// The path of a new member of a container, which is itself a container with `folder`: that of the
 /// first free candidate by the value of a Slug field, or 409 `no-name` where this passes a limit of
 /// paths.
-pub fn name_member<S: PodState>(
+pub(crate) fn name_member<S: PodState>(
     alloc: Global,
     state: &S,
     container: &Path,
     slug: Option<&[u8]>,
     folder: bool,
-) -> Mem<Result<Path, Response>>
+) -> Rank<Path>
     requires { is_container container.now ≡ true }
-    ensures named { IfOk result (spec.IsNamed (S.pod state.now) container.now
+    ensures { Tells result (spec.IsNamed (S.pod state.now) container.now
         (stem_of (option_copied slug.entry)) folder) }
 {
     state.is_well_formed();
     match choose(alloc, container, slug, folder, state) {
-        Ok(path) => Ok(Ok(path)),
-        Err(fault) => Ok(Err(refuse_name(alloc, fault)?)),
+        Ok(path) => Ok(path),
+        Err(fault) => Err(Stop::Refused(refuse_name(alloc, fault)?)),
     }
 }

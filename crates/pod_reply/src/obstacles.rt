@@ -97,15 +97,8 @@ pub(crate) fn refuse_condition<S: PodState>(context: &Context<'_, S>) -> Rank<()
     ensures { Passes result (spec.condition_refusal context.now.pod context.now.request
         context.now.path) (λ _. ⊤) }
 {
-    let method = context.request.method;
-    let verdict = change_verdict(
-        context.alloc,
-        context.state,
-        context.row,
-        context.conditions,
-        method,
-    )?;
-    match verdict {
+    let (state, row, method) = (context.state, context.row, context.request.method);
+    match change_verdict(context.alloc, state, row, context.conditions, method)? {
         Verdict::Go => Ok(()),
         Verdict::NotModified | Verdict::Failed => {
             Err(Stop::Refused(refusal(context.alloc, 412, b"condition")?))

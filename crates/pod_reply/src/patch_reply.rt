@@ -1,14 +1,11 @@
 //! The reply to a PATCH.
 
-ghost use Rattle.std.specs.Prelude.{◌≡◌, [], IfOk, ⊤, codes};
+ghost use Rattle.std.specs.Prelude.{◌≡◌, [], IfOk, ⊤};
 ghost use Rattle.std.specs.Option.{option_copied};
 ghost use Rattle.patch_outcome.specs.Outcomes.{HasGraphs};
-ghost use Rattle.pod_edits.specs.Refusals.{breaks_guard};
-ghost use Rattle.pod_reply.specs.Obstacles.{conflict, refuse_if};
 ghost use Rattle.pod_reply.specs.PatchReplies as spec;
 ghost use Rattle.pod_reply.specs.Ranks.{Ends, Passes};
 ghost use Rattle.pod_reply.specs.Shapes.{IsPlaced};
-ghost use Rattle.pod_rows.specs.Pod.{is_row, row_at};
 
 use crate::context::Context;
 use crate::obstacles::{refuse_condition, refuse_place};
@@ -104,65 +101,48 @@ fn graph_after_change(alloc: Global, graph: &Graph, change: &Change) -> Mem<Grap
 
 /// 409 `owner`, where the graph of the path after a change takes control from the owner.
 #[tactic(auto, unfolding(pod_edits::specs::Refusals::breaks_guard))]
-fn refuse_guard<S: PodState>(context: &Context<'_, S>, graph: &Graph, change: &Change) -> Rank<()>
-    ensures { Passes result (refuse_if (breaks_guard context.now.pod context.now.path
-        (spec.triples_after graph.now change.now)) (conflict (codes "owner"))) (λ _. ⊤) }
+fn refuse_guard<S: PodState>(context: &Context<'_, S>, change: &Change) -> Rank<()>
+    ensures { Passes result (spec.guard_refusal context.now.pod context.now.path change.now)
+        (λ _. ⊤) }
 {
     if !is_root_list(context.path) {
         return Ok(());
     }
+    let empty = Graph::new(context.alloc);
+    let graph = patched_graph(context.row, &empty);
     let after = graph_after_change(context.alloc, graph, change)?;
     let breaks = breaks_guard(context.state, context.path, after.as_slice());
     refuse_if(context.alloc, breaks, 409, b"owner")
 }
 
-/// The success: a row is changed, or a new one is made.
-fn change_at<S: PodState>(
-    context: &Context<'_, S>,
-    place: Option<Place>,
-    bases: List<Basis>,
-    change: Change,
-) -> Rank<Replied>
-    requires { IsPlaced context.now.pod.rows context.now.path place }
-    ensures { Ends result (λ reply. reply ≡ spec.changing_reply context.now.pod context.now.request
-        context.now.path context.now.origin bases.items change
-        (is_row context.now.pod.rows context.now.path)) }
-{
-    match place {
-        Some(place) => {
-            let graph = graph_after_change(context.alloc, &Graph::new(context.alloc), &change)?;
-            make(context, Some(place), bases, Content::Graph(graph))
-        }
-        None => {
-            let path = context.path.copy(context.alloc)?;
-            let edits = change_edits(context.alloc, path, change, context.origin.stamp.moment)?;
-            change_reply(context, changed(context.alloc), edits, bases)
-        }
-    }
-}
-
-/// What follows of the outcome of a patch: its refusal, 409 `owner`, or the change.
+/// What follows of the outcome of a patch: its refusal, 409 `owner`, or the success: a row is
+/// changed, or a new one is made.
 fn reply_by<S: PodState>(
     context: &Context<'_, S>,
     place: Option<Place>,
     bases: List<Basis>,
-    graph: &Graph,
     outcome: Result<Change, PatchRefusal>,
 ) -> Rank<Replied>
-    requires place { IsPlaced context.now.pod.rows context.now.path place }
-    requires graph { graph.now
-        ≡ spec.patched_triples (row_at context.now.pod.rows context.now.path) }
+    requires { IsPlaced context.now.pod.rows context.now.path place }
     ensures { Ends result (λ reply. reply ≡ spec.outcome_reply context.now.pod context.now.request
         context.now.path context.now.origin bases.items outcome) }
 {
+    let alloc = context.alloc;
     match outcome {
-        Err(refused) => {
-            let response = refusal(context.alloc, 409, refused.word().as_bytes())?;
-            Err(Stop::Refused(response))
-        }
+        Err(refused) => Err(Stop::Refused(refusal(alloc, 409, refused.word().as_bytes())?)),
         Ok(change) => {
-            refuse_guard(context, graph, &change)?;
-            change_at(context, place, bases, change)
+            refuse_guard(context, &change)?;
+            match place {
+                Some(place) => {
+                    let graph = graph_after_change(alloc, &Graph::new(alloc), &change)?;
+                    make(context, Some(place), bases, Content::Graph(graph))
+                }
+                None => {
+                    let (path, modified) = (context.path.copy(alloc)?, context.origin.stamp.moment);
+                    let edits = change_edits(alloc, path, change, modified)?;
+                    change_reply(context, changed(alloc), edits, bases)
+                }
+            }
         }
     }
 }
@@ -184,5 +164,5 @@ pub(crate) fn patch<S: PodState>(
     let graph = patched_graph(context.row, &empty);
     let outcome = apply(context.alloc, context.path, graph, body)?;
     has_graphs(&outcome);
-    reply_by(context, place, bases, graph, outcome)
+    reply_by(context, place, bases, outcome)
 }

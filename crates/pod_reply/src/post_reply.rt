@@ -4,8 +4,7 @@ ghost use Rattle.std.specs.Prelude.{◌≡◌, ◌∷◌, [], if◌then◌else�
 ghost use Rattle.std.specs.Option.{option_copied};
 ghost use Rattle.iri_ref.specs.Characters.{slash};
 ghost use Rattle.pod_base.specs.declared.method.Method.TheVariants.{Post};
-ghost use Rattle.pod_edits.specs.Edits.{creation_edits};
-ghost use Rattle.pod_path.specs.Hierarchy.{is_container};
+ghost use Rattle.pod_path.specs.Hierarchy.{is_container, uri_of};
 ghost use Rattle.pod_reply.specs.MemberNames.{IsNamed};
 ghost use Rattle.pod_reply.specs.PostReplies as spec;
 ghost use Rattle.pod_reply.specs.Ranks.{Ends, Passes, Tells};
@@ -25,7 +24,7 @@ use crate::replied::{Replied, change_reply};
 use crate::stop::{Rank, Stop};
 use iri_ref::Iri;
 use pod_base::{List, Mem};
-use pod_command::{Basis, Content, Edit, Row};
+use pod_command::{Basis, Content};
 use pod_edits::{creation, find_place};
 use pod_path::Path;
 use pod_responses::{created, refusal};
@@ -70,15 +69,6 @@ pub(crate) fn candidate_base<S: PodState>(context: &Context<'_, S>) -> Mem<Iri>
     path.uri(context.alloc, context.state.base())
 }
 
-/// The edits of a new member.
-fn member_edits<S: PodState>(alloc: Global, state: &S, row: Row) -> Mem<List<Edit>>
-    requires { is_row (S.pod state.now).rows row.path ≡ false }
-    ensures { IfOk result (λ edits. edits.items ≡ creation_edits (S.pod state.now).rows row) }
-{
-    let place = find_place(alloc, state, &row.path)?;
-    creation(alloc, row, place)
-}
-
 /// The content of a body that has one.
 pub(crate) fn content_of(body: RequestBody) -> Content
     requires { spec.IsContentBody body }
@@ -90,27 +80,23 @@ pub(crate) fn content_of(body: RequestBody) -> Content
     }
 }
 
-/// The content of a member by its own name. It is read again where its URI isn't that which it was
-/// read by.
+/// The body by the URI of the member. It is read again where that isn't the URI which it was read
+/// by.
 fn read_member<S: PodState>(
     context: &Context<'_, S>,
+    member: &Path,
     first: &Iri,
-    base: &Iri,
     content: Content,
-) -> Mem<Result<Content, BodyFault>>
-    requires method { context.now.request.method ≡ Post }
-    requires means { Means first.now context.now.path context.now.request
-        (Ok (bodies.Content content)) }
-    ensures { IfOk result (λ read. Means base.now context.now.path context.now.request
-        (spec.content_read read)) }
+) -> Mem<Result<RequestBody, BodyFault>>
+    requires { Means first.now context.now.path context.now.request (Ok (bodies.Content content)) }
+    ensures { IfOk result (Means (uri_of context.now.pod.base member.now) context.now.path
+        context.now.request) }
 {
-    if first == base {
-        return Ok(Ok(content));
+    let base = member.uri(context.alloc, context.state.base())?;
+    if *first == base {
+        return Ok(Ok(RequestBody::Content(content)));
     }
-    match read_body(context.alloc, base, context.path, context.request)? {
-        Ok(body) => Ok(Ok(content_of(body))),
-        Err(fault) => Ok(Err(fault)),
-    }
+    read_body(context.alloc, &base, context.path, context.request)
 }
 
 /// 409 `contains` by the content under the member's own name, or the success: the member is made.
@@ -126,7 +112,8 @@ fn make_member<S: PodState>(
 {
     refuse_containment(context.alloc, member, triples_in(&content))?;
     let row = row_of(context.alloc, member, content, context.origin.stamp.moment)?;
-    let edits = member_edits(context.alloc, context.state, row)?;
+    let place = find_place(context.alloc, context.state, &row.path)?;
+    let edits = creation(context.alloc, row, place)?;
     let response = created(context.alloc, context.state.base(), context.path, member)?;
     change_reply(context, response, edits, bases)
 }
@@ -147,9 +134,8 @@ fn post_read<S: PodState>(
     ensures { Ends result (spec.IsMade context.now.pod context.now.request context.now.path
         context.now.origin bases.items member.now) }
 {
-    let base = member.uri(context.alloc, context.state.base())?;
-    match read_member(context, first, &base, content)? {
-        Ok(content) => make_member(context, bases, member, content),
+    match read_member(context, member, first, content)? {
+        Ok(body) => make_member(context, bases, member, content_of(body)),
         Err(_) => Err(Stop::Refused(refusal(context.alloc, 413, b"entry-size")?)),
     }
 }
@@ -176,13 +162,9 @@ fn find_name<S: PodState>(context: &Context<'_, S>) -> Rank<Path>
         (stem_of (slug context.now.request.fields))
         (links_to_container context.now.request.fields)) }
 {
-    let fields = &context.request.fields;
+    let (state, path, fields) = (context.state, context.path, &context.request.fields);
     let folder = links_to_container(fields);
-    let (state, path) = (context.state, context.path);
-    match name_member(context.alloc, state, path, slug(fields), folder)? {
-        Ok(member) => Ok(member),
-        Err(response) => Err(Stop::Refused(response)),
-    }
+    name_member(context.alloc, state, path, slug(fields), folder)
 }
 
 /// The reply to a granted POST of this content, which was read by the URI of the first candidate.

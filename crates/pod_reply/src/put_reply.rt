@@ -1,7 +1,6 @@
 //! The reply to a PUT, and how a row is made.
 
-ghost use Rattle.std.specs.Prelude.{◌≡◌, IfOk, false};
-ghost use Rattle.pod_edits.specs.Places.{IsPlaceOf};
+ghost use Rattle.std.specs.Prelude.{◌≡◌, IfOk};
 ghost use Rattle.pod_reply.specs.PutReplies as spec;
 ghost use Rattle.pod_reply.specs.Ranks.{Ends};
 ghost use Rattle.pod_reply.specs.Shapes.{IsPlaced};
@@ -12,7 +11,7 @@ use crate::context::Context;
 use crate::obstacles::{is_auxiliary, refuse_condition, refuse_content, refuse_place};
 use crate::replied::{Replied, change_reply};
 use crate::stop::Rank;
-use pod_base::{List, Mem, Moment};
+use pod_base::{List, Mem, Moment, Response};
 use pod_command::{Basis, Content, Edit, Row};
 use pod_edits::{Place, creation, kind_of, replacement};
 use pod_path::Path;
@@ -45,16 +44,37 @@ pub(crate) fn triples_in(content: &Content) -> &[Triple]
     }
 }
 
-/// The edits that make a row at its place.
-fn making_edits<S: PodState>(alloc: Global, state: &S, row: Row, place: Place) -> Mem<List<Edit>>
-    requires { IsPlaceOf (S.pod state.now).rows row.path place }
-    ensures { IfOk result (λ edits. edits.items
-        ≡ spec.making_edits (S.pod state.now) row false) }
+/// 201 for a new row, 204 for one that existed.
+fn made_response<S: PodState>(context: &Context<'_, S>, place: &Option<Place>) -> Mem<Response>
+    requires { IsPlaced context.now.pod.rows context.now.path place.now }
+    ensures { IfOk result (λ response. response ≡ spec.made_response context.now.pod
+        context.now.path (is_row context.now.pod.rows context.now.path)) }
 {
-    if is_auxiliary(&row.path) {
-        replacement(alloc, row)
-    } else {
-        creation(alloc, row, place)
+    let path = context.path;
+    match place {
+        Some(_) => created(context.alloc, context.state.base(), path, path),
+        None => Ok(changed(context.alloc)),
+    }
+}
+
+/// The edits that make a row at its place, or replace the one at its path.
+fn making_edits<S: PodState>(
+    alloc: Global,
+    state: &S,
+    row: Row,
+    place: Option<Place>,
+) -> Mem<List<Edit>>
+    requires { IsPlaced (S.pod state.now).rows row.path place }
+    ensures { IfOk result (λ edits. edits.items ≡ spec.making_edits (S.pod state.now) row
+        (is_row (S.pod state.now).rows row.path)) }
+{
+    match place {
+        Some(place) => if is_auxiliary(&row.path) {
+            replacement(alloc, row)
+        } else {
+            creation(alloc, row, place)
+        },
+        None => replacement(alloc, row),
     }
 }
 
@@ -73,17 +93,9 @@ pub(crate) fn make<S: PodState>(
 {
     let path = context.path;
     let row = row_of(context.alloc, path, content, context.origin.stamp.moment)?;
-    match place {
-        Some(place) => {
-            let response = created(context.alloc, context.state.base(), path, path)?;
-            let edits = making_edits(context.alloc, context.state, row, place)?;
-            change_reply(context, response, edits, bases)
-        }
-        None => {
-            let edits = replacement(context.alloc, row)?;
-            change_reply(context, changed(context.alloc), edits, bases)
-        }
-    }
+    let response = made_response(context, &place)?;
+    let edits = making_edits(context.alloc, context.state, row, place)?;
+    change_reply(context, response, edits, bases)
 }
 
 /// The reply to a granted PUT of this content.

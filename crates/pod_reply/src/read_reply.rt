@@ -13,17 +13,24 @@ use crate::stop::{Rank, Stop};
 use conditional_req::Verdict;
 use pod_access::allow_field;
 use pod_command::Row;
-use pod_representations::{Shown, chosen, read_verdict, represent, show};
+use pod_representations::{chosen, read_verdict, represent, show};
 use pod_responses::{accept_of, not_modified, refusal, upgraded};
 use pod_rows::PodState;
 use request_fields::upgrade_key;
 
-/// 304, 412 `condition`, or the representation, by the verdict on the preconditions.
-fn read_by<S: PodState>(context: &Context<'_, S>, shown: &Shown, verdict: Verdict) -> Rank<Replied>
-    ensures { Ends result (λ reply. reply ≡ unchanged (spec.judged_read context.now.pod
-        context.now.request context.now.path context.now.origin.agent shown.now verdict)) }
+/// 406 `accept`, or, of the offer that the request chooses, 304, 412 `condition` or the
+/// representation by the verdict on the preconditions.
+fn read_chosen<S: PodState>(context: &Context<'_, S>, row: &Row) -> Rank<Replied>
+    ensures { Ends result (λ reply. reply ≡ unchanged (spec.chosen_read context.now.pod
+        context.now.request context.now.path context.now.origin.agent row.now
+        (chosen row.now context.now.request.fields))) }
 {
-    match verdict {
+    let (method, fields) = (context.request.method, &context.request.fields);
+    let Some(media) = chosen(context.alloc, row, fields)? else {
+        return Err(Stop::Refused(refusal(context.alloc, 406, b"accept")?));
+    };
+    let shown = represent(context.alloc, context.state, row, media)?;
+    match read_verdict(context.conditions, method, &shown) {
         Verdict::NotModified => {
             let response = not_modified(context.alloc, &shown.tag, shown.modified)?;
             Err(Stop::Refused(response))
@@ -32,27 +39,10 @@ fn read_by<S: PodState>(context: &Context<'_, S>, shown: &Shown, verdict: Verdic
         Verdict::Go => {
             let path = context.path;
             let granted = allow_field(context.alloc, context.state, path, &context.origin.agent)?;
-            let (method, fields) = (context.request.method, &context.request.fields);
             let base = context.state.base();
-            let response = show(context.alloc, base, path, shown, granted, method, fields)?;
+            let response = show(context.alloc, base, path, &shown, granted, method, fields)?;
             Ok(unchanged(response))
         }
-    }
-}
-
-/// 406 `accept`, or what follows of the offer that the request chooses.
-fn read_chosen<S: PodState>(context: &Context<'_, S>, row: &Row) -> Rank<Replied>
-    ensures { Ends result (λ reply. reply ≡ unchanged (spec.chosen_read context.now.pod
-        context.now.request context.now.path context.now.origin.agent row.now
-        (chosen row.now context.now.request.fields))) }
-{
-    match chosen(context.alloc, row, &context.request.fields)? {
-        Some(media) => {
-            let shown = represent(context.alloc, context.state, row, media)?;
-            let verdict = read_verdict(context.conditions, context.request.method, &shown);
-            read_by(context, &shown, verdict)
-        }
-        None => Err(Stop::Refused(refusal(context.alloc, 406, b"accept")?)),
     }
 }
 

@@ -6,10 +6,11 @@ ghost use Rattle.pod_reply.specs.Ranks.{Ends};
 ghost use Rattle.pod_reply.specs.Replies as spec;
 
 use crate::context::Context;
-use crate::entry_size::bound_entry;
+use crate::entry_size::is_too_large;
 use crate::stop::{Rank, Stop};
 use pod_base::{Body, List, Mem, Method, Response};
 use pod_command::{Basis, Edit, Entry};
+use pod_responses::refusal;
 use pod_rows::PodState;
 
 /// The reply to a request: a response, and an entry where the request changes the pod.
@@ -79,7 +80,7 @@ fn entry_of<S: PodState>(
     })
 }
 
-/// The reply to a change: this response, unless the entry is too large.
+/// The reply to a change: this response, or 413 `entry-size` where the entry is too large.
 pub(crate) fn change_reply<S: PodState>(
     context: &Context<'_, S>,
     response: Response,
@@ -90,11 +91,11 @@ pub(crate) fn change_reply<S: PodState>(
         context.now.origin context.now.request.method context.now.path edits.items bases.items)) }
 {
     let entry = entry_of(context, edits, bases)?;
-    match bound_entry(context.alloc, entry)? {
-        Ok(entry) => Ok(Replied {
-            response,
-            entry: Some(entry),
-        }),
-        Err(refusal) => Err(Stop::Refused(refusal)),
+    if is_too_large(&entry) {
+        return Err(Stop::Refused(refusal(context.alloc, 413, b"entry-size")?));
     }
+    Ok(Replied {
+        response,
+        entry: Some(entry),
+    })
 }

@@ -135,7 +135,7 @@ module _ (pod : Pod) (request : Request) (path : List ℕ) (origin : Origin) (ba
         ranged j sets.unsatisfiable a = (
           tt,
           refused_at _ _ (range_by sets.unsatisfiable a)
-              (told_by verdicts.Go j ∙ ap (λ (x : sets.Asked). unchanged (response_for pod.base path shown (allow_field pod origin.agent path) request.method x)) a),
+              (told_by verdicts.Go j ∙ ap (λ (x : sets.Asked). unchanged (response_for pod.base path shown (allow_field pod origin.agent path) x)) a),
         )
         ranged j (sets.parts list) a = (tt, passed_at _ (range_by (sets.parts list) a) rest)
 

@@ -13,7 +13,6 @@ use Rattle.pod_access.specs.AllowField.{allow_field, modes_at}
 use Rattle.pod_base.specs.declared.agent.Agent.{Agent}
 use Rattle.pod_base.specs.declared.agent.Agent.TheVariants.{Public}
 use Rattle.pod_base.specs.declared.field.Field.{Field}
-use Rattle.pod_base.specs.declared.method.Method.{Method}
 use Rattle.pod_base.specs.declared.moment.Moment.{Moment}
 use Rattle.pod_base.specs.declared.moment.Stamp.{Stamp}
 use Rattle.pod_base.specs.declared.request.Request.{Request}
@@ -146,9 +145,9 @@ multipart_stays body = both (codes "multipart/byteranges; boundary=") (free_boun
 plain_not_modified : (text : List ℕ) (modified : ℕ) → Stays text → AreFieldLines (validators text modified ++ vary ∷ [])
 plain_not_modified text modified h = joined (validators text modified) (vary ∷ []) (validators_are_lines text modified h) refl
 
-module _ (pod : Pod) (path : List ℕ) (shows : Shown) (granted : List ℕ) (method : Method)
+module _ (pod : Pod) (path : List ℕ) (shows : Shown) (granted : List ℕ)
     (normal : norm path ≡ Ok path) (tagged : Stays shows.tag.0) (typed : WellFormed pod → Stays shows.ctype) (told : Stays granted) where
-  whole_shown : IsShown pod (whole_response pod.base path shows granted method)
+  whole_shown : IsShown pod (whole_response pod.base path shows granted)
   whole_shown = record {
     status = refl;
     fields = λ w. shown_are_lines pod.base path (representation shows.ctype shows granted) None (base_stays pod w) (normal_stays path normal) (typed w) tagged told tt;
@@ -176,9 +175,9 @@ module _ (pod : Pod) (path : List ℕ) (shows : Shown) (granted : List ℕ) (met
 module _ (pod : Pod) (request : Request) (asked_by : AskedAgent) (seq : ℕ) (stamp : Stamp) (path : List ℕ) (agent : Agent)
     (normal : norm path ≡ Ok path) (read : is_change request.method ≡ false) where
   range_kind : (shows : Shown) (fields : List Field) → Stays shows.tag.0 → (WellFormed pod → Stays shows.ctype) → (a : sets.Asked)
-      → Kind pod request asked_by seq stamp (unchanged (response_for pod.base path shows (allow_field pod agent path) request.method a))
+      → Kind pod request asked_by seq stamp (unchanged (response_for pod.base path shows (allow_field pod agent path) a))
   range_kind shows fields tagged typed sets.whole =
-      shown _ read (whole_shown pod path shows (allow_field pod agent path) request.method normal tagged typed (granted_stays pod agent path))
+      shown _ read (whole_shown pod path shows (allow_field pod agent path) normal tagged typed (granted_stays pod agent path))
   range_kind shows fields tagged typed sets.unsatisfiable =
       refused _ (record {
         status = refl;
@@ -186,7 +185,7 @@ module _ (pod : Pod) (request : Request) (asked_by : AskedAgent) (seq : ℕ) (st
             (first (codes "Content-Range") (codes "bytes */" ++ decimal (length shows.body)) [] refl (both (codes "bytes */") (decimal (length shows.body)) refl (decimal_stays (length shows.body))) refl);
       })
   range_kind shows fields tagged typed (sets.parts parts) =
-      shown _ read (parts_shown pod path shows (allow_field pod agent path) request.method normal tagged typed (granted_stays pod agent path) parts)
+      shown _ read (parts_shown pod path shows (allow_field pod agent path) normal tagged typed (granted_stays pod agent path) parts)
 
   response_kind : (shows : Shown) → Stays shows.tag.0 → (WellFormed pod → Stays shows.ctype)
       → Kind pod request asked_by seq stamp (unchanged (read_response pod.base path shows (allow_field pod agent path) request.method request.fields))

@@ -8,18 +8,14 @@ choose-requires-clause-rows g c =
 
 pub returns-in-Ok : goal.returns-in-Ok
 returns-in-Ok g c = record {
-  named = record {
-    first = name_same (g.S.PodState.pod c.args.state.now) _
-        (λ path. g.met.S.PodState.rows_are c.args.state.now path) _ _ _ _ c.in-Ok.ensures.path;
-    normal = c.in-Ok.ensures.normal;
-  };
+  first = name_same (g.S.PodState.pod c.args.state.now) _
+      (λ path. g.met.S.PodState.rows_are c.args.state.now path) _ _ _ _ c.in-Ok.ensures.path;
+  normal = c.in-Ok.ensures.normal;
 }
 
 pub returns-in_ok-refuse_name-in-Err : goal.returns-in_ok-refuse_name-in-Err
-returns-in_ok-refuse_name-in-Err g c = record {
-  named = (
-    no_name (g.S.PodState.pod c.args.state.now) _ (λ path. g.met.S.PodState.rows_are c.args.state.now path)
-        _ _ _ c.in-Err.fault c.in-Err.ensures.fault c.in_ok-refuse_name-in-Err.ensures.fault,
-    c.in_ok-refuse_name-in-Err.ensures.response,
-  );
-}
+returns-in_ok-refuse_name-in-Err g c = (
+  no_name (g.S.PodState.pod c.args.state.now) _ (λ path. g.met.S.PodState.rows_are c.args.state.now path)
+      _ _ _ c.in-Err.fault c.in-Err.ensures.fault c.in_ok-refuse_name-in-Err.ensures.fault,
+  c.in_ok-refuse_name-in-Err.ensures.response,
+)

@@ -1,11 +1,13 @@
-use Rattle.std.proofs.Common.{Ok, Err, sym, ◌∙◌}
+use Rattle.std.proofs.Common.{true, false, sym, ap, ◌∙◌}
+use Rattle.pod_reply.specs.Replies.{unchanged}
 use Rattle.pod_reply.proofs.EntryLemmas.{bounded}
 use Rattle.pod_reply.proofs.replied.change_reply.Goals as goal
 
-pub returns-in-Ok : goal.returns-in-Ok
-returns-in-Ok g c =
-    bounded c.args.response c.in_ok-entry.entry _ (Ok c.in-Ok.entry) c.in_ok-entry.ensures (sym c.in-Ok.is ∙ c.in_ok-entry-2.ensures.sized)
+pub returns-then-is_too_large : goal.returns-then-is_too_large
+returns-then-is_too_large g c =
+    ap unchanged c.in_ok-refusal.ensures
+    ∙ bounded c.args.response c.in_ok-entry.entry _ true (sym c.if-is_too_large.true ∙ c.is_too_large.ensures) c.in_ok-entry.ensures
 
-pub returns-in-Err : goal.returns-in-Err
-returns-in-Err g c =
-    bounded c.args.response c.in_ok-entry.entry _ (Err c.in-Err.refusal) c.in_ok-entry.ensures (sym c.in-Err.is ∙ c.in_ok-entry-2.ensures.sized)
+pub returns : goal.returns
+returns g c =
+    bounded c.args.response c.in_ok-entry.entry _ false (sym c.if-is_too_large.false ∙ c.is_too_large.ensures) c.in_ok-entry.ensures
