@@ -94,8 +94,8 @@ fn serve<R: Threads + Sync, G: Gate + Send>(rt: &R, gates: &mut [G])
     thread::for_each_mut(rt, gates, workers, &one);
 }
 
-/// Serves the port of the arguments until all gates are closed.
-pub fn serve_floor(rt: &HostRuntime) -> anyhow::Result<()> {
+/// Serves the port of the arguments by these threads, until all gates are closed.
+pub fn serve_floor<R: Threads + Sync>(rt: &HostRuntime, threads: &R) -> anyhow::Result<()> {
     let Some((port, workers)) = settings(rt) else {
         bail!("the arguments are a port and a number of workers");
     };
@@ -106,6 +106,6 @@ pub fn serve_floor(rt: &HostRuntime) -> anyhow::Result<()> {
     let Ok(mut gates) = listen.open(rt.alloc(), port, workers) else {
         bail!("the port can't be opened");
     };
-    serve(rt, gates.as_mut_slice());
+    serve(threads, gates.as_mut_slice());
     Ok(())
 }

@@ -55,7 +55,7 @@ fn main(rt: HostRuntime) -> anyhow::Result<()> {
     let count: usize = count.and_then(|count| count.parse().ok()).unwrap_or(0);
     match word.as_str() {
         "codec" => code_snapshot(&rt, alloc, true),
-        "floor" => serve_floor(&rt),
+        "floor" => serve_floor(&rt, &rt),
         "graph" => build_graph(&rt, alloc, count, true),
         "pages" => lay_pages(&rt, alloc, count, true),
         "view" => {

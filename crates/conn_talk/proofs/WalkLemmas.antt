@@ -1,14 +1,14 @@
 -- A walk is a session over each list that continues what was seen.
-use Rattle.std.proofs.Common.{◌≡◌, ℕ, ◌+◌, List, [], ◌∷◌, ◌++◌, length, map, Option, IfSome, refl, sym, ap, subst, length-append, ◌∙◌, arith}
+use Rattle.std.proofs.Common.{◌≡◌, ℕ, ◌+◌, List, [], ◌∷◌, ◌++◌, length, map, Option, IfSome, refl, subst, length-append, arith}
 use Rattle.std.specs.List.{AllByRecursion, flat_map}
 use Rattle.std.specs.Option.{option_to_list}
 use mathlib.Core.List.{IsPrefix}
-use Rattle.pod_base.proofs.Prefixes.{prefix_length, prefix_self, prefix_trans}
+use Rattle.pod_base.proofs.Prefixes.{prefix_length, prefix_trans}
 use Rattle.pod_base.specs.declared.heard.Heard.{Heard}
 use Rattle.pod_command.specs.declared.entry.Entry.{Entry}
 use Rattle.pod_core.specs.History.{History, end_of, longer}
 use Rattle.pod_core.specs.Session.{IsClockMoment, IsItem, IsRefused, IsSession, Item, NeverFalls, Outcome, Owes, UpgradesLast, answered, disk_fault, no_memory, places_of, places_on, requests_of}
-use Rattle.conn_talk.specs.Talks.{AreItems, Chain}
+use Rattle.conn_talk.specs.Talks.{AreItems}
 use Rattle.conn_talk.specs.Turns.{Rules}
 use Rattle.conn_talk.specs.Walks.{Turn, Walk}
 use Rattle.conn_talk.proofs.AtEndLemmas.{falls_from, falls_on, longer_again, owes_at_end, owes_longer}
@@ -30,35 +30,6 @@ module _ (kept : History → Type 0) (first conn : ℕ) where
     pub walk_on : (items : List Item) (before mid after : List Entry) → Walk kept first conn may_give before items mid → IsPrefix mid after → Walk kept first conn may_give before items after
     walk_on [] before mid after w p = prefix_trans before mid after w p
     walk_on (item ∷ items) before mid after w p = (w.0, w.1, walk_on items w.0 mid after w.2 p)
-
-    turn_from : (clock : ℕ) (before mid after : List Entry) (item : Item) (o : Outcome) → IsPrefix before mid → Turn kept first conn clock mid item o after → Turn kept first conn clock before item o after
-    turn_from clock before mid after item (answered place reply) p t = record {
-      entries = t.entries;
-      seen_before = prefix_trans before mid t.entries p t.seen_before;
-      replies = t.replies;
-      place_is = t.place_is;
-      seen_after = t.seen_after;
-    }
-    turn_from clock before mid after item no_memory p t = prefix_trans before mid after p t
-    turn_from clock before mid after item disk_fault p t = record {
-      changes = t.changes;
-      entries = t.entries;
-      seen_before = prefix_trans before mid t.entries p t.seen_before;
-      reply = t.reply;
-      entry = t.entry;
-      replies = t.replies;
-      entry_is = t.entry_is;
-      seen_after = prefix_trans before mid after p t.seen_after;
-    }
-
-    pub walk_from : (items : List Item) (before mid after : List Entry) → IsPrefix before mid → Walk kept first conn may_give mid items after → Walk kept first conn may_give before items after
-    walk_from [] before mid after p w = prefix_trans before mid after p w
-    walk_from (item ∷ items) before mid after p w = (w.0, (w.1.0, w.1.1, turn_from w.1.0 before mid w.0 item item.outcome p w.1.2), w.2)
-
-    -- two walks, one after the other
-    pub walk_append : (xs ys : List Item) (before mid after : List Entry) → Walk kept first conn may_give before xs mid → Walk kept first conn may_give mid ys after → Walk kept first conn may_give before (xs ++ ys) after
-    walk_append [] ys before mid after w v = walk_from ys before mid after w v
-    walk_append (x ∷ xs) ys before mid after w v = (w.0, w.1, walk_append xs ys w.0 mid after w.2 v)
 
     -- ---- over one history that was kept
     module _ (history : History) (held : kept history) (at : end_of history ≡ first) where
@@ -100,16 +71,6 @@ module _ (kept : History → Type 0) (first conn : ℕ) where
       walk_places [] before after w = omega (arith, prefix_length before after w, length-append history.entries before, length-append history.entries after)
       walk_places (item ∷ items) before after w =
           climbs w.1.0 before w.0 item item.outcome w.1.2 (flat_map places_of items) (end_of (longer history after)) (walk_places items w.0 after w.2)
-
--- the items of a connection of which each turn is one of a walk, where `name` stays the same
-module _ {A N : Type 0} (rules : Rules A) (kept : History → Type 0) (first : ℕ) (seen : A → List Entry) (name : A → N)
-    (turns_are : (clock : ℕ) (old : A) (item : Item) (new : A) → rules.turns rules.conn clock old item new → (name old ≡ name new) × Turn kept first rules.conn clock (seen old) item item.outcome (seen new)) where
-  pub chain_is_walk : (items : List Item) (old new : A) → Chain rules old items new → (name old ≡ name new) × Walk kept first rules.conn rules.may_give (seen old) items (seen new)
-  chain_is_walk [] old new c = (ap name (sym c), subst (λ a. IsPrefix (seen old) (seen a)) (sym c) (prefix_self (seen old)))
-  chain_is_walk (item ∷ items) old new c =
-      let turn = turns_are c.1.0 old item c.0 c.1.2 in
-      let more = chain_is_walk items c.0 new c.2 in
-      (turn.0 ∙ more.0, (seen c.0, (c.1.0, c.1.1, turn.1), more.1))
 
 -- the session of a walk, over each history that was kept and each list that continues what was seen
 pub walk_is_session : {A : Type 0} (rules : Rules A) (kept : History → Type 0) (first : ℕ) (events : List Heard) (items : List Item) (refusal : Option ℕ) (before after : List Entry) (old new : A)

@@ -1,11 +1,10 @@
 -- What ends the messages of a text, and what stays open.
-use Rattle.std.proofs.Common.{◌≡◌, inl, inr, Bool, true, false, ℕ, ◌+◌, ◌<◌, if◌then◌else◌, List, [], ◌∷◌, ◌++◌, length, drop, refl, sym, subst, ◌∙◌, arith, append_assoc}
-use Rattle.std.specs.List.{AllByRecursion}
+use Rattle.std.proofs.Common.{◌≡◌, inl, inr, Bool, true, false, ℕ, ◌+◌, ◌<◌, if◌then◌else◌, List, [], ◌∷◌, ◌++◌, drop, refl, sym, subst, ◌∙◌, arith, append_assoc}
 use Rattle.pod_base.specs.declared.request.Request.{Request}
 use Rattle.pod_base.specs.declared.heard.Heard.{Heard}
 use Rattle.pod_base.specs.declared.heard.Heard.TheVariants as heard
 use Rattle.http_head.specs.BodyFraming.{framing}
-use Rattle.http_conn.specs.Messages.{IsBadMessage, bad_head, bad_body, refusal_status, IsPartialMessage, in_head, in_body, IsOpen, IsLastRequest, NothingAfterEnd, StaysOpen, Messages, events_of, request_events, interim_of, waits_for, closes_connection}
+use Rattle.http_conn.specs.Messages.{IsBadMessage, bad_head, bad_body, refusal_status, IsPartialMessage, in_head, in_body, IsLastRequest, NothingAfterEnd, StaysOpen, Messages, request_events, interim_of, waits_for, closes_connection}
 use Rattle.http_conn.specs.declared.events.TheConstants.{REQUEST_LIMIT}
 use Rattle.http_conn.proofs.Parses.{Parses, partly, badly, last, next, reads_of}
 
@@ -66,19 +65,6 @@ open_one : (n : ℕ) (r : Request) (events : List Heard) → closes_connection r
 open_one n r events stays few h =
     subst (StaysOpen n) (sym (append_assoc (interim_of r.minor r.fields) (heard.Request r ∷ []) events))
     (open_behind n (waits_for r.minor r.fields (framing r.minor r.fields)) (heard.Request r ∷ events) (not_end n r stays few, h))
-
-open_requests : (requests : List Request) (n : ℕ) (events : List Heard) → AllByRecursion (λ r. closes_connection r ≡ false) requests → n + length requests < REQUEST_LIMIT
-    → StaysOpen (n + length requests) events → StaysOpen n (events_of requests ++ events)
-open_requests [] n events stays few h = subst (λ i. StaysOpen i events) (omega arith) h
-open_requests (r ∷ requests) n events stays few h =
-    let count : n + length (r ∷ requests) ≡ (n + 1) + length requests = omega arith in
-    let behind = open_requests requests (n + 1) events stays.1 (omega (arith, few, count)) (subst (λ i. StaysOpen i events) count h) in
-    subst (StaysOpen n) (sym (append_assoc (request_events r) (events_of requests) events)) (open_one n r (events_of requests ++ events) stays.0 (omega (arith, few, count)) behind)
-
--- The events of an unfinished text stay open.
-pub open_of_unfinished : (requests : List Request) (left : List ℕ) (events : List Heard) → IsOpen requests → IsPartialMessage left events → StaysOpen 0 (events_of requests ++ events)
-open_of_unfinished requests left events stays p =
-    open_requests requests 0 events stays.stays (omega (arith, stays.few)) (open_partial (0 + length requests) left events p)
 
 closed_rest : (n : ℕ) (text : List ℕ) (events : List Heard) (rest : ℕ) → Parses n text events rest → (StaysOpen n events → ⊥) → rest ≡ 0
 closed_rest n text _ _ (partly events p) closed = absurd (closed (open_partial n text events p))

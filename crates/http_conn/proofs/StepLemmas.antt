@@ -370,18 +370,11 @@ body_refused partial bytes old_events new fault bad new_is text before s =
     (bad_body s.head partial.head s.form fault (head_stays s.left bytes s.head partial.head s.form s.begins) (subst (λ t. IsFault s.form t fault) (sym cut) (bad s.form (drop s.head s.left) s.represents)))
     new_is
 
--- no event follows
-pub over_goes : (bytes : List ℕ) (old_events : List Heard) → StepsTo Closed old_events bytes Closed old_events
-over_goes bytes old_events text before s more = subst (λ t. Messages t (before ++ old_events) 0) (sym (append_assoc text bytes more)) (s (bytes ++ more))
-
 -- one step after others
 pub goes_on : (old next new : ParserState) (old_events next_events new_events : List Heard) (front bytes : List ℕ) → StepsTo old old_events front next next_events → StepsTo next next_events bytes new new_events
     → StepsTo old old_events (front ++ bytes) new new_events
 goes_on old next new old_events next_events new_events front bytes a b text before s =
     subst (λ t. Represents new t (before ++ new_events)) (append_assoc text front bytes) (b (text ++ front) before (a text before s))
-
-pub goes_nowhere : (stage : ParserState) (old_events : List Heard) → StepsTo stage old_events [] stage old_events
-goes_nowhere stage old_events text before s = subst (λ t. Represents stage t (before ++ old_events)) (sym (append-nil text)) s
 
 -- the head with the bytes up to its end
 pub front_of_kept : (kept window : List ℕ) (n : ℕ) → length kept ≤ n → take n (kept ++ window) ≡ kept ++ take (n - length kept) window

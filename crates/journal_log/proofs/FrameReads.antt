@@ -10,13 +10,6 @@ use Rattle.journal_log.proofs.Splits.{first_is, rest_is, length_be, length_sized
 pub open_is_no_end : (bytes rest : List ℕ) (gate : ℕ) → bytes ≡ gate ∷ rest → gate ≢ 0 → BeginsWithClosedGate bytes → ⊥
 open_is_no_end bytes rest gate is other (more, end) = other (first_is gate 0 _ _ (sym is ∙ end))
 
--- no bytes have no gate
-pub none_is_broken : (bytes : List ℕ) → length bytes ≡ 0 → IsBroken bytes
-none_is_broken bytes none = (
-  λ (rest, is). omega (arith, none, ap length is),
-  λ body frame. omega (arith, none, ap length frame.spells),
-)
-
 -- ten bytes are the least that an open gate and its record have
 pub short_is_broken : (bytes rest : List ℕ) (gate : ℕ) → bytes ≡ gate ∷ rest → gate ≢ 0 → length bytes < 10 → IsBroken bytes
 short_is_broken bytes rest gate is other few = (

@@ -46,16 +46,6 @@ module _ (content : Option (List ℕ)) (head : Head) (bodies : List (List ℕ)) 
 pub found_stands : (content : Option (List ℕ)) (found : Found) → IsFound content found → IfVisible content (Stands found.head.format found.head.epoch found.records.items)
 found_stands content found is = gates_stand content found.head found.records.items found.end found.torn_gate is.gates
 
--- with a closed gate behind the records the journal is at rest
-pub clean_whole : (images : List ℕ → Type 0) (content : Option (List ℕ)) (head : Head) (bodies : List (List ℕ)) (end : ℕ)
-    → EachImage images (λ c. content ≡ Some c) → IsReadToEnd content head bodies end → IsClean images (state_at head end) bodies
-clean_whole images content head bodies end durable whole = record {
-  prefix = prefix_of head bodies;
-  is_prefix = whole.is_prefix;
-  closed = of_each images content _ durable whole.visible;
-  certain = refl;
-}
-
 module _ {D : Type 0} (image : D → List ℕ → Type 0) (moment : D → ℕ) (left_since : D → ℕ → List ℕ → Type 0) (content : Option (List ℕ)) (head : Head) (bodies : List (List ℕ)) (end at : ℕ) (old new : D)
     (durable : EachImage (image old) (λ c. content ≡ Some c)) (found : HasTornGate content head bodies end at) where
   pub gated : EachImage (image old) (IsGated (prefix_of head found.before) found.gate (framed_of found.last))

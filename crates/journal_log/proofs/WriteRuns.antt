@@ -1,6 +1,5 @@
 -- What a write leaves, where each image had something before it.
-use Rattle.std.proofs.Common.{◌≡◌, ◌≤◌, ℕ, List, Option, Some, None, refl, sym, ◌∙◌, subst, rules}
-use Rattle.std.specs.Option.{option_map}
+use Rattle.std.proofs.Common.{◌≡◌, ◌≤◌, ℕ, List, Option, Some, None, sym, subst, rules}
 use Rattle.pod_disk.specs.Disk.{EachImage, Torn, Unchanged, Passes, LeavesOnly, overwritten}
 use Rattle.pod_disk.proofs.Moments.{call, joined, weaker, holds_now}
 use Rattle.journal_log.specs.Writes.{IsTornFrom, IsOverwritten}
@@ -35,12 +34,6 @@ some_is is = search rules
 
 none_is : {X : Type 0} {x : X} → Some x ≡ None → ⊥
 none_is is = search rules
-
--- after a write and a sync each image is what the disk held, with the bytes
-pub over_from : (images : List ℕ → Type 0) (at : ℕ) (bytes : List ℕ) (old mid new : Option (List ℕ)) → mid ≡ option_map (overwritten at bytes) old → new ≡ mid
-    → EachImage images (λ c. new ≡ Some c) → EachImage images (IsOverwritten old at bytes)
-over_from images at bytes None mid new written same durable c now = absurd (none_is (sym (durable c now) ∙ same ∙ written))
-over_from images at bytes (Some b) mid new written same durable c now = (b, refl, some_is (sym (durable c now) ∙ same ∙ written))
 
 -- what the whole write makes of what each image had
 pub over_run : {D : Type 0} (content : D → Option (List ℕ)) (image : D → List ℕ → Type 0) (old new : D) (at : ℕ) (bytes : List ℕ) (P Q : List ℕ → Type 0)

@@ -1,9 +1,9 @@
 -- A record as it is written.
 use Rattle.std.proofs.Common.{◌≡◌, ℕ, ◌+◌, ◌-◌, ◌<◌, ◌^◌, List, [], ◌∷◌, ◌++◌, length, take, drop, sym, ◌∙◌, ap, arith, append_assoc, length-append}
-use Rattle.std.proofs.lemmas.List.{take_at, drop_at, length-take, length-drop}
+use Rattle.std.proofs.lemmas.List.{take_at, drop_at}
 use Rattle.std.specs.Int.{to_be_bytes, w64}
 use Rattle.journal_log.specs.Frames.{sized, framed_of}
-use Rattle.journal_log.specs.CleanJournal.{body_of, IsShort}
+use Rattle.journal_log.specs.CleanJournal.{body_of}
 use Rattle.journal_log.proofs.Splits.{length_be, length_sized}
 
 pub length_framed : (body : List ℕ) → length (framed_of body) ≡ 9 + length body
@@ -24,6 +24,3 @@ unfolding sized
 is_framed body bytes is small =
     let whole : bytes ≡ framed_of body = is in
     (whole ∙ ap framed_of (sym (ap body_of whole ∙ body_is body)), small)
-
-pub short_body : (bytes : List ℕ) → length bytes < 2 ^ 63 → IsShort (body_of bytes)
-short_body bytes short = omega (arith, short, length-take (length bytes - 9) (drop 8 bytes), length-drop 8 bytes)

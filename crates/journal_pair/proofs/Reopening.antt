@@ -1,8 +1,7 @@
 -- What images are, and what they stay while they are opened.
 use Rattle.std.proofs.Common.{◌≡◌, inl, inr, ⊎_elim, ℕ, ◌+◌, ◌<◌, ◌^◌, List, [], ◌∷◌, ◌++◌, length, All, true, refl, sym, subst, arith}
 use Rattle.std.proofs.lemmas.List.{append-nil}
-use Rattle.pod_disk.specs.Disk.{EachImage, LeavesOnly}
-use Rattle.pod_disk.proofs.Moments.{weaker}
+use Rattle.pod_disk.specs.Disk.{EachImage}
 use Rattle.journal_log.specs.Classes.{HasClass}
 use Rattle.journal_log.specs.CleanJournal.{IsShort, IsJournalPrefix, IsClean, IsInDoubt, IsWhileAppended}
 use Rattle.journal_log.specs.Frames.{framed_of, opened}
@@ -26,18 +25,10 @@ use Rattle.journal_pair.proofs.Classing.{one_epoch, other_class}
 pub through_weaker : (P Q : List ℕ → Type 0) → ((c : List ℕ) → P c → Q c) → (c : List ℕ) → ThroughMending P c → ThroughMending Q c
 through_weaker P Q leads c has x opened = leads x (has x opened)
 
-pub through_now : (P : List ℕ → Type 0) (c : List ℕ) → ThroughMending P c → P c
-through_now P c has = has c (inl refl)
-
 -- by what it is while its last gate is written
 pub through : (P : List ℕ → Type 0) (c : List ℕ) → P c → ((x : List ℕ) → MendsTo c x → P x) → ThroughMending P c
 through P c is mended x (inl same) = subst P (sym same) is
 through P c is mended x (inr n) = mended x n
-
--- what a run leaves
-pub through_run : {D : Type 0} (image : D → List ℕ → Type 0) (moment : D → ℕ) (left_since : D → ℕ → List ℕ → Type 0) (old new : D) (P Q : List ℕ → Type 0) → ((c : List ℕ) → P c → Q c)
-    → LeavesOnly moment left_since old new (ThroughMending P) → LeavesOnly moment left_since old new (ThroughMending Q)
-through_run image moment left_since old new P Q leads run = weaker image moment left_since old new (ThroughMending P) (ThroughMending Q) (through_weaker P Q leads) run
 
 module _ (c x : List ℕ) (n : MendsTo c x) where
   was_open : (bodies : List (List ℕ)) → Stands n.format n.epoch (bodies ++ n.body ∷ []) c → HasClass (Open n.epoch) c

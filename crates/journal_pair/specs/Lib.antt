@@ -4,6 +4,7 @@ pub mod PairState
 pub mod PairJournal
 pub mod Checkpointed
 pub mod PairMoments
+pub mod Repaired
 pub mod Causes
 pub mod PairLaws
 pub mod Doubts

@@ -43,6 +43,15 @@ module _ {D : Type 0} (image : D → List ℕ → Type 0) (first second : D) (pa
   abbrev pub IsPairInDoubt : List (List ℕ) → List ℕ → Type 0
   IsPairInDoubt bodies body = IsAppendInDoubt bodies body ⊎ IsCheckpointInDoubt bodies body
 
+  -- of some records
+  abbrev pub HasGateInDoubt : Type 0
+  HasGateInDoubt = (bodies : List (List ℕ)) × (body : List ℕ) × IsPairInDoubt bodies body
+
+  -- of whichever records
+  abbrev pub ForEachInDoubt : (List (List ℕ) → List ℕ → Type 0) → Type 0
+  ForEachInDoubt P = (bodies : List (List ℕ)) (body : List ℕ)
+      → IsPairInDoubt bodies body → P bodies body
+
   -- Each crash image of the disk beside the active journal is passed over.
   abbrev pub IsPassedBeside : Type 0
   IsPassedBeside = EachImage (image (other_of pair.active first second))

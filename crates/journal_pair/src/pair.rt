@@ -5,17 +5,18 @@ ghost use Rattle.std.specs.Prelude.{IfOk, OnOk, OnErr, IsTrue, true, false};
 ghost use Rattle.pod_io.specs.Visible.{IfVisible};
 ghost use Rattle.pod_disk.specs.Disk.{EachImage, LeavesOnly};
 ghost use Rattle.journal_log.specs.CleanJournal.{IsWhileAppended};
-ghost use Rattle.journal_log.specs.Frames.{framed_of, opened};
-ghost use Rattle.journal_log.specs.Gates.{IsOpening};
-ghost use Rattle.journal_log.specs.Heads.{encoded_head, IsClosedHead};
+ghost use Rattle.journal_log.specs.Heads.{IsClosedHead};
 ghost use Rattle.journal_log.specs.Images.{IsEither};
 ghost use Rattle.journal_log.specs.Renewing.{IsNewJournal};
 ghost use Rattle.journal_pair.specs.Sides.{active_of, other_of};
 ghost use Rattle.journal_pair.specs.Stores.{StoreStandsEither, StoreStandsBoth};
 ghost use Rattle.journal_pair.specs.PairState.{IsDue, len_of};
-ghost use Rattle.journal_pair.specs.PairJournal.{IsPairClean, IsAppendInDoubt, IsCheckpointInDoubt};
-ghost use Rattle.journal_pair.specs.PairJournal.{IsPairInDoubt, IsPassedBeside, IsLongBeside};
+ghost use Rattle.journal_pair.specs.PairJournal.{ForEachInDoubt, HasGateInDoubt, IsAppendInDoubt};
+ghost use Rattle.journal_pair.specs.PairJournal.{IsLongBeside, IsPairClean, IsPairInDoubt};
+ghost use Rattle.journal_pair.specs.PairJournal.{IsPassedBeside};
 ghost use Rattle.journal_pair.specs.PairMoments.{LeavesPairs};
+ghost use Rattle.journal_pair.specs.Repaired.{AppendLeaves, AppendLeavesPairs, CheckpointLeaves};
+ghost use Rattle.journal_pair.specs.Repaired.{CheckpointLeavesPairs, IsOpeningLast};
 ghost use Rattle.journal_pair.specs.Causes.{PairCounts};
 
 use crate::on_side::{append_on, repair_on, shut_beside};
@@ -202,38 +203,21 @@ impl Pair {
     /// pair of crash images stands for what it stood for before, with the record after that gate or
     /// without, and at `Ok` for the records without it.
     pub fn repair<D: Disk>(&mut self, first: &mut D, second: &mut D) -> Result<(), DiskFault>
-        requires { (bodies : List (List ℕ)) × (body : List ℕ)
-            × IsPairInDoubt D.image first.old second.old self.old bodies body }
-        ensures append_moments { (bodies : List (List ℕ)) (body : List ℕ)
-            → IsAppendInDoubt D.image first.old second.old self.old bodies body
-            → LeavesOnly D.moment D.left_since
-            (active_of self.old.active first.old second.old)
-            (active_of self.old.active first.new second.new)
-            (IsEither self.old.journal.format self.old.journal.epoch bodies body) }
-        ensures append_gates { (bodies : List (List ℕ)) (body : List ℕ)
-            → IsAppendInDoubt D.image first.old second.old self.old bodies body
-            → LeavesOnly D.moment D.left_since
-            (active_of self.old.active first.old second.old)
-            (active_of self.old.active first.new second.new)
-            (IsOpening (encoded_head self.old.journal.format self.old.journal.epoch
-            ++ opened bodies) (framed_of body)) }
-        ensures checkpoint_moments { (bodies : List (List ℕ)) (body : List ℕ)
-            → IsCheckpointInDoubt D.image first.old second.old self.old bodies body
-            → LeavesOnly D.moment D.left_since
-            (other_of self.old.active first.old second.old)
-            (other_of self.old.active first.new second.new)
-            (IsNewJournal (self.old.journal.epoch + 1) body) }
-        ensures append_pairs { (bodies : List (List ℕ)) (body : List ℕ)
-            → IsAppendInDoubt D.image first.old second.old self.old bodies body
-            → IsPassedBeside D.image first.old second.old self.old
-            → LeavesPairs D.moment D.left_since first.old second.old first.new second.new
-            (StoreStandsEither self.old.active self.old.journal.format self.old.journal.epoch
-            bodies body) }
-        ensures checkpoint_pairs { (bodies : List (List ℕ)) (body : List ℕ)
-            → IsCheckpointInDoubt D.image first.old second.old self.old bodies body
-            → LeavesPairs D.moment D.left_since first.old second.old first.new second.new
-            (StoreStandsBoth self.old.active self.old.journal.format self.old.journal.epoch
-            bodies body) }
+        requires { HasGateInDoubt D.image first.old second.old self.old }
+        ensures append_moments { AppendLeaves D.image D.moment D.left_since first.old second.old
+            first.new second.new self.old
+            (IsEither self.old.journal.format self.old.journal.epoch) }
+        ensures append_gates { AppendLeaves D.image D.moment D.left_since first.old second.old
+            first.new second.new self.old
+            (IsOpeningLast self.old.journal.format self.old.journal.epoch) }
+        ensures checkpoint_moments { CheckpointLeaves D.image D.moment D.left_since first.old
+            second.old first.new second.new self.old (IsNewJournal (self.old.journal.epoch + 1)) }
+        ensures append_pairs { AppendLeavesPairs D.image D.moment D.left_since first.old second.old
+            first.new second.new self.old
+            (StoreStandsEither self.old.active self.old.journal.format self.old.journal.epoch) }
+        ensures checkpoint_pairs { CheckpointLeavesPairs D.image D.moment D.left_since first.old
+            second.old first.new second.new self.old
+            (StoreStandsBoth self.old.active self.old.journal.format self.old.journal.epoch) }
         ensures active_kept { self.old.checkpoint ≡ true
             → active_of self.old.active first.new second.new
             ≡ active_of self.old.active first.old second.old }
@@ -243,12 +227,10 @@ impl Pair {
         ensures active { self.new.active ≡ self.old.active }
         ensures format { self.new.journal.format ≡ self.old.journal.format }
         ensures epoch { self.new.journal.epoch ≡ self.old.journal.epoch }
-        ensures repaired { OnOk result ((bodies : List (List ℕ)) (body : List ℕ)
-            → IsPairInDoubt D.image first.old second.old self.old bodies body
-            → IsPairClean D.image first.new second.new self.new bodies) }
-        ensures fault { OnErr result ((bodies : List (List ℕ)) (body : List ℕ)
-            → IsPairInDoubt D.image first.old second.old self.old bodies body
-            → IsPairInDoubt D.image first.new second.new self.new bodies body) }
+        ensures repaired { OnOk result (ForEachInDoubt D.image first.old second.old self.old
+            (λ bodies body. IsPairClean D.image first.new second.new self.new bodies)) }
+        ensures fault { OnErr result (ForEachInDoubt D.image first.old second.old self.old
+            (λ bodies body. IsPairInDoubt D.image first.new second.new self.new bodies body)) }
         ensures fault_kind { OnErr result (self.new.checkpoint ≡ self.old.checkpoint) }
         ensures append_passed { self.old.checkpoint ≡ false
             → IsPassedBeside D.image first.old second.old self.old

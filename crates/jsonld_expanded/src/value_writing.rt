@@ -90,7 +90,7 @@ fn put_tagged(writer: &mut Writer, lexical: &str, lang: &str) -> Mem<()>
 }
 
 /// Whether a literal of this datatype is written without it.
-#[tactic(auto, unfolding(jsonld_expanded::specs::Vocabulary::xsd_string))]
+#[tactic(auto, unfolding(crate::specs::Vocabulary::xsd_string))]
 pub(crate) fn is_string(datatype: &str) -> bool
     ensures { result ≡ bytes_eq datatype.now xsd_string }
 {
@@ -140,7 +140,7 @@ fn is_named(term: &Term) -> bool
 }
 
 /// Whether the predicate of this IRI says types.
-#[tactic(auto, unfolding(jsonld_expanded::specs::Vocabulary::rdf_type))]
+#[tactic(auto, unfolding(crate::specs::Vocabulary::rdf_type))]
 fn says_types(predicate: &str) -> bool
     ensures { result ≡ bytes_eq predicate.now rdf_type }
 {

@@ -98,10 +98,6 @@ module _ {D : Type 0} (image : D → List ℕ → Type 0) (count : D → ℕ) (k
         status = is.status;
       }
 
--- the version of a keeper, by its parts
-pub version_same : {D : Type 0} (version : VersionState) (keeper : KeeperState D) → version.pod ≡ keeper.pod → version.next ≡ keeper.next → version.effects ≡ keeper.effects → version.oldest ≡ keeper.oldest → version ≡ version_in keeper
-version_same version keeper pod next effects oldest = λ i. record { pod = pod i; next = next i; effects = effects i; oldest = oldest i }
-
 some_of : {A : Type 0} (o : Option A) → IsSome o → (x : A) × (o ≡ Some x)
 some_of None is = absurd (cc is)
 some_of (Some x) is = (x, refl)

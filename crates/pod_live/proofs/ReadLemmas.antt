@@ -29,15 +29,6 @@ and_false false b is = refl
 no_entry : (request : Request) (reply : Reply) → is_change request.method ≡ false → IsComplete request.method reply → reply.entry ≡ None
 no_entry request reply reads complete = none_of reply.entry (complete ∙ and_false _ _ reads)
 
-pub version_reply : (version : VersionState) (request : Request) (asked : AskedAgent) (stamp : Stamp) (reply : Reply) → is_change request.method ≡ false → IsReply version.pod request asked version.next stamp reply
-    → IsComplete request.method reply → IsVersionReply version request asked stamp reply.response
-version_reply version request asked stamp reply reads is complete = record {
-  reply = reply;
-  is = is;
-  response_is = refl;
-  no_entry = no_entry request reply reads complete;
-}
-
 -- at the version after the entries that were seen
 pub read_at : (kept : History → Type 0) (opened : VersionState) (ends : (history : History) → kept history → IsHistory history × (version_of history ≡ opened)) (seen : List Entry) (version : VersionState)
     (request : Request) (asked : AskedAgent) (stamp : Stamp) (response : Response) → version ≡ states_after opened seen → IsVersionReply version request asked stamp response → ReadAt kept seen request asked stamp response

@@ -1,8 +1,6 @@
 -- A run of a keeper that is served.
-use Rattle.std.proofs.Common.{◌≡◌, ◌⊎◌, inr, ℕ, Bool, List, [], ◌∷◌, Option, refl, ap, arith}
-use Rattle.journal_log.specs.declared.fault.OpenFault.{OpenFault}
+use Rattle.std.proofs.Common.{◌≡◌, inr, ℕ, Bool, List, [], ◌∷◌, Option, refl, ap, arith}
 use Rattle.journal_log.specs.declared.fault.OpenFault.TheVariants as faulty
-use Rattle.pod_base.specs.Counts.{CountIncreased}
 use Rattle.pod_command.specs.declared.entry.Entry.{Entry}
 use Rattle.pod_core.specs.History.{History, longer}
 use Rattle.pod_core.specs.Session.{Item, entries_of}
@@ -15,8 +13,6 @@ use Rattle.conn_talk.specs.declared.agents.Agents.{Agents}
 use Rattle.pod_pipe.specs.declared.status.PipeEnd.{PipeEnd}
 use Rattle.pod_pipe.specs.declared.status.PipeEnd.TheVariants.{Peer, Cut, Closed, Limit, Upgraded, Bad, ReadFault, WriteFault, NoMemory, ReadLimit}
 use Rattle.pod_pipe.proofs.Weaker.{pipes_weaker, session_weaker}
-use Rattle.pod_records.specs.OpenedStores.{HasPodCause}
-use Rattle.journal_log.specs.Refusals.{open_status}
 use Rattle.pod_pipe.specs.StoreRuns.{RunsKeeper, Streams}
 use Rattle.pod_pipe.specs.StoredPods.{LeavesKeeper, stored_faults}
 use Rattle.pod_pipe.specs.Tables.{IsAsked, TokenSource}
@@ -90,10 +86,3 @@ is_write_fault (Cut rest) is = absurd (omega (arith, is))
 is_write_fault (Bad status) is = absurd (omega (arith, is))
 is_write_fault ReadLimit is = absurd (omega (arith, is))
 is_write_fault ReadFault is = absurd (omega (arith, is))
-
--- the one refusal of status 6 has its cause
-pub disk_refusal : (first second : Option (List ℕ)) (a a_new b b_new : ℕ) (fault : OpenFault) → open_status fault ≡ 6 → HasPodCause first second a a_new b b_new fault → CountIncreased a a_new ⊎ CountIncreased b b_new
-disk_refusal first second a a_new b b_new faulty.DiskFault is cause = cause
-disk_refusal first second a a_new b b_new faulty.Empty is cause = absurd (omega (arith, is))
-disk_refusal first second a a_new b b_new (faulty.Damaged side at) is cause = absurd (omega (arith, is))
-disk_refusal first second a a_new b b_new faulty.NoMemory is cause = absurd (omega (arith, is))

@@ -19,7 +19,6 @@ use Rattle.pod_serve.specs.declared.connection_end.ConnEnd.TheVariants as ends
 use Rattle.pod_serve.specs.declared.desk.DeskEnd.{DeskEnd}
 use Rattle.pod_serve.specs.declared.desk.DeskEnd.TheVariants.{GateEnded, GateFailed, NoMemory}
 use Rattle.pod_serve.specs.declared.desk.Next.TheVariants.{Over}
-use Rattle.pod_serve.specs.declared.desk.TheConstants.{CONNECTION_LIMIT}
 
 abbrev pub number_after : {X : Type 0} → ℕ → ℕ → List X → ℕ
 number_after number step [] = number
@@ -155,15 +154,6 @@ module _ (kept : History → Type 0) (first : ℕ) (may_give : ℕ → Type 0) (
         left_of GateEnded o = inl (o.1 ∙ ap next_count s.ended)
         left_of GateFailed o = inr (inr (o.1 ∙ s.ended, λ below. omega (arith, s.faults, o.2 below)))
         left_of NoMemory o = absurd o
-
-    -- it gave as many as a desk may have
-    pub all_given : (told : DeskEnd) → count ≡ CONNECTION_LIMIT → told ≡ (if starved then NoMemory else GateEnded) → DeskServed kept first may_give asking view step begun told before now old gate
-    all_given told all is =
-        subst (λ e. DeskServed kept first may_give asking view step begun e before now old gate) (sym is)
-        (elim starved as (λ b. starved ≡ b → DeskServed kept first may_give asking view step begun (if b then NoMemory else GateEnded) before now old gate) [
-          | true ↦ λ e. served_so NoMemory gate refl refl (s.poor e, inr (inl (s.count_is ∙ all, s.ended)))
-          | false ↦ λ e. served_so GateEnded gate refl refl (s.fine e, inr (s.count_is ∙ all, s.ended))
-        ] refl)
 
 -- ---- many desks
 

@@ -108,12 +108,6 @@ total_is f xs = is_sum_by (total f) f refl (λ _ _. refl) xs
 sum_first : {X : Type 0} (xs : List X) (x : X) (f : X → ℕ) → sum_by f (x ∷ xs) ≡ f x + sum_by f xs
 sum_first xs x f = sym (total_is f (x ∷ xs)) ∙ ap (λ n. f x + n) (total_is f xs)
 
-pub each_length : {A B : Type 0} (R : A → B → Type 0) (xs : List A) (ys : List B) → EachTo R xs ys → length xs ≡ length ys
-each_length R [] [] h = refl
-each_length R [] (y ∷ ys) h = absurd h
-each_length R (x ∷ xs) [] h = absurd h
-each_length R (x ∷ xs) (y ∷ ys) h = omega (arith, each_length R xs ys h.1)
-
 module _ (kept : History → Type 0) (first : ℕ) (may_give : ℕ → Type 0) (asking : Request → AskedAgent) {D G C S : Type 0} (image : D → List ℕ → Type 0) (faults : D → ℕ) (link_view : C → LinkView) (gate_view : G → GateView C)
     (session : S → Visit) (gate : S → G) (told : S → Option DeskEnd) (list : List Entry) (step : ℕ) where
   -- a desk after it was served, and after the store was closed

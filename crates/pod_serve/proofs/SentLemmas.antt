@@ -1,5 +1,5 @@
 -- Texts that a link sends.
-use Rattle.std.proofs.Common.{◌≡◌, ℕ, zero, suc, ◌+◌, ◌-◌, ◌≤◌, List, [], ◌∷◌, ◌++◌, length, take, drop, Option, Some, None, Ok, Err, refl, sym, ap, subst, append_assoc, ◌∙◌, arith}
+use Rattle.std.proofs.Common.{◌≡◌, ℕ, ◌+◌, ◌-◌, List, [], ◌++◌, length, take, drop, Option, Some, None, Ok, Err, refl, sym, ap, subst, append_assoc, ◌∙◌}
 use Rattle.std.specs.Option.{option_map}
 use Rattle.std.proofs.lemmas.List.{drop-drop, take_rest, take-append-drop}
 use Rattle.std.proofs.Math.Seq.{take-length}
@@ -11,12 +11,6 @@ use Rattle.pod_io.specs.declared.link.LinkCounts.{LinkCounts}
 use Rattle.pod_io.specs.declared.link.LinkFailed.{LinkFailed}
 use Rattle.pod_serve.specs.Serving.{IsWrittenTo, taken_with}
 use Rattle.pod_serve.proofs.LinkLemmas.{none_waits, sent_more}
-
-pub drop_past : (n : ℕ) (xs : List ℕ) → length xs ≤ n → drop n xs ≡ []
-drop_past zero [] h = refl
-drop_past zero (x ∷ xs) h = absurd (omega (arith, h))
-drop_past (suc n) [] h = refl
-drop_past (suc n) (x ∷ xs) h = drop_past n xs (omega (arith, h))
 
 -- one write more of a text from a position on
 pub text_more : (text : List ℕ) (at count : ℕ) (old new : Option (List ℕ)) → new ≡ option_map (λ bytes. bytes ++ take count (take (length text - at) (drop at text))) old → taken_with (drop (at + count) text) new ≡ taken_with (drop at text) old

@@ -20,7 +20,7 @@ use Rattle.pod_path.specs.Norm.{norm}
 use Rattle.published_view.specs.LookerState.{NotNoPlace}
 use Rattle.published_view.specs.declared.fault.ViewFault.{ViewFault}
 use Rattle.published_view.specs.declared.fault.ViewFault.TheVariants as views
-use Rattle.pod_live.specs.Visits.{Changed, FaultedAt, IsFaulted, IsTurnedAway, Looked, ReadAt, Visit}
+use Rattle.pod_live.specs.Visits.{Changed, FaultedAt, IsFaulted, Looked, ReadAt, Visit}
 use Rattle.pod_reply.specs.Reply.{IsReply, agent_of}
 use Rattle.request_target.specs.Targets.{origin_form}
 use Rattle.reply_laws.specs.Granted.{is_change}
@@ -78,10 +78,6 @@ module _ (kept : History → Type 0) (first : ℕ) (request : Request) (asked : 
       refused = omega (arith, looked.refused);
     },
   )
-
-  -- a read found no place
-  pub read_passed : is_change request.method ≡ false → IsTurnedAway old new → Came (Err NoPlace)
-  read_passed steady away = record { no_change = steady; away = away }
 
   -- a change was answered
   pub change_answered : (response : Response) (place : ℕ) (moment : Moment) → is_change request.method ≡ true → Changed kept first old request asked stamp response place moment.0 new

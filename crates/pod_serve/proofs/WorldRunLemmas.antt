@@ -1,9 +1,9 @@
 -- The run of one connection as events of a world.
-use Rattle.std.proofs.Common.{◌≡◌, ◌⊎◌, inl, inr, ℕ, ◌+◌, ◌<◌, ◌≤◌, true, false, List, [], ◌∷◌, ◌++◌, length, map, Option, Some, None, IfSome, refl, sym, ap, subst, append_assoc, length-append, ◌∙◌, arith}
+use Rattle.std.proofs.Common.{◌≡◌, ◌⊎◌, inl, inr, ℕ, ◌+◌, ◌≤◌, true, false, List, [], ◌∷◌, ◌++◌, length, map, Option, Some, None, IfSome, refl, sym, ap, subst, append_assoc, length-append, ◌∙◌, arith}
 use Rattle.std.specs.List.{AllByRecursion, range_with_len}
 use Rattle.std.proofs.lemmas.List.{append-nil}
 use mathlib.Core.List.{IsPrefix}
-use Rattle.http_conn.specs.Messages.{Messages, AreFirstEvents, unfinished, in_head}
+use Rattle.http_conn.specs.Messages.{Messages, unfinished, in_head}
 use Rattle.http_conn.proofs.EndLemmas.{ends_there}
 use Rattle.http_conn.proofs.LongerTexts.{events_stay_first}
 use Rattle.http_conn.proofs.Parses.{messages_one}
@@ -14,13 +14,13 @@ use Rattle.pod_command.specs.declared.entry.Entry.{Entry}
 use Rattle.pod_core.specs.History.{History, end_of}
 use Rattle.pod_core.specs.Output.{item_text, output_of}
 use Rattle.pod_core.specs.Session.{IsRefused, Item, UpgradesLast, ends_upgraded, has_bad, requests_of, upgrades}
-use Rattle.pod_core.specs.World.{Connection, IsNextEvent, IsSettled, World, first_interims, interims_text, request_number, with_answer, with_input, with_refusal}
+use Rattle.pod_core.specs.World.{Connection, IsNextEvent, IsSettled, first_interims, interims_text, request_number, with_answer, with_input, with_refusal}
 use Rattle.token_table.specs.Credentials.{AskedAgent}
 use Rattle.conn_talk.specs.Walks.{Walk}
 use Rattle.conn_talk.proofs.WalkLemmas.{walk_later}
 use Rattle.world_laws.proofs.WorldLists.{IsPlain, NoBad, all_snoc, bad_after, first_written, interims_first, interims_no_bad, interims_no_request, item_written, last_upgraded, later_events, no_bad_append, nothing_more, output_grows, output_stops, requests_append}
 use Rattle.pod_serve.specs.Served.{ArePieces, pieces_text}
-use Rattle.pod_serve.specs.WorldRuns.{Answers, AnswersEach, Arrives, HasConnection, IsRun, ReadTurn, Refuses, Runs, fresh_connection, items_in}
+use Rattle.pod_serve.specs.WorldRuns.{Answers, AnswersEach, Arrives, IsRun, ReadTurn, Refuses, Runs, fresh_connection, items_in}
 use Rattle.pod_serve.proofs.WorldStepLemmas.{answers_one, arrives, looks, seen_after, seen_one}
 
 -- no request and no interim is next
@@ -35,12 +35,6 @@ no_first [] = refl
 no_first (heard.Interim ∷ later) = no_first later
 no_first (heard.Request r ∷ later) = refl
 no_first (heard.Bad status ∷ later) = refl
-
-no_interims : (later : List Heard) → first_interims later ≡ [] → interims_text later ≡ []
-no_interims [] e = refl
-no_interims (heard.Interim ∷ later) e = absurd (cc e)
-no_interims (heard.Request r ∷ later) e = refl
-no_interims (heard.Bad status ∷ later) e = refl
 
 last_tail : (item : Item) (items : List Item) → UpgradesLast (item ∷ items) → UpgradesLast items
 last_tail item [] h = tt

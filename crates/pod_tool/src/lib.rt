@@ -14,7 +14,7 @@
 //! `no_input`, `no_tokens`).
 //!
 //! It depends on `program_words` for the words, on `podctl_commands` for commands over a store and
-//! for a follower, on `pod_pipe` for one connection, on `first_rows` for a pod in memory, and on
+//! for a follower, on `pod_pipe` for one connection, on `pod_rows` for a pod in memory, and on
 //! `load_generator`.
 #![tactic(auto)]
 

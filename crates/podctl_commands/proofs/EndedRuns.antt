@@ -78,15 +78,3 @@ written_disk (Err failed) e = search (rules, e)
 pub written_so : (written : Result (Unit {0}) Failed) (text : List ℕ) (old new : Option (List ℕ)) → Writes written text old new → IsReportedSo text old new (written_end written)
 written_so (Ok done) text old new w = w.whole
 written_so (Err failed) text old new w = w.part
-
-pub reported_told : (end : StoreEnd) (text : List ℕ) (from to : Option (List ℕ)) → IsReportedSo text from to end → (old : Option (List ℕ)) (before after : ℕ) → ReportsDamage end old old before after
-reported_told ends.Done text from to w old before after = refl
-reported_told ends.WriteFault text from to w old before after = refl
-reported_told ends.NoMemory text from to w old before after = refl
-reported_told (ends.Damaged side at) text from to w old before after = absurd w
-reported_told ends.DiskFault text from to w old before after = refl
-reported_told ends.NotEmpty text from to w old before after = refl
-reported_told ends.Empty text from to w old before after = refl
-
-pub reported_disk : (end : StoreEnd) (text : List ℕ) (old new : Option (List ℕ)) → IsReportedSo text old new end → end ≡ ends.DiskFault → ⊥
-reported_disk end text old new w e = subst (IsReportedSo text old new) e w

@@ -1,14 +1,12 @@
--- for the crates above too
-pub mod Refused
--- internal
+mod Refused
 mod Excluded
 mod PrintedLines
 mod Printed
-pub mod OneFrame
-pub mod ReadForms
-pub mod ManyFrames
-pub mod Running
-pub mod Histories
+mod OneFrame
+mod ReadForms
+mod ManyFrames
+mod Running
+mod Histories
 mod EndedRuns
 mod ReportLemmas
 mod ShipLemmas

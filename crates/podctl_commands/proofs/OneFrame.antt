@@ -1,5 +1,5 @@
 -- What can be made of one frame.
-use Rattle.std.proofs.Common.{◌≡◌, ◌⊎◌, inl, inr, ℕ, ◌==◌, if◌then◌else◌, Bool, true, false, List, [], ◌∷◌, Option, Some, None, Result, Ok, Err, IfOk, IfSome, refl, sym, ap, subst, ◌∙◌, rules, arith}
+use Rattle.std.proofs.Common.{◌≡◌, inl, inr, ℕ, ◌==◌, if◌then◌else◌, Bool, true, false, List, ◌∷◌, Option, Some, None, Result, Ok, Err, IfOk, IfSome, refl, sym, ap, subst, ◌∙◌, rules, arith}
 use Rattle.std.proofs.lemmas.Option.{same_Some}
 use Rattle.stored_forms.specs.StoredForms.{entry_1_bytes, entry_bytes}
 use Rattle.pod_command.specs.declared.entry.Entry.{Entry}
@@ -9,12 +9,11 @@ use Rattle.pod_follow.specs.declared.follower.Took.{Took}
 use Rattle.pod_follow.specs.declared.follower.Took.TheVariants as took
 use Rattle.pod_records.proofs.ReadSteps.{applies_alike}
 use Rattle.pod_records.specs.Readings.{IsSnapshotOf}
-use Rattle.pod_records.specs.Records.{entry_text}
 use Rattle.pod_rows.specs.Apply.{Applies}
 use Rattle.pod_rows.specs.State.{NumberedPod}
 use Rattle.podctl_commands.specs.Following.{Follows, IsPassedEntry, IsRefused}
-use Rattle.podctl_commands.specs.Reads.{IsRead, IsReadText}
-use Rattle.podctl_commands.specs.Steps.{IsStarted, ReadsOn}
+use Rattle.podctl_commands.specs.Reads.{IsReadText}
+use Rattle.podctl_commands.specs.Steps.{ReadsOn}
 
 -- ---- entries
 
@@ -48,9 +47,6 @@ unfit_passed old new body entry the number unfit (took.Ahead seq next) (other, t
 unfit_passed old new body entry the number unfit (took.Unfit seq) takes passed = absurd passed
 unfit_passed old new body entry the number unfit took.NotEntry takes passed = absurd passed
 
-pub reads_passed : (old new : NumberedPod) (body : List ℕ) (answer : Took) → Takes old body new answer → IsPassedEntry answer → ReadsOn old body [] new
-reads_passed old new body answer takes passed = inl (record { took = answer; takes = takes; passed = passed; silent = refl })
-
 pub unfit_refused : (old new : NumberedPod) (body : List ℕ) (seq : ℕ) → Takes old body new (took.Unfit seq) → (text : List ℕ) (after : NumberedPod) → ReadsOn old body text after → ⊥
 unfit_refused old new body seq (entry, the, (a, b, unfit, same)) text after (inl t) = unfit_passed old after body entry the (sym a ∙ b) unfit t.took t.takes t.passed
 unfit_refused old new body seq (entry, the, (a, b, unfit, same)) text after (inr r) = entry_no_read body _ entry the.is r.answers.is.form
@@ -71,9 +67,6 @@ within (Ok None) follows is = tt
 within (Err e) follows is = tt
 
 -- ---- frames
-
-pub started_follows : (old new : Option NumberedPod) (body : List ℕ) → IsStarted body new → Follows old body [] new
-started_follows old new body s = inl (record { state = s.state; is = s.is; after = s.after; silent = refl })
 
 pub follows_on : (old new : NumberedPod) (body text : List ℕ) → ReadsOn old body text new → Follows (Some old) body text (Some new)
 follows_on old new body text (inl t) = inr (inl (record {

@@ -1,5 +1,5 @@
 -- What was printed, by the end.
-use Rattle.std.proofs.Common.{◌≡◌, ◌⊎◌, inl, inr, ℕ, List, map, length, Option, Result, Ok, Err, IsErrOf, refl, ◌∙◌, ap, subst, rules}
+use Rattle.std.proofs.Common.{◌≡◌, ◌⊎◌, inl, inr, ℕ, List, map, length, Option, Result, Ok, Err, ◌∙◌, ap, subst}
 use Rattle.std.proofs.lemmas.List.{length-map}
 use Rattle.pod_io.specs.Writing.{Writes}
 use Rattle.pod_command.specs.declared.entry.Entry.{Entry}
@@ -7,7 +7,7 @@ use Rattle.pod_command.specs.declared.snapshot.Snapshot.{Snapshot}
 use Rattle.pod_keeper.specs.KeeperState.{KeeperState}
 use Rattle.pod_keeper.specs.OpenedPods.{IsOpened}
 use Rattle.pod_records.specs.Records.{entry_text}
-use Rattle.podctl_commands.specs.Prints.{IsStoreOf, Prints, ReportsDamage}
+use Rattle.podctl_commands.specs.Prints.{IsStoreOf, Prints}
 use Rattle.podctl_commands.specs.Records.{printed_end}
 use Rattle.podctl_commands.specs.Ends.{IsMadeEnd}
 use Rattle.podctl_commands.specs.Texts.{check_text, counts_line}
@@ -22,21 +22,6 @@ module _ (text : Snapshot → List Entry → List ℕ) (first second old new : O
   prints (Ok done) w = record { snapshot = snapshot; entries = entries; opened = opened; printed = w.whole }
   prints (Err printing.WriteFault) w = record { snapshot = snapshot; entries = entries; opened = opened; count = w.part.0; printed = w.part.2 }
   prints (Err printing.NoMemory) w = inr (record { snapshot = snapshot; entries = entries; opened = opened; count = w.part.0; printed = w.part.2 })
-
-pub printed_told : (printed : Result (Unit {0}) PrintFault) (old : Option (List ℕ)) (before after : ℕ) → ReportsDamage (printed_end printed) old old before after
-printed_told (Ok done) old before after = refl
-printed_told (Err printing.WriteFault) old before after = refl
-printed_told (Err printing.NoMemory) old before after = refl
-
-pub printed_write : (printed : Result (Unit {0}) PrintFault) → printed_end printed ≡ ends.WriteFault → IsErrOf printed printing.WriteFault
-printed_write (Ok done) e = search (rules, e)
-printed_write (Err printing.WriteFault) e = refl
-printed_write (Err printing.NoMemory) e = search (rules, e)
-
-pub printed_disk : (printed : Result (Unit {0}) PrintFault) → printed_end printed ≡ ends.DiskFault → ⊥
-printed_disk (Ok done) e = search (rules, e)
-printed_disk (Err printing.WriteFault) e = search (rules, e)
-printed_disk (Err printing.NoMemory) e = search (rules, e)
 
 -- the counts of that store
 counts_same : (rows rows_2 entries entries_2 next next_2 : ℕ) → rows ≡ rows_2 → entries ≡ entries_2 → next ≡ next_2 → counts_line rows entries next ≡ counts_line rows_2 entries_2 next_2

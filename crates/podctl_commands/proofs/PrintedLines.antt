@@ -1,10 +1,10 @@
 -- The lines of a journal's records.
-use Rattle.std.proofs.Common.{◌≡◌, ℕ, ◌+◌, ◌<◌, ◌≤◌, ◌==◌, if◌then◌else◌, Bool, true, false, List, [], ◌∷◌, ◌++◌, length, length-append, map, drop, slice_index_or, Option, Result, IsErr, refl, sym, ◌∙◌, ap, subst, append_assoc, append-nil, rules, arith}
-use Rattle.std.proofs.lemmas.List.{drop_more, drop_all}
+use Rattle.std.proofs.Common.{◌≡◌, ℕ, ◌+◌, ◌<◌, ◌==◌, if◌then◌else◌, Bool, true, false, List, [], ◌∷◌, ◌++◌, length, length-append, map, drop, slice_index_or, Option, Result, IsErr, refl, sym, ◌∙◌, ap, subst, append_assoc, rules, arith}
+use Rattle.std.proofs.lemmas.List.{drop_more}
 use Rattle.std.specs.List.{AllByRecursion, flat_map}
 use Rattle.audit_trail.specs.Lines.{entry_line}
 use Rattle.pod_io.specs.Writing.{ExtendsBy, ExtendsByPart, Writes}
-use Rattle.pod_io.proofs.Extending.{extends_more, nothing_added, part_after, part_before, writes_failed}
+use Rattle.pod_io.proofs.Extending.{extends_more, part_after, part_before, writes_failed}
 use Rattle.stored_forms.specs.StoredForms.{entry_bytes, entry_1_bytes}
 use Rattle.pod_command.specs.declared.entry.Entry.{Entry}
 use Rattle.pod_records.specs.Readings.{IsEntryOf}
@@ -57,14 +57,6 @@ pub record Split (records : List (List ℕ)) (i : ℕ) (text : List ℕ) (old no
   pub left : HaveLines (drop i records) rest
   pub whole : text ≡ done ++ rest
   pub printed : ExtendsBy done old now
-
-pub split_start : (records : List (List ℕ)) (text : List ℕ) (old : Option (List ℕ)) → HaveLines records text → Split records 0 text old old
-split_start records text old h = record { done = []; rest = text; left = h; whole = refl; printed = nothing_added old }
-
-pub split_end : (records : List (List ℕ)) (i : ℕ) (text : List ℕ) (old now : Option (List ℕ)) → length records ≤ i → Split records i text old now → ExtendsBy text old now
-split_end records i text old now over s =
-    let none : s.rest ≡ [] = subst (λ l. HaveLines l s.rest) (drop_all i records over) s.left in
-    subst (λ t. ExtendsBy t old now) (sym (s.whole ∙ ap (λ r. s.done ++ r) none ∙ append-nil s.done)) s.printed
 
 module _ (records : List (List ℕ)) (i : ℕ) (item body : List ℕ) (within : i < length records) (is : item ≡ slice_index_or records i item) (same : body ≡ item) (text : List ℕ) (old now : Option (List ℕ)) (s : Split records i text old now) where
   here : HaveLines (body ∷ drop (i + 1) records) s.rest

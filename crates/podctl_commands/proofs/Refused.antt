@@ -1,8 +1,7 @@
 -- What a command prints and reports of a store that wasn't opened, and the store of one that was.
-use Rattle.std.proofs.Common.{◌≡◌, ◌⊎◌, inl, ℕ, List, Option, refl, rules}
+use Rattle.std.proofs.Common.{◌≡◌, inl, ℕ, List, Option, refl, rules}
 use Rattle.journal_log.specs.declared.fault.OpenFault.{OpenFault}
 use Rattle.journal_log.specs.declared.fault.OpenFault.TheVariants as opening
-use Rattle.pod_base.specs.Counts.{CountIncreased}
 use Rattle.pod_command.specs.declared.entry.Entry.{Entry}
 use Rattle.pod_command.specs.declared.snapshot.Snapshot.{Snapshot}
 use Rattle.pod_keeper.specs.KeeperState.{KeeperState}
@@ -27,12 +26,6 @@ module _ (text : Snapshot → List Entry → List ℕ) (first second : Option (L
   refused_prints old (opening.Damaged side at) cause = (cause, refl)
   refused_prints old opening.DiskFault cause = refl
   refused_prints old opening.NoMemory cause = inl refl
-
-pub refused_disk : (first second : Option (List ℕ)) (a a_new b b_new : ℕ) (fault : OpenFault) → HasPodCause first second a a_new b b_new fault → refused_end fault ≡ ends.DiskFault → CountIncreased a a_new ⊎ CountIncreased b b_new
-refused_disk first second a a_new b b_new opening.Empty cause e = search (rules, e)
-refused_disk first second a a_new b b_new (opening.Damaged side at) cause e = search (rules, e)
-refused_disk first second a a_new b b_new opening.DiskFault cause e = cause
-refused_disk first second a a_new b b_new opening.NoMemory cause e = search (rules, e)
 
 pub refused_write : (fault : OpenFault) → refused_end fault ≡ ends.WriteFault → ⊥
 refused_write opening.Empty e = search (rules, e)

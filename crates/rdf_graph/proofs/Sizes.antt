@@ -1,5 +1,5 @@
 -- Sums of sizes that are given by 64 bits.
-use Rattle.std.proofs.Common.{ℕ, ◌+◌, ◌-◌, ◌^◌, ◌≡◌, ◌≤◌, arith, List, [], ◌∷◌, Bool, true, false, cond, subst, min, sum, map}
+use Rattle.std.proofs.Common.{ℕ, ◌+◌, ◌-◌, ◌^◌, ◌≡◌, ◌≤◌, arith, List, [], ◌∷◌, Bool, true, false, cond, ap, subst, min, sum, map}
 use Rattle.std.specs.List.{dedup, dedup_from}
 use Rattle.std.specs.List.Sorted.{IsPermutation}
 use Rattle.std.proofs.lemmas.List.Sorted.{IsPermutation-map, sum_by-IsPermutation}

@@ -1,9 +1,8 @@
 -- Lists of events, and what of them is done.
-use Rattle.std.proofs.Common.{◌≡◌, ℕ, zero, suc, ◌+◌, ◌<◌, ◌≤◌, List, [], ◌∷◌, ◌++◌, length, get_or, take, drop, refl, sym, ap, append_assoc, ◌∙◌, arith}
+use Rattle.std.proofs.Common.{◌≡◌, ℕ, ◌+◌, ◌<◌, ◌≤◌, List, [], ◌∷◌, ◌++◌, length, get_or, take, drop, refl, sym, ap, ◌∙◌, arith}
 use Rattle.std.proofs.lemmas.List.{drop_more, take-append-drop, take-take, drop-take}
 use Rattle.pod_base.specs.declared.heard.Heard.{Heard}
 use Rattle.pod_base.specs.declared.heard.Heard.TheVariants as heard
-use Rattle.http_out.specs.Text.{interim_text}
 use Rattle.pod_base.specs.declared.request.Request.{Request}
 use Rattle.pod_core.specs.Session.{requests_of}
 use Rattle.pod_core.specs.World.{first_interims, interims_text}
@@ -56,26 +55,3 @@ one_at_most (heard.Bad status) = omega arith
 
 left_is : (events : List Heard) (i : ℕ) (event other : Heard) → i < length events → event ≡ get_or events i event → event ≡ other → drop i events ≡ other ∷ drop (i + 1) events
 left_is events i event other within is same = drop_more events i event within ∙ ap (λ (e : Heard). e ∷ drop (i + 1) events) (sym is ∙ same)
-
-pub request_stops : (events : List Heard) (i : ℕ) (event : Heard) (r : Request) → i < length events → event ≡ get_or events i event → event ≡ heard.Request r → (interims_text (drop i events) ≡ []) × (first_interims (drop i events) ≡ [])
-request_stops events i event r within is same =
-    let left = left_is events i event (heard.Request r) within is same in
-    (ap interims_text left, ap first_interims left)
-
-pub bad_stops : (events : List Heard) (i : ℕ) (event : Heard) (status : ℕ) → i < length events → event ≡ get_or events i event → event ≡ heard.Bad status → (interims_text (drop i events) ≡ []) × (first_interims (drop i events) ≡ [])
-bad_stops events i event status within is same =
-    let left = left_is events i event (heard.Bad status) within is same in
-    (ap interims_text left, ap first_interims left)
-
--- an interim that is written
-module _ (output begun : List ℕ) (events : List Heard) (i : ℕ) (event : Heard) (within : i < length events) (is : event ≡ get_or events i event) (same : event ≡ heard.Interim) where
-  pub interim_text_on : (longer : List ℕ) → longer ≡ output ++ interim_text → output ++ interims_text (drop i events) ≡ begun ++ interims_text events → longer ++ interims_text (drop (i + 1) events) ≡ begun ++ interims_text events
-  interim_text_on longer l inv =
-      ap (λ t. t ++ interims_text (drop (i + 1) events)) l ∙ append_assoc output interim_text (interims_text (drop (i + 1) events))
-      ∙ ap (λ (d : List Heard). output ++ interims_text d) (sym (left_is events i event heard.Interim within is same)) ∙ inv
-
-  pub interim_count_on : (all : ℕ) → i + length (first_interims (drop i events)) ≡ all → i + 1 + length (first_interims (drop (i + 1) events)) ≡ all
-  interim_count_on all inv =
-      let one : length (first_interims (drop i events)) ≡ 1 + length (first_interims (drop (i + 1) events)) =
-      ap (λ (d : List Heard). length (first_interims d)) (left_is events i event heard.Interim within is same) ∙ omega arith in
-      omega (arith, inv, one)

@@ -1,6 +1,5 @@
 -- A new world.
-use Rattle.std.proofs.Common.{◌≡◌, ℕ, zero, suc, ◌+◌, ◌<◌, ◌≤◌, Bool, true, false, ◌&&◌, List, [], ◌∷◌, ◌++◌, length, get_or, replicate, slice_get, Option, Some, None, IfSome, refl, sym, ap, subst, ◌∙◌, arith}
-use Rattle.std.specs.Prelude.{nat_lt, nat_le}
+use Rattle.std.proofs.Common.{◌≡◌, ℕ, zero, suc, ◌<◌, ◌≤◌, Bool, true, false, List, [], ◌∷◌, length, get_or, replicate, slice_get, Some, None, IfSome, refl, sym, ap, subst, ◌∙◌, arith}
 use Rattle.std.specs.List.{AllByRecursion}
 use Rattle.std.proofs.lemmas.Bool.Decides.{nat_tests}
 use Rattle.pod_command.specs.declared.snapshot.Snapshot.{Snapshot}
@@ -72,6 +71,3 @@ item_at : (xs : List Connection) (n : ℕ) (d : Connection) → n < length xs �
 item_at [] n d lt e = absurd (omega (arith, lt))
 item_at (x ∷ xs) zero d lt e = ap Some (sym e)
 item_at (x ∷ xs) (suc n) d lt e = item_at xs n d (omega (arith, lt)) e
-
-pub output_at : (xs : List Connection) (n : ℕ) (d : Connection) (out : List ℕ) → n < length xs → d ≡ get_or xs n d → out ≡ d.output → IfSome (slice_get xs n) (λ (c : Connection). out ≡ c.output)
-output_at xs n d out within is same = subst (λ (o : Option Connection). IfSome o (λ (c : Connection). out ≡ c.output)) (sym (item_at xs n d within is)) same

@@ -11,7 +11,7 @@ use Rattle.stored_forms.specs.Storable.{IsStorableSnapshot}
 use Rattle.stored_forms.specs.StoredForms.{entry_bytes, snapshot_bytes}
 use Rattle.pod_command.specs.declared.entry.Entry.{Entry}
 use Rattle.pod_command.specs.declared.snapshot.Snapshot.{Snapshot}
-use Rattle.pod_core.proofs.Histories.{end_grows, moment_at_end, pod_at_end, pod_grows, replayed_next, slice_get-append, slice_get_last}
+use Rattle.pod_core.proofs.Histories.{end_grows, pod_at_end, pod_grows, replayed_next, slice_get-append, slice_get_last}
 use Rattle.pod_core.specs.History.{History, IsPlace, end_of, entry_at, longer, moment_before, pod_at, seconds_of}
 use Rattle.pod_core.specs.KeeperSteps as keeper
 use Rattle.pod_core.specs.KeeperSteps.{Holder}
@@ -206,9 +206,6 @@ module _ (history : History) (later : List VersionState) (are : AreLater history
 
   pub within_later : (place ≡ start → ⊥) → place - start - 1 < length later
   within_later other = omega (arith, there.from, there.to, s, are.count, other)
-
-  pub after_start : (place ≡ start → ⊥) → start < place
-  after_start other = omega (arith, there.from, s, other)
 
   pub version_of : (place ≡ start → ⊥) → (version : VersionState) → version ≡ get_or later (place - start - 1) version → IsVersionAt history place version
   version_of other version is =

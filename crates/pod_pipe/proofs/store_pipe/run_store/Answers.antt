@@ -1,5 +1,4 @@
 use Rattle.std.proofs.Common.{inr}
-use Rattle.pod_pipe.proofs.RunLemmas.{disk_refusal}
 use Rattle.pod_pipe.proofs.store_pipe.run_store.Goals as goal
 
 pub returns-in-Ok-clause-runs : goal.returns-in-Ok-clause-runs

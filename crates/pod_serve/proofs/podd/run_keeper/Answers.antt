@@ -16,6 +16,6 @@ returns-in-Err g c = inl (record {
   kept = refl;
   fault = c.in-Err.fault;
   cause = c.in-Err.ensures.fault;
-  tells = c.tell_table.ensures.told;
+  tells = c.refuse_table.ensures.told;
   listener = refl;
 })

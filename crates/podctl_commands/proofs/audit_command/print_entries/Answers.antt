@@ -1,5 +1,5 @@
 use Rattle.std.proofs.Common.{rules, arith}
-use Rattle.podctl_commands.proofs.PrintedLines.{line_here, split_start, split_more, split_fails, split_end}
+use Rattle.podctl_commands.proofs.PrintedLines.{line_here, split_more, split_fails}
 use Rattle.podctl_commands.proofs.audit_command.print_entries.Goals as goal
 
 pub print_entry-requires : goal.print_entry-requires

@@ -2,7 +2,7 @@ use Rattle.std.proofs.Common.{Option, Some, sym, subst, ◌∙◌}
 use Rattle.std.proofs.lemmas.Result.{IfOk-weaker}
 use Rattle.pod_rows.specs.State.{NumberedPod}
 use Rattle.podctl_commands.specs.Following.{Follows, IsRefused}
-use Rattle.podctl_commands.proofs.OneFrame.{follows_on, refused_first, refused_on, started_follows, within}
+use Rattle.podctl_commands.proofs.OneFrame.{follows_on, refused_first, refused_on, within}
 use Rattle.podctl_commands.proofs.one_frame.take_body.Goals as goal
 
 pub returns-in-Some-clause-some : goal.returns-in-Some-clause-some

@@ -1,5 +1,5 @@
 use Rattle.std.proofs.lemmas.Result.{IfOk-weaker}
-use Rattle.podctl_commands.proofs.OneFrame.{other_refused, read_answered, reads_passed, unfit_refused}
+use Rattle.podctl_commands.proofs.OneFrame.{other_refused, read_answered, unfit_refused}
 use Rattle.podctl_commands.proofs.one_frame.take_or_answer.Goals as goal
 
 pub returns-in-Unfit-clause-none : goal.returns-in-Unfit-clause-none

@@ -2,8 +2,8 @@ use Rattle.std.proofs.Common.{subst, sym, ◌∙◌}
 use Rattle.podctl_commands.specs.Endings.{IsReportedSo}
 use Rattle.podctl_commands.specs.Lines.{pod_text, report_text}
 use Rattle.podctl_commands.specs.Prints.{Prints, ReportsDamage}
-use Rattle.podctl_commands.proofs.Refused.{refused_disk, refused_prints, refused_write}
-use Rattle.podctl_commands.proofs.EndedRuns.{prints, reported_disk, reported_told}
+use Rattle.podctl_commands.proofs.Refused.{refused_prints, refused_write}
+use Rattle.podctl_commands.proofs.EndedRuns.{prints}
 use Rattle.podctl_commands.proofs.report_command.report.Goals as goal
 
 pub returns-in-Ok-clause-printed : goal.returns-in-Ok-clause-printed

@@ -3,7 +3,7 @@ use Rattle.pod_io.specs.Writing.{Writes}
 use Rattle.pod_follow.specs.Frames.{frames_of}
 use Rattle.podctl_commands.specs.Ships.{Ships}
 use Rattle.podctl_commands.specs.Prints.{ReportsDamage}
-use Rattle.podctl_commands.proofs.Refused.{refused_disk, refused_write}
+use Rattle.podctl_commands.proofs.Refused.{refused_write}
 use Rattle.podctl_commands.proofs.EndedRuns.{refused_ships, ships, written_disk, written_fails, written_told}
 use Rattle.podctl_commands.proofs.ship_command.ship.Goals as goal
 
