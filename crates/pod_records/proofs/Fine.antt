@@ -73,7 +73,7 @@ right_from r h =
     let parts = and_parts (has_right_kind r) (lacks_stored_containment r) (and_parts (has_normal_path r) (has_right_kind r && lacks_stored_containment r) h).1 in
     record { kind = parts.0; containment = parts.1 }
 
-right_to : (p : Pod) (q : List ℕ) (r : Row) → WellFormed p → row_at p.rows q ≡ Some r → is_right r ≡ true
+pub right_to : (p : Pod) (q : List ℕ) (r : Row) → WellFormed p → row_at p.rows q ≡ Some r → is_right r ≡ true
 unfolding is_right
 right_to p q r w e =
     let i = right_at p q r w e in

@@ -11,3 +11,4 @@ pub mod Whole
 pub mod Replacements
 -- internal
 mod ReadLoops
+mod LoneChanges

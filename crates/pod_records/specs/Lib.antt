@@ -6,3 +6,4 @@ pub mod OpenedStores
 -- internal: cited by private clauses alone
 pub mod Made
 pub mod Touched
+pub mod LoneChanges

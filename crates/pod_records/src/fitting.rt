@@ -6,6 +6,7 @@ ghost use Rattle.pod_rows.specs.Apply.{Applies, after_edits, with_rows_if};
 ghost use Rattle.pod_rows.specs.WellFormed.{WellFormed};
 
 use crate::edited_rows::{Made, all_made};
+use crate::lone_change::fits_alone;
 use crate::row_checks::{are_fine, has_room};
 use crate::row_replacement::{may_replace, replacement};
 use pod_base::Mem;
@@ -30,8 +31,9 @@ fn stays_well_formed<S: PodState>(alloc: Global, state: &S, made: &[Made]) -> Me
     are_fine(alloc, state, made)
 }
 
-/// Whether the edits of the entry can be carried out, and the pod is well-formed after them.
-fn edits_fit<S: PodState>(alloc: Global, state: &S, entry: &Entry) -> Mem<bool>
+/// Whether the edits of the entry can be carried out one after another, and the pod is well-formed
+/// after them.
+fn edits_made_fit<S: PodState>(alloc: Global, state: &S, entry: &Entry) -> Mem<bool>
     ensures sound { IfOk result (λ r. IsTrue r
         → EditsFit (S.pod state.now) entry.now.edits.items) }
     ensures complete { IfOk result (λ r.
@@ -43,11 +45,26 @@ fn edits_fit<S: PodState>(alloc: Global, state: &S, entry: &Entry) -> Mem<bool>
     }
 }
 
+/// Whether the edits of the entry can be carried out, and the pod is well-formed after them.
+fn edits_fit<S: PodState>(alloc: Global, state: &S, entry: &Entry) -> Mem<bool>
+    ensures sound { IfOk result (λ r. IsTrue r
+        → EditsFit (S.pod state.now) entry.now.edits.items) }
+    ensures complete { IfOk result (λ r.
+        EditsFit (S.pod state.now) entry.now.edits.items → IsTrue r) }
+{
+    state.is_well_formed();
+    match fits_alone(state, entry.edits.as_slice()) {
+        Some(fits) => Ok(fits),
+        None => edits_made_fit(alloc, state, entry),
+    }
+}
+
 /// Whether the entry applies to the state: it has the next number, its edits can be carried out,
 /// and the pod is well-formed after them.
 ///
 /// It takes time and memory by the edits and by the rows at their paths, and by the children of the
-/// containers that they remove. A `Put` alone of a row in place of another takes no memory.
+/// containers that they remove. A `Put` alone of a row in place of another takes no memory, nor does
+/// a change alone of the graph of a document.
 pub fn fits<S: PodState>(alloc: Global, state: &S, entry: &Entry) -> Mem<bool>
     ensures sound { IfOk result (λ r. IsTrue r
         → Applies (S.pod state.now) (S.next_number state.now) entry.now) }

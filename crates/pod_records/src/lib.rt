@@ -17,11 +17,13 @@
 //! [`fits`] is true exactly where an entry applies to a pod (`sound`, `complete`), by the definition
 //! in `pod_rows` (`specs/Apply.antt`), for every state of a pod. It looks rows up by path, at most
 //! five times for an edit, and lists the children of a container that the entry removes. A `Put`
-//! alone of a row in place of another costs one look-up and no memory.
+//! alone of a row in place of another costs one look-up and no memory, and a change alone of the
+//! graph of a document looks up what it removes and makes no graph.
 #![tactic(auto)]
 
 mod edited_rows;
 mod fitting;
+mod lone_change;
 mod opening;
 mod record_reading;
 mod record_texts;

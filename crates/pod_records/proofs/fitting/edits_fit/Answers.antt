@@ -1,16 +1,14 @@
-use Rattle.std.proofs.Common.{sym, subst, List}
-use Rattle.std.proofs.lemmas.Result.{IfOk-weaker}
-use Rattle.pod_command.specs.declared.edit.Edit.{Edit}
-use Rattle.pod_records.specs.Made.{HasMade}
-use Rattle.pod_records.proofs.Whole.{edits_from}
+use Rattle.std.proofs.Common.{sym, subst, ◌∙◌, ap}
+use Rattle.pod_records.specs.LoneChanges.{fits_alone}
+use Rattle.pod_records.proofs.LoneChanges.{fits_alone_is}
 use Rattle.pod_records.proofs.fitting.edits_fit.Goals as goal
 
 pub returns-in-Some-clause-sound : goal.returns-in-Some-clause-sound
 returns-in-Some-clause-sound g c =
-    let rows = (g.S.PodState.pod c.args.state.now).rows in
-    IfOk-weaker c.stays_well_formed.result _ _
-    (λ r s t. edits_from (g.S.PodState.pod c.args.state.now) c.args.entry.now.edits.items c.as_slice-in-Some.result.now
-    (subst (λ (steps : List Edit). HasMade rows steps c.as_slice-in-Some.result.now) c.as_slice.ensures
-    (subst (HasMade rows c.as_slice.result.now) (sym c.as_slice-in-Some.ensures.value) (rw c.in-Some.is at c.in_ok-made.ensures.some)))
-    (s t))
-    c.stays_well_formed.ensures.sound
+    (fits_alone_is (g.S.PodState.pod c.args.state.now) c.args.entry.now.edits.items c.in-Some.fits c.is_well_formed.ensures
+    (ap (fits_alone (g.S.PodState.pod c.args.state.now).rows) (sym c.as_slice.ensures) ∙ sym c.fits_alone.ensures ∙ c.in-Some.is)).0
+
+pub returns-in-Some-clause-complete : goal.returns-in-Some-clause-complete
+returns-in-Some-clause-complete g c =
+    (fits_alone_is (g.S.PodState.pod c.args.state.now) c.args.entry.now.edits.items c.in-Some.fits c.is_well_formed.ensures
+    (ap (fits_alone (g.S.PodState.pod c.args.state.now).rows) (sym c.as_slice.ensures) ∙ sym c.fits_alone.ensures ∙ c.in-Some.is)).1
