@@ -5,3 +5,5 @@ pub mod Governance
 pub mod OrderedTables
 pub mod Resolving
 pub mod Kept
+-- internal
+mod AclSubjects

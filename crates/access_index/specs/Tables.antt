@@ -1,7 +1,7 @@
 -- Tables of paths, each with what is resolved for it, in byte order of the paths.
-use Rattle.std.specs.Prelude.{ℕ, zero, suc, Bool, not, List, [], ◌∷◌, Option, Some, None, map}
+use Rattle.std.specs.Prelude.{◌≡◌, ℕ, zero, suc, Bool, not, List, [], ◌∷◌, Option, Some, None, map}
 use Rattle.std.specs.Prelude.{filter, ◌||◌, bytes_eq, if◌then◌else◌, filter_map}
-use Rattle.std.specs.List.{find}
+use Rattle.std.specs.List.{AllByRecursion, find}
 use Rattle.acl_rules.specs.declared.rule.How.{How}
 use Rattle.acl_rules.specs.declared.rule.How.TheVariants.{Own, Inherited}
 use Rattle.pod_path.specs.Hierarchy.{is_acl, is_container, subject_of, without_end}
@@ -65,6 +65,10 @@ list_subject path = if is_acl path then Some (without_end 4 path) else None
 -- The subjects of the access lists among paths.
 abbrev pub list_subjects : List (List ℕ) → List (List ℕ)
 list_subjects paths = filter_map list_subject paths
+
+-- None of these is an access list or a description.
+abbrev pub ArePlain : List (List ℕ) → Type 0
+ArePlain paths = AllByRecursion (λ (path : List ℕ). subject_of path ≡ None) paths
 
 -- The entry of the first of these paths that has one.
 abbrev pub or_else : Option Entry → Option Entry → Option Entry

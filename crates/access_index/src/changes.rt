@@ -1,10 +1,10 @@
 //! What changes of paths make of the tables of an index.
-ghost use Rattle.std.specs.Prelude.{◌≡◌, ◌++◌, ◌∷◌, [], IfOk, OnOk, IsTrue, map, option_to_list};
+ghost use Rattle.std.specs.Prelude.{◌≡◌, ◌++◌, ◌∷◌, [], IfOk, OnOk, IsTrue, map};
 ghost use Rattle.std.specs.List.{AllByRecursion};
 ghost use Rattle.pod_path.specs.Hierarchy.{root};
 ghost use Rattle.pod_path.specs.Norm.{IsPath};
 ghost use Rattle.access_index.specs.Listing.{is_listed};
-ghost use Rattle.access_index.specs.Tables.{AreInOrder, keys, list_subject, list_subjects};
+ghost use Rattle.access_index.specs.Tables.{AreInOrder, keys};
 ghost use Rattle.access_index.specs.Tables.{add_lists, add_paths, refreshed};
 
 use crate::lookup::resolve;
@@ -15,41 +15,6 @@ use acl_rules::How;
 use pod_base::Mem;
 use pod_path::Path;
 use std::alloc::Global;
-
-/// The subject of a path that is an access list.
-fn list_subject(alloc: Global, path: &Path) -> Mem<Option<Path>>
-    ensures { IfOk result (λ subject. subject ≡ list_subject path.now) }
-{
-    if !path.is_acl() {
-        return Ok(None);
-    }
-    path.subject(alloc)
-}
-
-/// Appends a path, if there is one.
-fn push_some(paths: &mut Vec<Path>, path: Option<Path>) -> Mem<()>
-    ensures { OnOk result (paths.new.items ≡ paths.old.items ++ option_to_list path) }
-{
-    match path {
-        Some(path) => {
-            paths.push(path)?;
-            Ok(())
-        }
-        None => Ok(()),
-    }
-}
-
-/// The subjects of the access lists among paths.
-pub(crate) fn list_subjects(alloc: Global, paths: &[Path]) -> Mem<Vec<Path>>
-    ensures { IfOk result (λ subjects. subjects.items ≡ list_subjects paths.now) }
-{
-    let mut subjects = Vec::new(alloc);
-    for path in paths {
-        let subject = list_subject(alloc, path)?;
-        push_some(&mut subjects, subject)?;
-    }
-    Ok(subjects)
-}
 
 /// Adds the list of a subject to the table of the access lists, unless it is in it.
 fn add_list(alloc: Global, lists: &mut Vec<Entry>, subject: &Path) -> Mem<()>

@@ -7,7 +7,8 @@ ghost use Rattle.access_index.specs.Index.{AreTables};
 ghost use Rattle.access_index.specs.Listing.{is_listed, is_listed_after, IsListOf};
 ghost use Rattle.access_index.specs.Tables.{keys};
 
-use crate::changes::{add_lists, add_paths, list_subjects, refreshed};
+use crate::acl_subjects::list_subjects;
+use crate::changes::{add_lists, add_paths, refreshed};
 use crate::resolved::Resolved;
 use crate::table::{Entry, copy_entries, entry_at, remove_all};
 use pod_base::{List, Mem};

@@ -13,6 +13,7 @@
 //! it changes. The crate depends on `pod_rows`, `acl_rules`, `pod_path` and `pod_base`.
 #![tactic(auto)]
 
+mod acl_subjects;
 mod changes;
 mod index;
 pub mod laws;
@@ -21,6 +22,7 @@ mod reach;
 mod resolved;
 mod table;
 
+pub use acl_subjects::list_subjects;
 pub use index::AccessIndex;
 pub use reach::is_reached;
 pub use resolved::Resolved;

@@ -9,7 +9,7 @@ ghost use Rattle.access_report.specs.Reports.{HasLine, IsReported, lines_at, lin
 
 use crate::decision::{Decision, add_lines, decide_at, find_decision, keep_above};
 use crate::line::Line;
-use pod_base::{Agent, List, Mem};
+use pod_base::{Agent, List, Mem, push_some};
 use pod_command::Row;
 use pod_path::Path;
 use pod_rows::PodState;
@@ -42,19 +42,6 @@ fn add_path<S: PodState>(
             add_lines(alloc, lines, path, &decision)?;
             Ok(Some(decision))
         }
-    }
-}
-
-/// Appends a decision, if there is one.
-fn push_some(decided: &mut Vec<Decision>, new: Option<Decision>) -> Mem<()>
-    ensures { OnOk result (decided.new.items ≡ decided.old.items ++ option_to_list new) }
-{
-    match new {
-        Some(decision) => {
-            decided.push(decision)?;
-            Ok(())
-        }
-        None => Ok(()),
     }
 }
 

@@ -1,22 +1,20 @@
 -- Numbers that are freed, and rows that are ready for new numbers.
 use Rattle.std.proofs.Common.{◌≡◌, ◌==◌, ◌||◌, ◌&&◌, ◌+◌, ◌<◌, ℕ, Bool, true, false, not, cond, List, [], ◌∷◌, ◌++◌, length, take, get_or, filter, Option, Some, None, refl, sym, ap, ◌∙◌, subst, arith, inl, inr, ◌⊎◌, ⊎_elim}
-use Rattle.std.specs.Prelude.{bytes_eq, option_to_list, IfSome}
+use Rattle.std.specs.Prelude.{bytes_eq}
 use Rattle.std.specs.List.{list_any}
 use Rattle.std.proofs.lemmas.Bool.{true≢false, false≢true, eqb-true, and_parts, and_from}
 use Rattle.std.proofs.lemmas.List.{take_more}
 use Rattle.std.proofs.lemmas.Slice.Eq.{bytes_eq-Decides}
 use Rattle.pod_path.specs.Hierarchy.{subject_of}
-use Rattle.pod_path.specs.Norm.{IsPath}
-use Rattle.access_index.proofs.Governance.{no_subject, subject_plain}
 use Rattle.pod_command.specs.declared.row.Row.{Row}
 use Rattle.pod_rows.specs.Access.{has_own_list, list_path}
 use Rattle.access_index.specs.Listing.{is_listed}
-use Rattle.access_index.specs.Tables.{list_subjects}
+use Rattle.access_index.specs.Tables.{ArePlain, list_subjects}
 use Rattle.access_index.proofs.Kept.{subjects_listed}
 use Rattle.row_pages.specs.Items.{Placed, rows_of}
 use Rattle.pod_pages.specs.Lists.{list_at}
 use Rattle.pod_pages.specs.Marks.{own_number}
-use Rattle.pod_pages.specs.Numbering.{AreNumbered, AreReady, ArePlain, IsListOf, Places, frees, is_freed, is_number}
+use Rattle.pod_pages.specs.Numbering.{AreNumbered, AreReady, IsListOf, Places, frees, is_freed, is_number}
 use Rattle.pod_pages.specs.declared.list_table.AccessList.{AccessList}
 
 -- ---- one more subject
@@ -158,17 +156,3 @@ ready base old places first touched subjects freed a is plain set = record {
     by_lists q k p e h =
         let l = a.lists q k p (a.marks q k e) in
         record { list = l.list; found = set k ∙ ap (λ (b : Bool). cond b None (list_at places k)) (stays q k l h) ∙ l.found; is = l.is }
-
--- ---- subjects of access lists
-
-pub list_plain : (path : List ℕ) (o : Option (List ℕ)) → IsPath path → o ≡ subject_of path → IfSome o (λ t. subject_of t ≡ None)
-list_plain path None h e = tt
-list_plain path (Some s) h e = no_subject s (subject_plain path s h (sym e))
-
-all_append : (xs ys : List (List ℕ)) → ArePlain xs → ArePlain ys → ArePlain (xs ++ ys)
-all_append [] ys a b = b
-all_append (x ∷ xs) ys a b = (a.0, all_append xs ys a.1 b)
-
-pub plain_more : (xs : List (List ℕ)) (o : Option (List ℕ)) → ArePlain xs → IfSome o (λ t. subject_of t ≡ None) → ArePlain (xs ++ option_to_list o)
-plain_more xs None a h = all_append xs [] a tt
-plain_more xs (Some s) a h = all_append xs (s ∷ []) a (h, tt)

@@ -42,10 +42,6 @@ pub record IsTree (rows : List Row) : Type 0 where
 abbrev pub Places : Type 0
 Places = List (Option AccessList)
 
--- None of these is an access list or a description.
-abbrev pub ArePlain : List (List ℕ) → Type 0
-ArePlain paths = AllByRecursion (λ (path : List ℕ). subject_of path ≡ None) paths
-
 -- The number is that of the item's own list, or is free.
 abbrev pub IsNumberFor : Placed → Places → ℕ → Type 0
 IsNumberFor item places number = ((item.own ≡ true) × (item.list ≡ number))

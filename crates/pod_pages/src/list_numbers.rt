@@ -1,43 +1,29 @@
 //! Gives numbers to access lists that are new, and frees the numbers of those that are gone.
-ghost use Rattle.std.specs.Prelude.{◌≡◌, ◌++◌, ◌∷◌, ◌≤◌, ◌⊎◌, [], IfOk, IfSome, OnOk, List, ℕ};
+ghost use Rattle.std.specs.Prelude.{◌≡◌, ◌∷◌, [], IfOk, OnOk, List, ℕ};
 ghost use Rattle.std.specs.Prelude.{Bool, None};
 ghost use Rattle.std.specs.Prelude.{false, true, if◌then◌else◌, length, option_copied};
-ghost use Rattle.std.specs.Prelude.{option_to_list};
 ghost use Rattle.std.specs.Prelude.{bytes_eq, string_bytes};
 ghost use Rattle.std.specs.List.{AllByRecursion};
-ghost use Rattle.pod_path.specs.Hierarchy.{subject_of};
-ghost use Rattle.pod_rows.specs.Access.{has_own_list, list_path, rules_in};
+ghost use Rattle.pod_rows.specs.Access.{has_own_list, list_path};
 ghost use Rattle.pod_rows.specs.Pod.{row_at};
 ghost use Rattle.access_index.specs.Listing.{is_listed};
-ghost use Rattle.access_index.specs.Tables.{list_subject, list_subjects};
 ghost use Rattle.row_pages.specs.Items.{Placed, item_at, rows_of};
 ghost use Rattle.pod_pages.specs.Lists.{list_at};
-ghost use Rattle.pod_pages.specs.Numbering.{AreNumbered, ArePlain, IsNumberFor, IsTree, Places};
+ghost use Rattle.pod_pages.specs.Numbering.{AreNumbered, IsNumberFor, IsTree, Places};
 ghost use Rattle.pod_pages.specs.Numbering.{changed_of, is_changed, is_freed, is_number, frees};
 ghost use Rattle.pod_pages.specs.Numbering.{list_rules, rules_found, rules_if};
 
 use crate::list_table::{AccessList, Place, SharedList, free_list, free_number, set_list};
 use crate::marks_of_paths::put_marked;
 use crate::row_marks::{Mark, own_number};
-use acl_rules::{Items, Rules, rules_of};
+use acl_rules::Rules;
 use iri_ref::Iri;
 use pod_base::{Mem, NoMemory};
-use pod_command::{Content, Row};
+use pod_command::Row;
 use pod_path::Path;
+use pod_rows::rules_in;
 use row_pages::{Item, Rows};
 use std::alloc::Global;
-
-/// The rules of a content: none where it holds bytes.
-fn rules_in(alloc: Global, base: &Iri, content: &Content) -> Mem<Rules>
-    ensures { IfOk result (λ rules. rules.list ≡ rules_in base.now content.now) }
-{
-    match content {
-        Content::Graph(graph) => rules_of(alloc, graph, base),
-        Content::Bytes { ctype: _, bytes: _ } => Ok(Rules {
-            list: Items::new(alloc),
-        }),
-    }
-}
 
 /// The text of the path of a subject's access list.
 fn list_path(alloc: Global, subject: &Path) -> Mem<String>
@@ -297,41 +283,3 @@ pub(crate) fn changed_subjects(
     Ok(changed)
 }
 
-/// The subject of a path that is an access list.
-fn list_subject(alloc: Global, path: &Path) -> Mem<Option<Path>>
-    ensures subject { IfOk result (λ subject. subject ≡ list_subject path.now) }
-    ensures plain { IfOk result (λ subject. IfSome subject (λ text. subject_of text ≡ None)) }
-{
-    if !path.is_acl() {
-        return Ok(None);
-    }
-    let _text = path.as_str();
-    let subject = path.subject(alloc)?;
-    Ok(subject)
-}
-
-/// Appends a path, if there is one.
-fn push_some(paths: &mut Vec<Path>, path: Option<Path>) -> Mem<()>
-    ensures { OnOk result (paths.new.items ≡ paths.old.items ++ option_to_list path) }
-{
-    match path {
-        Some(path) => {
-            paths.push(path)?;
-            Ok(())
-        }
-        None => Ok(()),
-    }
-}
-
-/// The subjects of the access lists among paths.
-pub(crate) fn list_subjects(alloc: Global, paths: &[Path]) -> Mem<Vec<Path>>
-    ensures subjects { IfOk result (λ subjects. subjects.items ≡ list_subjects paths.now) }
-    ensures plain { IfOk result (λ subjects. ArePlain subjects.items) }
-{
-    let mut subjects = Vec::new(alloc);
-    for path in paths {
-        let subject = list_subject(alloc, path)?;
-        push_some(&mut subjects, subject)?;
-    }
-    Ok(subjects)
-}

@@ -1,12 +1,12 @@
 //! Which list governs each row after a change of some rows.
 ghost use Rattle.std.specs.Prelude.{◌≡◌, ◌||◌, IfOk, false};
 ghost use Rattle.access_index.specs.Listing.{is_listed};
-ghost use Rattle.access_index.specs.Tables.{list_subjects};
+ghost use Rattle.access_index.specs.Tables.{ArePlain, list_subjects};
 ghost use Rattle.row_pages.specs.Items.{rows_of};
-ghost use Rattle.pod_pages.specs.Numbering.{AreMarked, ArePlain, AreReady, AreResolved, HaveMarks};
+ghost use Rattle.pod_pages.specs.Numbering.{AreMarked, AreReady, AreResolved, HaveMarks};
 ghost use Rattle.pod_pages.specs.Numbering.{is_below};
 
-use crate::list_numbers::{changed_subjects, free_gone, list_subjects, numbered};
+use crate::list_numbers::{changed_subjects, free_gone, numbered};
 use crate::list_table::ListTable;
 use crate::mark_all_rows::{is_most, marked_whole};
 use crate::marks_of_paths::{marked_below, marked_paths};

@@ -10,7 +10,7 @@ ghost use Rattle.pod_rows.specs.Tree.{ancestors};
 
 use acl_rules::{Items, Rules, rules_of};
 use iri_ref::Iri;
-use pod_base::Mem;
+use pod_base::{Mem, push_some};
 use pod_command::{Content, Row};
 use pod_path::{Path, subject_text};
 use std::alloc::Global;
@@ -22,8 +22,8 @@ pub(crate) struct AclList {
     pub rules: Rules,
 }
 
-/// The rules of a content: none where it holds bytes.
-fn rules_in(alloc: Global, base: &Iri, content: &Content) -> Mem<Rules>
+/// The rules of an access list by its content: none where it holds bytes.
+pub fn rules_in(alloc: Global, base: &Iri, content: &Content) -> Mem<Rules>
     ensures { IfOk result (λ rules. rules.list ≡ rules_in base.now content.now) }
 {
     match content {
@@ -46,19 +46,6 @@ fn list_of(alloc: Global, base: &Iri, row: &Row) -> Mem<Option<AclList>>
     match subject {
         Some(at) => Ok(Some(AclList { at, rules })),
         None => Ok(None),
-    }
-}
-
-/// Appends a list, if there is one.
-fn push_some(lists: &mut Vec<AclList>, list: Option<AclList>) -> Mem<()>
-    ensures { OnOk result (lists.new.items ≡ lists.old.items ++ option_to_list list) }
-{
-    match list {
-        Some(list) => {
-            lists.push(list)?;
-            Ok(())
-        }
-        None => Ok(()),
     }
 }
 

@@ -40,7 +40,7 @@ mod state;
 pub mod vocabulary;
 mod well_formed;
 
-pub use acl_list::about;
+pub use acl_list::{about, rules_in};
 pub use base_form::is_base;
 pub use container_graph::container_view;
 pub use edits::{changed_row, with_moment};

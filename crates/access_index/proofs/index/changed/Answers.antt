@@ -17,7 +17,7 @@ add_lists-requires c =
     let kept : c.remove_all.new.entries.items ≡ without_all old (list_subjects removed) =
     c.remove_all.ensures
     ∙ ap (λ (es : List Entry). without_all es c.as_slice.result.now) c.in_ok-new_lists.ensures
-    ∙ ap (without_all old) (c.as_slice.ensures.value ∙ c.in_ok-gone.ensures) in
+    ∙ ap (without_all old) (c.as_slice.ensures.value ∙ c.in_ok-gone.ensures.subjects) in
     subst AreInOrder (sym kept) (order_without_all old (list_subjects removed) c.requires.tables.are_lists.order)
 
 pub refreshed-requires-clause-lists : goal.refreshed-requires-clause-lists
@@ -28,12 +28,12 @@ refreshed-requires-clause-lists c =
     let kept : c.remove_all.new.entries.items ≡ without_all old (list_subjects removed) =
     c.remove_all.ensures
     ∙ ap (λ (es : List Entry). without_all es c.as_slice.result.now) c.in_ok-new_lists.ensures
-    ∙ ap (without_all old) (c.as_slice.ensures.value ∙ c.in_ok-gone.ensures) in
+    ∙ ap (without_all old) (c.as_slice.ensures.value ∙ c.in_ok-gone.ensures.subjects) in
     let lists = lists_after old added removed in
     let lists_are : c.add_lists.new.lists.items ≡ lists =
     c.in_ok-add_lists.ensures
     ∙ ap (λ (es : List Entry). add_lists es c.as_slice-2.result.now) kept
-    ∙ ap (add_lists (without_all old (list_subjects removed))) (c.as_slice-2.ensures.value ∙ c.in_ok-new.ensures) in
+    ∙ ap (add_lists (without_all old (list_subjects removed))) (c.as_slice-2.ensures.value ∙ c.in_ok-new.ensures.subjects) in
     subst AreInOrder (sym (c.as_slice-3.ensures.value ∙ lists_are)) (order_after old added removed c.requires.tables.are_lists.order)
 
 pub refreshed-requires-clause-root : goal.refreshed-requires-clause-root
@@ -44,12 +44,12 @@ refreshed-requires-clause-root c =
     let kept : c.remove_all.new.entries.items ≡ without_all old (list_subjects removed) =
     c.remove_all.ensures
     ∙ ap (λ (es : List Entry). without_all es c.as_slice.result.now) c.in_ok-new_lists.ensures
-    ∙ ap (without_all old) (c.as_slice.ensures.value ∙ c.in_ok-gone.ensures) in
+    ∙ ap (without_all old) (c.as_slice.ensures.value ∙ c.in_ok-gone.ensures.subjects) in
     let lists = lists_after old added removed in
     let lists_are : c.add_lists.new.lists.items ≡ lists =
     c.in_ok-add_lists.ensures
     ∙ ap (λ (es : List Entry). add_lists es c.as_slice-2.result.now) kept
-    ∙ ap (add_lists (without_all old (list_subjects removed))) (c.as_slice-2.ensures.value ∙ c.in_ok-new.ensures) in
+    ∙ ap (add_lists (without_all old (list_subjects removed))) (c.as_slice-2.ensures.value ∙ c.in_ok-new.ensures.subjects) in
     subst (λ (ls : List Entry). IsTrue (is_listed (keys ls) root)) (sym (c.as_slice-3.ensures.value ∙ lists_are)) (root_after old (keys c.args.entries.now) added removed c.requires.tables.are_lists c.requires.root)
 
 pub add_paths-requires-clause-lists : goal.add_paths-requires-clause-lists
@@ -60,12 +60,12 @@ add_paths-requires-clause-lists c =
     let kept : c.remove_all.new.entries.items ≡ without_all old (list_subjects removed) =
     c.remove_all.ensures
     ∙ ap (λ (es : List Entry). without_all es c.as_slice.result.now) c.in_ok-new_lists.ensures
-    ∙ ap (without_all old) (c.as_slice.ensures.value ∙ c.in_ok-gone.ensures) in
+    ∙ ap (without_all old) (c.as_slice.ensures.value ∙ c.in_ok-gone.ensures.subjects) in
     let lists = lists_after old added removed in
     let lists_are : c.add_lists.new.lists.items ≡ lists =
     c.in_ok-add_lists.ensures
     ∙ ap (λ (es : List Entry). add_lists es c.as_slice-2.result.now) kept
-    ∙ ap (add_lists (without_all old (list_subjects removed))) (c.as_slice-2.ensures.value ∙ c.in_ok-new.ensures) in
+    ∙ ap (add_lists (without_all old (list_subjects removed))) (c.as_slice-2.ensures.value ∙ c.in_ok-new.ensures.subjects) in
     subst AreInOrder (sym (c.as_slice-6.ensures.value ∙ lists_are)) (order_after old added removed c.requires.tables.are_lists.order)
 
 pub add_paths-requires-clause-root : goal.add_paths-requires-clause-root
@@ -76,12 +76,12 @@ add_paths-requires-clause-root c =
     let kept : c.remove_all.new.entries.items ≡ without_all old (list_subjects removed) =
     c.remove_all.ensures
     ∙ ap (λ (es : List Entry). without_all es c.as_slice.result.now) c.in_ok-new_lists.ensures
-    ∙ ap (without_all old) (c.as_slice.ensures.value ∙ c.in_ok-gone.ensures) in
+    ∙ ap (without_all old) (c.as_slice.ensures.value ∙ c.in_ok-gone.ensures.subjects) in
     let lists = lists_after old added removed in
     let lists_are : c.add_lists.new.lists.items ≡ lists =
     c.in_ok-add_lists.ensures
     ∙ ap (λ (es : List Entry). add_lists es c.as_slice-2.result.now) kept
-    ∙ ap (add_lists (without_all old (list_subjects removed))) (c.as_slice-2.ensures.value ∙ c.in_ok-new.ensures) in
+    ∙ ap (add_lists (without_all old (list_subjects removed))) (c.as_slice-2.ensures.value ∙ c.in_ok-new.ensures.subjects) in
     subst (λ (ls : List Entry). IsTrue (is_listed (keys ls) root)) (sym (c.as_slice-6.ensures.value ∙ lists_are)) (root_after old (keys c.args.entries.now) added removed c.requires.tables.are_lists c.requires.root)
 
 pub remove_all-requires-2 : goal.remove_all-requires-2
@@ -92,19 +92,19 @@ remove_all-requires-2 c =
     let kept : c.remove_all.new.entries.items ≡ without_all old (list_subjects removed) =
     c.remove_all.ensures
     ∙ ap (λ (es : List Entry). without_all es c.as_slice.result.now) c.in_ok-new_lists.ensures
-    ∙ ap (without_all old) (c.as_slice.ensures.value ∙ c.in_ok-gone.ensures) in
+    ∙ ap (without_all old) (c.as_slice.ensures.value ∙ c.in_ok-gone.ensures.subjects) in
     let lists = lists_after old added removed in
     let lists_are : c.add_lists.new.lists.items ≡ lists =
     c.in_ok-add_lists.ensures
     ∙ ap (λ (es : List Entry). add_lists es c.as_slice-2.result.now) kept
-    ∙ ap (add_lists (without_all old (list_subjects removed))) (c.as_slice-2.ensures.value ∙ c.in_ok-new.ensures) in
+    ∙ ap (add_lists (without_all old (list_subjects removed))) (c.as_slice-2.ensures.value ∙ c.in_ok-new.ensures.subjects) in
     let entries = c.args.entries.now in
     let fresh = map (refreshed lists (list_subjects removed) (list_subjects added)) entries in
     let fresh_are : c.in_ok-all.all.items ≡ fresh =
     c.in_ok-all.ensures
     ∙ ap (λ (ls : List Entry). map (refreshed ls c.as_slice-4.result.now c.as_slice-5.result.now) entries) (c.as_slice-3.ensures.value ∙ lists_are)
-    ∙ ap (λ (gone : List (List ℕ)). map (refreshed lists gone c.as_slice-5.result.now) entries) (c.as_slice-4.ensures.value ∙ c.in_ok-gone.ensures)
-    ∙ ap (λ (new : List (List ℕ)). map (refreshed lists (list_subjects removed) new) entries) (c.as_slice-5.ensures.value ∙ c.in_ok-new.ensures) in
+    ∙ ap (λ (gone : List (List ℕ)). map (refreshed lists gone c.as_slice-5.result.now) entries) (c.as_slice-4.ensures.value ∙ c.in_ok-gone.ensures.subjects)
+    ∙ ap (λ (new : List (List ℕ)). map (refreshed lists (list_subjects removed) new) entries) (c.as_slice-5.ensures.value ∙ c.in_ok-new.ensures.subjects) in
     subst AreInOrder (sym fresh_are) (order_refreshed lists (list_subjects removed) (list_subjects added) entries c.requires.tables.order)
 
 pub add_paths-requires-clause-order : goal.add_paths-requires-clause-order
@@ -115,19 +115,19 @@ add_paths-requires-clause-order c =
     let kept : c.remove_all.new.entries.items ≡ without_all old (list_subjects removed) =
     c.remove_all.ensures
     ∙ ap (λ (es : List Entry). without_all es c.as_slice.result.now) c.in_ok-new_lists.ensures
-    ∙ ap (without_all old) (c.as_slice.ensures.value ∙ c.in_ok-gone.ensures) in
+    ∙ ap (without_all old) (c.as_slice.ensures.value ∙ c.in_ok-gone.ensures.subjects) in
     let lists = lists_after old added removed in
     let lists_are : c.add_lists.new.lists.items ≡ lists =
     c.in_ok-add_lists.ensures
     ∙ ap (λ (es : List Entry). add_lists es c.as_slice-2.result.now) kept
-    ∙ ap (add_lists (without_all old (list_subjects removed))) (c.as_slice-2.ensures.value ∙ c.in_ok-new.ensures) in
+    ∙ ap (add_lists (without_all old (list_subjects removed))) (c.as_slice-2.ensures.value ∙ c.in_ok-new.ensures.subjects) in
     let entries = c.args.entries.now in
     let fresh = map (refreshed lists (list_subjects removed) (list_subjects added)) entries in
     let fresh_are : c.in_ok-all.all.items ≡ fresh =
     c.in_ok-all.ensures
     ∙ ap (λ (ls : List Entry). map (refreshed ls c.as_slice-4.result.now c.as_slice-5.result.now) entries) (c.as_slice-3.ensures.value ∙ lists_are)
-    ∙ ap (λ (gone : List (List ℕ)). map (refreshed lists gone c.as_slice-5.result.now) entries) (c.as_slice-4.ensures.value ∙ c.in_ok-gone.ensures)
-    ∙ ap (λ (new : List (List ℕ)). map (refreshed lists (list_subjects removed) new) entries) (c.as_slice-5.ensures.value ∙ c.in_ok-new.ensures) in
+    ∙ ap (λ (gone : List (List ℕ)). map (refreshed lists gone c.as_slice-5.result.now) entries) (c.as_slice-4.ensures.value ∙ c.in_ok-gone.ensures.subjects)
+    ∙ ap (λ (new : List (List ℕ)). map (refreshed lists (list_subjects removed) new) entries) (c.as_slice-5.ensures.value ∙ c.in_ok-new.ensures.subjects) in
     subst AreInOrder (sym (c.remove_all-2.ensures ∙ ap (λ (es : List Entry). without_all es removed) fresh_are))
     (order_without_all fresh removed (order_refreshed lists (list_subjects removed) (list_subjects added) entries c.requires.tables.order))
 
@@ -139,19 +139,19 @@ invariant_of-result c =
     let kept : c.remove_all.new.entries.items ≡ without_all old (list_subjects removed) =
     c.remove_all.ensures
     ∙ ap (λ (es : List Entry). without_all es c.as_slice.result.now) c.in_ok-new_lists.ensures
-    ∙ ap (without_all old) (c.as_slice.ensures.value ∙ c.in_ok-gone.ensures) in
+    ∙ ap (without_all old) (c.as_slice.ensures.value ∙ c.in_ok-gone.ensures.subjects) in
     let lists = lists_after old added removed in
     let lists_are : c.add_lists.new.lists.items ≡ lists =
     c.in_ok-add_lists.ensures
     ∙ ap (λ (es : List Entry). add_lists es c.as_slice-2.result.now) kept
-    ∙ ap (add_lists (without_all old (list_subjects removed))) (c.as_slice-2.ensures.value ∙ c.in_ok-new.ensures) in
+    ∙ ap (add_lists (without_all old (list_subjects removed))) (c.as_slice-2.ensures.value ∙ c.in_ok-new.ensures.subjects) in
     let entries = c.args.entries.now in
     let fresh = map (refreshed lists (list_subjects removed) (list_subjects added)) entries in
     let fresh_are : c.in_ok-all.all.items ≡ fresh =
     c.in_ok-all.ensures
     ∙ ap (λ (ls : List Entry). map (refreshed ls c.as_slice-4.result.now c.as_slice-5.result.now) entries) (c.as_slice-3.ensures.value ∙ lists_are)
-    ∙ ap (λ (gone : List (List ℕ)). map (refreshed lists gone c.as_slice-5.result.now) entries) (c.as_slice-4.ensures.value ∙ c.in_ok-gone.ensures)
-    ∙ ap (λ (new : List (List ℕ)). map (refreshed lists (list_subjects removed) new) entries) (c.as_slice-5.ensures.value ∙ c.in_ok-new.ensures) in
+    ∙ ap (λ (gone : List (List ℕ)). map (refreshed lists gone c.as_slice-5.result.now) entries) (c.as_slice-4.ensures.value ∙ c.in_ok-gone.ensures.subjects)
+    ∙ ap (λ (new : List (List ℕ)). map (refreshed lists (list_subjects removed) new) entries) (c.as_slice-5.ensures.value ∙ c.in_ok-new.ensures.subjects) in
     let all_are : c.add_paths.new.entries.items ≡ entries_after lists entries added removed =
     c.in_ok-add_paths.ensures.added
     ∙ ap (λ (ls : List Entry). add_paths ls c.remove_all-2.new.entries.items added) (c.as_slice-6.ensures.value ∙ lists_are)
@@ -168,19 +168,19 @@ returns c =
     let kept : c.remove_all.new.entries.items ≡ without_all old (list_subjects removed) =
     c.remove_all.ensures
     ∙ ap (λ (es : List Entry). without_all es c.as_slice.result.now) c.in_ok-new_lists.ensures
-    ∙ ap (without_all old) (c.as_slice.ensures.value ∙ c.in_ok-gone.ensures) in
+    ∙ ap (without_all old) (c.as_slice.ensures.value ∙ c.in_ok-gone.ensures.subjects) in
     let lists = lists_after old added removed in
     let lists_are : c.add_lists.new.lists.items ≡ lists =
     c.in_ok-add_lists.ensures
     ∙ ap (λ (es : List Entry). add_lists es c.as_slice-2.result.now) kept
-    ∙ ap (add_lists (without_all old (list_subjects removed))) (c.as_slice-2.ensures.value ∙ c.in_ok-new.ensures) in
+    ∙ ap (add_lists (without_all old (list_subjects removed))) (c.as_slice-2.ensures.value ∙ c.in_ok-new.ensures.subjects) in
     let entries = c.args.entries.now in
     let fresh = map (refreshed lists (list_subjects removed) (list_subjects added)) entries in
     let fresh_are : c.in_ok-all.all.items ≡ fresh =
     c.in_ok-all.ensures
     ∙ ap (λ (ls : List Entry). map (refreshed ls c.as_slice-4.result.now c.as_slice-5.result.now) entries) (c.as_slice-3.ensures.value ∙ lists_are)
-    ∙ ap (λ (gone : List (List ℕ)). map (refreshed lists gone c.as_slice-5.result.now) entries) (c.as_slice-4.ensures.value ∙ c.in_ok-gone.ensures)
-    ∙ ap (λ (new : List (List ℕ)). map (refreshed lists (list_subjects removed) new) entries) (c.as_slice-5.ensures.value ∙ c.in_ok-new.ensures) in
+    ∙ ap (λ (gone : List (List ℕ)). map (refreshed lists gone c.as_slice-5.result.now) entries) (c.as_slice-4.ensures.value ∙ c.in_ok-gone.ensures.subjects)
+    ∙ ap (λ (new : List (List ℕ)). map (refreshed lists (list_subjects removed) new) entries) (c.as_slice-5.ensures.value ∙ c.in_ok-new.ensures.subjects) in
     let all_are : c.add_paths.new.entries.items ≡ entries_after lists entries added removed =
     c.in_ok-add_paths.ensures.added
     ∙ ap (λ (ls : List Entry). add_paths ls c.remove_all-2.new.entries.items added) (c.as_slice-6.ensures.value ∙ lists_are)

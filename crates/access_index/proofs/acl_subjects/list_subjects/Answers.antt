@@ -1,9 +1,9 @@
 use Rattle.std.proofs.Common.{arith, sym, subst}
 use Rattle.access_index.specs.Tables.{list_subject}
 use Rattle.pod_rows.proofs.Steps.{filter_map_more}
-use Rattle.pod_pages.specs.Numbering.{ArePlain}
-use Rattle.pod_pages.proofs.Freeing.{plain_more}
-use Rattle.pod_pages.proofs.list_numbers.list_subjects.Goals as goal
+use Rattle.access_index.specs.Tables.{ArePlain}
+use Rattle.access_index.proofs.AclSubjects.{plain_more}
+use Rattle.access_index.proofs.acl_subjects.list_subjects.Goals as goal
 
 pub loop-path-preserved : goal.loop-path-preserved
 loop-path-preserved c =
