@@ -16,7 +16,7 @@ use Rattle.token_table.specs.Credentials.{AskedAgent}
 use Rattle.conn_talk.specs.Steps.{AnsweredSo, IsTurn, IsTurned, MayStop, WritesBoth, entry_line}
 use Rattle.conn_talk.specs.Trails.{line_on}
 use Rattle.conn_talk.specs.Turns.{CameTo, IsAnswerOf, IsItemOf, Rules}
-use Rattle.conn_talk.specs.declared.answers.Answer.{Answer}
+use Rattle.pod_core.specs.declared.request_answer.Answer.{Answer}
 use Rattle.conn_talk.specs.declared.answers.AnswerFault.{AnswerFault}
 use Rattle.conn_talk.specs.declared.answers.AnswerFault.TheVariants as faults
 use Rattle.conn_talk.specs.declared.talk_end.TalkEnd.{TalkEnd}

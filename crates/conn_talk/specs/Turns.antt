@@ -5,7 +5,7 @@ use Rattle.pod_base.specs.declared.request.Request.{Request}
 use Rattle.pod_core.specs.Session.{Item, answered, disk_fault, no_memory}
 use Rattle.pod_reply.specs.Replies.{Reply}
 use Rattle.token_table.specs.Credentials.{AskedAgent}
-use Rattle.conn_talk.specs.declared.answers.Answer.{Answer}
+use Rattle.pod_core.specs.declared.request_answer.Answer.{Answer}
 use Rattle.conn_talk.specs.declared.answers.AnswerFault.{AnswerFault}
 use Rattle.conn_talk.specs.declared.answers.AnswerFault.TheVariants.{NoMemory, DiskFault, NoPlace}
 

@@ -6,18 +6,10 @@ ghost use Rattle.reply_laws.specs.Sent.{IsSent};
 ghost use Rattle.token_table.specs.Credentials.{asked_view};
 ghost use Rattle.conn_talk.specs.Turns.{CameTo};
 
-use pod_base::{Moment, Request, Response, Stamp};
+use pod_base::{Request, Stamp};
+use pod_core::Answer;
 use std::alloc::Global;
 use token_table::Asked;
-
-/// The answer to a request: the response, the place of the history at which it was answered, and
-/// the moment of the request.
-#[derive(Debug, Drop)]
-pub struct Answer {
-    pub response: Response,
-    pub place: u64,
-    pub moment: Moment,
-}
 
 /// Why a request wasn't answered.
 #[derive(Clone, Copy, Debug, PartialEq, Eq)]

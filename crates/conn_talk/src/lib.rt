@@ -31,7 +31,7 @@ mod talk_end;
 mod trail;
 
 pub use agents::Agents;
-pub use answers::{Answer, AnswerFault, Answers};
+pub use answers::{AnswerFault, Answers};
 pub use connection::Connection;
 pub use one_request::clock_moment;
 pub use output::Output;

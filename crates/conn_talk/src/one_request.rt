@@ -14,14 +14,14 @@ ghost use Rattle.conn_talk.specs.Steps.{WritesNothing, entry_line};
 ghost use Rattle.conn_talk.specs.Talks.{CountsWrites};
 
 use crate::agents::Agents;
-use crate::answers::{Answer, AnswerFault, Answers};
+use crate::answers::{AnswerFault, Answers};
 use crate::output::Output;
 use crate::response_writing::{write_out, write_text};
 use crate::talk_end::TalkEnd;
 use crate::trail::{TrailEntry, line_of};
 use http_out::{Out, disk_text, memory_text};
 use pod_base::{Moment, Request, Stamp, moment_of};
-use pod_core::{closes_after, is_change};
+use pod_core::{Answer, closes_after, is_change};
 use pod_io::{Clock, Sink, write_all};
 use std::alloc::Global;
 use token_table::Asked;

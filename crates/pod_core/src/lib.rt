@@ -22,9 +22,11 @@
 mod answering;
 pub mod laws;
 mod refused;
+mod request_answer;
 
 pub use answering::answer;
 pub use pod_reply::Replied;
 pub use refused::{closes_after, refusal_of};
 pub use reply_laws::is_change;
+pub use request_answer::Answer;
 pub use request_target::target_path;

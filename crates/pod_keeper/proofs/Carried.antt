@@ -53,7 +53,7 @@ module _ {D : Type 0} (image : D → List ℕ → Type 0) (moment : D → ℕ) (
     moment_at_end history place doubt kept = ap (λ (s : Stamp). s.moment) (later_at_end history old.last stamp kept.last)
 
     pub is_plan : (replied : Replied) (place : ℕ) (at : Stamp) (next : Option Planned) → at ≡ later stamp old.last → place ≡ old.next → IsReply old.pod request asked old.next at (reply_of replied) → IsSent replied.response → IsNoFailure replied.response.status
-        → planned_entry next ≡ option_map bare_entry replied.entry → IfSome next (IsPlannedAt old) → IsPlan image old request asked stamp (record { done = record { response = replied.response; place = place }; moment = at.moment; next = next })
+        → planned_entry next ≡ option_map bare_entry replied.entry → IfSome next (IsPlannedAt old) → IsPlan image old request asked stamp (record { answer = record { response = replied.response; place = place; moment = at.moment }; next = next })
     is_plan replied place at next at_is place_is reply_is sent status entry_is planned =
         let given = subst (λ (s : Stamp). IsReply old.pod request asked old.next s (reply_of replied)) at_is reply_is in record {
           reply = reply_of replied;

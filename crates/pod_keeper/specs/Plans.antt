@@ -49,12 +49,12 @@ pub record IsPlan {D : Type 0} (image : D → List ℕ → Type 0) (keeper : Kee
   pub reply_is : IsReply keeper.pod request asked keeper.next (later stamp keeper.last) reply
   pub at_end : (history : History) (place : ℕ) (doubt : Doubt)
       → IsKept image keeper history place doubt → IsReplyAtEnd history request asked stamp reply
-  pub response_is : plan.done.response ≡ reply.response
-  pub place_is : plan.done.place ≡ keeper.next
-  pub moment_is : plan.moment ≡ (later stamp keeper.last).moment
+  pub response_is : plan.answer.response ≡ reply.response
+  pub place_is : plan.answer.place ≡ keeper.next
+  pub moment_is : plan.answer.moment ≡ (later stamp keeper.last).moment
   pub moment_at_end : (history : History) (place : ℕ) (doubt : Doubt)
-      → IsKept image keeper history place doubt → plan.moment ≡ (stamp_at_end history stamp).moment
+      → IsKept image keeper history place doubt → plan.answer.moment ≡ (stamp_at_end history stamp).moment
   pub entry_is : planned_entry plan.next ≡ reply.entry
   pub planned : IfSome plan.next (IsPlannedAt keeper)
-  pub sent : IsSent plan.done.response
-  pub status : IsNoFailure plan.done.response.status
+  pub sent : IsSent plan.answer.response
+  pub status : IsNoFailure plan.answer.response.status

@@ -15,11 +15,12 @@ ghost use Rattle.reply_laws.specs.Laws.{IsNoFailure};
 ghost use Rattle.reply_laws.specs.Sent.{IsSent};
 ghost use Rattle.token_table.specs.Credentials.{asked_view};
 
-use crate::fault::{CommitFault, Done};
+use crate::fault::CommitFault;
 use crate::keeper::Keeper;
 use crate::plan::{Plan, Planned};
 use journal_log::DiskFault;
 use pod_base::{NoMemory, Request, Stamp};
+use pod_core::Answer;
 use pod_disk::Disk;
 use std::alloc::Global;
 use token_table::Asked;
@@ -41,14 +42,14 @@ impl<D: Disk> Keeper<D> {
         request: &Request,
         asked: &Asked<'_>,
         stamp: Stamp,
-    ) -> Result<Done, CommitFault>
+    ) -> Result<Answer, CommitFault>
         requires change { IsTrue (is_change request.now.method) }
         requires stands { StandsForSome D.image self.old }
 
         // For each history that the keeper represented.
-        ensures done { IfOk result (λ done. ForEachHistory D.image self.old (λ history place doubt.
+        ensures done { IfOk result (λ answer. ForEachHistory D.image self.old (λ history place doubt.
             IsCommitted D.image self.old self.new history place request.now
-            (asked_view asked.now) stamp done.response done.place)) }
+            (asked_view asked.now) stamp answer.response answer.place)) }
         ensures fault { IsErrOf result CommitFault.DiskFault
             → ForEachHistory D.image self.old (λ history place doubt.
             IsCommitFaulted D.image self.old self.new history place doubt request.now
@@ -59,15 +60,15 @@ impl<D: Disk> Keeper<D> {
         // For each of them, by the events of a world: the change is taken, an entry in doubt is
         // repaired, the entry's record is written, and its gate is opened, each with the outcome
         // that the disks returned.
-        ensures world_done { IfOk result (λ done. ForEachHistory D.image self.old
+        ensures world_done { IfOk result (λ answer. ForEachHistory D.image self.old
             (λ history place doubt. IsDoneByEvents D.image self.new history doubt request.now
-            (asked_view asked.now) stamp done.response)) }
+            (asked_view asked.now) stamp answer.response)) }
         ensures world_fault { IsErrOf result CommitFault.DiskFault
             → ForEachHistory D.image self.old (λ history place doubt.
             IsFailedByEvents D.image self.new history doubt request.now
             (asked_view asked.now) stamp) }
-        ensures sent { IfOk result (λ done. IsSent done.response) }
-        ensures status { IfOk result (λ done. IsNoFailure done.response.status) }
+        ensures sent { IfOk result (λ answer. IsSent answer.response) }
+        ensures status { IfOk result (λ answer. IsNoFailure answer.response.status) }
 
         // At each moment.
         ensures pairs { ForEachWhereSure D.image self.old (λ history doubt. LeavesPods D.moment
@@ -81,13 +82,9 @@ impl<D: Disk> Keeper<D> {
     {
         match self.plan(alloc, request, asked, stamp) {
             Ok(plan) => {
-                let Plan {
-                    done,
-                    moment: _,
-                    next,
-                } = plan;
+                let Plan { answer, next } = plan;
                 match self.carry_out(next) {
-                    Ok(()) => Ok(done),
+                    Ok(()) => Ok(answer),
                     Err(DiskFault) => Err(CommitFault::DiskFault),
                 }
             }

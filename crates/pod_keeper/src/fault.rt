@@ -3,7 +3,7 @@ ghost use Rattle.std.specs.Prelude.{◌≡◌};
 ghost use Rattle.pod_keeper.specs.declared.fault.CommitFault.TheVariants as faults;
 
 use journal_log::{DiskFault, OpenFault};
-use pod_base::{NoMemory, Response};
+use pod_base::NoMemory;
 use pod_disk::{Disk, Disks};
 use std::alloc::AllocError;
 use thiserror::Error;
@@ -40,14 +40,6 @@ impl From<AllocError> for CommitFault {
     fn from(_error: AllocError) -> CommitFault {
         CommitFault::NoMemory
     }
-}
-
-/// The response to a change, and the number of entries before it was made: the place of its entry,
-/// where it has one.
-#[derive(Debug, Drop)]
-pub struct Done {
-    pub response: Response,
-    pub place: u64,
 }
 
 /// Why a store wasn't opened. It returns the disks.

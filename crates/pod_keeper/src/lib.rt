@@ -3,7 +3,7 @@
 //! ```ignore
 //! Keeper::init(alloc, &mut disks, base, owner, moment)?;      // a new store, on two empty disks
 //! let mut keeper = Keeper::open(alloc, disks)?;               // each entry is applied once
-//! let done = keeper.commit(alloc, &request, &asked, stamp)?;  // on the disks before it returns
+//! let answer = keeper.commit(alloc, &request, &asked, stamp)?;  // on the disks before it returns
 //! let version = keeper.version();
 //! ```
 //!
@@ -45,7 +45,7 @@ mod plan;
 mod planned_write;
 
 pub use crash_openings::{openings_give_what_stands, opens_after, opens_after_a_crash};
-pub use fault::{CommitFault, Done, NotOpened};
+pub use fault::{CommitFault, NotOpened};
 pub use keeper::Keeper;
 pub use laws::moments_are_of_steps;
 pub use plan::{Plan, Planned};

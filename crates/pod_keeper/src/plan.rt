@@ -19,13 +19,12 @@ ghost use Rattle.reply_laws.specs.Laws.{IsNoFailure};
 ghost use Rattle.reply_laws.specs.Sent.{IsSent};
 ghost use Rattle.token_table.specs.Credentials.{asked_view};
 
-use crate::fault::Done;
 use crate::keeper::{Keeper, shared};
 use journal_log::{EPOCH_LIMIT, Framed};
 use journal_pair::Pair;
 use pod_base::{Mem, Moment, Request, Stamp};
 use pod_command::Entry;
-use pod_core::{Replied, answer};
+use pod_core::{Answer, Replied, answer};
 use pod_disk::Disk;
 use pod_pages::Version;
 use pod_records::{entry_record, snapshot_record};
@@ -40,9 +39,8 @@ const OLD_FORMAT: u8 = 1;
 /// What a change comes to: its answer, and where it has an entry, what is to be written.
 #[derive(Drop)]
 pub struct Plan {
-    pub done: Done,
-    /// The greater of the stamp's moment and that of the last entry.
-    pub moment: Moment,
+    /// Its moment is the greater of the stamp's and that of the last entry.
+    pub answer: Answer,
     pub next: Option<Planned>,
 }
 
@@ -149,8 +147,11 @@ impl<D: Disk> Keeper<D> {
         let place = self.seq();
         let next = self.plan_entry(alloc, entry)?;
         Ok(Plan {
-            done: Done { response, place },
-            moment: stamp.moment,
+            answer: Answer {
+                response,
+                place,
+                moment: stamp.moment,
+            },
             next,
         })
     }

@@ -58,14 +58,14 @@ pub record IsPlannedHere {D : Type 0} (image : D → List ℕ → Type 0) (kept 
   pub reply : Reply
   pub replies : RepliesAtEnd kept list request asked stamp reply
   pub events : IsChange kept list request asked stamp reply
-  pub response_is : plan.done.response ≡ reply.response
-  pub place_is : plan.done.place ≡ first + length list
-  pub moment_is : IsMomentAtEnd kept list stamp plan.moment.0
+  pub response_is : plan.answer.response ≡ reply.response
+  pub place_is : plan.answer.place ≡ first + length list
+  pub moment_is : IsMomentAtEnd kept list stamp plan.answer.moment.0
   pub entry_is : planned_entry plan.next ≡ reply.entry
   pub plans : PlansEntry image keeper request asked stamp (planned_entry plan.next)
   pub planned : IfSome plan.next (IsPlannedAt keeper)
-  pub sent : IsSent plan.done.response
-  pub status : IsNoFailure plan.done.response.status
+  pub sent : IsSent plan.answer.response
+  pub status : IsNoFailure plan.answer.response.status
 
 -- A change was decided by one list of entries, of which what the session had seen is a prefix. The
 -- session was told of that list with the answer's entry, and has made no look.

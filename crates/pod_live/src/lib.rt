@@ -38,8 +38,8 @@ mod store_names;
 
 pub use laws::moments_are_of_changes;
 pub use live::{Live, NotLive, Rounds};
-pub use pod_keeper::{CommitFault, Done, Keeper, NotOpened, Version};
+pub use pod_keeper::{CommitFault, Keeper, NotOpened, Version};
 pub use published_version::{CommittedEntry, PodTold, Shown};
-pub use read_answers::{PlacedResponse, answer_read};
+pub use read_answers::answer_read;
 pub use session::{Seat, Session};
 pub use store_names::{Changes, Faults, KeeperName, Names, StoreName};

@@ -21,10 +21,10 @@ ghost use Rattle.pod_live.specs.Visits.{Changed, FaultedAt, IsFaulted, IsNewVisi
 
 use crate::locked_store::Locked;
 use crate::published_version::{CommittedEntry, PodTold, Shown};
-use crate::read_answers::PlacedResponse;
 use crate::session::{Seat, Session};
 use crate::store_names::{Changes, Faults, KeeperName, Names, StoreName};
 use pod_base::{List, Mem, NoMemory, Request, Response, Stamp};
+use pod_core::Answer;
 use pod_disk::Disk;
 use pod_keeper::{CommitFault, Keeper, Version};
 use pod_rows::PodState;
@@ -76,7 +76,7 @@ pub trait Rounds<N: ViewName<CommittedEntry> + StoreName> {
         request: &Request,
         asked: &Asked<'_>,
         stamp: Stamp,
-    ) -> Result<PlacedResponse, CommitFault>
+    ) -> Result<Answer, CommitFault>
         requires { IsTrue (is_change request.now.method) }
         ensures changed { IfOk result (λ done. Changed N.kept N.opened.next session.old request.now
             (asked_view asked.now) stamp done.response done.place done.moment.0 session.new) }
@@ -334,7 +334,7 @@ impl<N: ViewName<CommittedEntry> + StoreName + KeeperName<D>, D: Disk> Live<N, D
         request: &Request,
         asked: &Asked<'_>,
         stamp: Stamp,
-    ) -> Option<Result<PlacedResponse, CommitFault>>
+    ) -> Option<Result<Answer, CommitFault>>
         requires { IsTrue (is_change request.now.method) }
         ensures decided { IfSome result (λ r. IfOk r (λ done. Decided N.kept N.opened.next
             session.old request.now (asked_view asked.now) stamp done.response done.place
@@ -376,7 +376,7 @@ impl<N: ViewName<CommittedEntry> + StoreName + KeeperName<D>, D: Disk> Rounds<N>
         request: &Request,
         asked: &Asked<'_>,
         stamp: Stamp,
-    ) -> Result<PlacedResponse, CommitFault> {
+    ) -> Result<Answer, CommitFault> {
         for _ in rt.forever() {
             if let Some(done) = self.try_commit(rt, alloc, session, request, asked, stamp) {
                 let done = done?;

@@ -13,12 +13,12 @@ ghost use Rattle.pod_live.specs.Locks.{Decided, IsPlannedHere, PlansEntry};
 ghost use Rattle.pod_live.specs.Visits.{FaultedAt, IsFaulted};
 
 use crate::published_version::{CommittedEntry, PodTold, Shown};
-use crate::read_answers::PlacedResponse;
 use crate::session::{Seat, Session};
 use crate::store_names::{Changes, Faults, KeeperName, StoreName};
 use pod_base::{Mem, NoMemory, Request, Stamp};
+use pod_core::Answer;
 use pod_disk::Disk;
-use pod_keeper::{CommitFault, Done, Keeper, Plan, Planned};
+use pod_keeper::{CommitFault, Keeper, Plan, Planned};
 use published_view::{KeptTwice, Publisher, VersionWithList, ViewName};
 use std::alloc::Global;
 use std::marker::Model;
@@ -190,7 +190,7 @@ impl<N: ViewName<CommittedEntry> + StoreName + KeeperName<D>, D: Disk> Locked<N,
         request: &Request,
         asked: &Asked<'_>,
         stamp: Stamp,
-    ) -> Result<PlacedResponse, CommitFault>
+    ) -> Result<Answer, CommitFault>
         requires seen { IsPrefix session.old.seen self.old.list }
         requires change { IsTrue (is_change request.now.method) }
         ensures decided { IfOk result (λ done. Decided N.kept N.opened.next session.old request.now
@@ -208,16 +208,11 @@ impl<N: ViewName<CommittedEntry> + StoreName + KeeperName<D>, D: Disk> Locked<N,
         let Ok(plan) = self.plan_here(alloc, request, asked, stamp) else {
             return Err(CommitFault::NoMemory);
         };
-        let Plan { done, moment, next } = plan;
+        let Plan { answer, next } = plan;
         match self.carry_out(rt, alloc, session, request, asked, stamp, next) {
             Ok(()) => {
                 self.learn_published(session);
-                let Done { response, place } = done;
-                Ok(PlacedResponse {
-                    response,
-                    place,
-                    moment,
-                })
+                Ok(answer)
             }
             Err(CommitFault::DiskFault) => Err(CommitFault::DiskFault),
             Err(CommitFault::NoMemory) => Err(CommitFault::NoMemory),

@@ -12,21 +12,13 @@ ghost use Rattle.pod_live.specs.WorldEvents.{IsLook};
 use crate::published_version::CommittedEntry;
 use crate::session::Session;
 use crate::store_names::StoreName;
-use pod_base::{Mem, Moment, Request, Response, Stamp};
-use pod_core::{Replied, answer};
+use pod_base::{Mem, Request, Response, Stamp};
+use pod_core::{Answer, Replied, answer};
 use pod_pages::Version;
 use pod_rows::PodState;
 use published_view::{ViewFault, ViewName};
 use std::alloc::Global;
 use token_table::Asked;
-
-/// A response, the position of the history at which it was made, and the moment of its request.
-#[derive(Debug, Drop)]
-pub struct PlacedResponse {
-    pub response: Response,
-    pub place: u64,
-    pub moment: Moment,
-}
 
 /// Answers a request that is no change from the version of one look. It waits for nobody.
 ///
@@ -64,7 +56,7 @@ fn answer_at(
     request: &Request,
     asked: &Asked<'_>,
     stamp: Stamp,
-) -> Mem<PlacedResponse>
+) -> Mem<Answer>
     requires { is_change request.now.method ≡ false }
     ensures reply { IfOk result (λ placed. IsVersionReply version.now request.now
         (asked_view asked.now) stamp placed.response) }
@@ -76,7 +68,7 @@ fn answer_at(
     let place = version.next();
     let replied = answer(alloc, version, request, asked, place, stamp)?;
     let Replied { response, entry: _ } = replied;
-    Ok(PlacedResponse {
+    Ok(Answer {
         response,
         place,
         moment: stamp.moment,
@@ -92,7 +84,7 @@ impl<N: ViewName<CommittedEntry> + StoreName> Session<N> {
         request: &Request,
         asked: &Asked<'_>,
         stamp: Stamp,
-    ) -> Result<PlacedResponse, ViewFault>
+    ) -> Result<Answer, ViewFault>
         requires { is_change request.now.method ≡ false }
         ensures read { IfOk result (λ placed. ReadAt N.kept self.new.seen request.now
             (asked_view asked.now) stamp placed.response) }

@@ -282,4 +282,3 @@ pub(crate) fn changed_subjects(
     }
     Ok(changed)
 }
-

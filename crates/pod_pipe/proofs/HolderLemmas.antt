@@ -3,7 +3,7 @@ use Rattle.std.proofs.Common.{◌≡◌, ℕ, ◌+◌, if◌then◌else◌, List
 use Rattle.std.specs.Option.{option_to_list}
 use Rattle.conn_talk.proofs.AtEndLemmas.{owes_at_end}
 use Rattle.conn_talk.specs.Turns.{CameTo}
-use Rattle.conn_talk.specs.declared.answers.Answer.{Answer}
+use Rattle.pod_core.specs.declared.request_answer.Answer.{Answer}
 use Rattle.conn_talk.specs.declared.answers.AnswerFault.TheVariants.{NoMemory, DiskFault}
 use Rattle.pod_base.specs.declared.moment.Stamp.{Stamp}
 use Rattle.pod_base.specs.declared.request.Request.{Request}

@@ -26,7 +26,7 @@ use Rattle.pod_rows.specs.Pod.{Pod}
 use Rattle.reply_laws.specs.Granted.{is_change}
 use Rattle.token_table.specs.Credentials.{AskedAgent}
 use Rattle.pod_pipe.specs.Holders.{Advances, CountsDiskFaults, IsAnswerAtEnd, item_answered, item_of, moment_of_request, stamp_of_request}
-use Rattle.conn_talk.specs.declared.answers.Answer.{Answer}
+use Rattle.pod_core.specs.declared.request_answer.Answer.{Answer}
 
 -- the moment of a change there
 pub change_moment_is : (history : History) (request : Request) (seconds : ℕ) → IsTrue (is_change request.method) → moment_of_request history request seconds ≡ max seconds (moment_before history (end_of history))

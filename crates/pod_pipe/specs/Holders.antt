@@ -10,7 +10,7 @@ use Rattle.pod_reply.specs.Replies.{Reply}
 use Rattle.pod_reply.specs.Reply.{IsReply}
 use Rattle.reply_laws.specs.Granted.{is_change}
 use Rattle.token_table.specs.Credentials.{AskedAgent}
-use Rattle.conn_talk.specs.declared.answers.Answer.{Answer}
+use Rattle.pod_core.specs.declared.request_answer.Answer.{Answer}
 use Rattle.pod_pipe.specs.declared.holder.HolderFault.{HolderFault}
 use Rattle.pod_pipe.specs.declared.holder.HolderFault.TheVariants.{NoMemory, DiskFault}
 

@@ -1,8 +1,9 @@
 //! [`Held`]: the holder of a pod, as what answers its one connection.
 
 use crate::holder::{HolderFault, PodHolder};
-use conn_talk::{Answer, AnswerFault, Answers};
+use conn_talk::{AnswerFault, Answers};
 use pod_base::{Request, Stamp};
+use pod_core::Answer;
 use std::alloc::Global;
 use token_table::Asked;
 

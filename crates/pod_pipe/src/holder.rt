@@ -9,8 +9,8 @@ ghost use Rattle.token_table.specs.Credentials.{asked_view};
 ghost use Rattle.pod_pipe.specs.Holders.{AdvancesUnanswered, AnswersAtEnd, CountsUnanswered};
 ghost use Rattle.pod_pipe.specs.Holders.{Faults, faults_in, out_of_memory_in};
 
-use conn_talk::Answer;
 use pod_base::{Request, Stamp};
+use pod_core::Answer;
 use std::alloc::Global;
 use token_table::Asked;
 

@@ -55,11 +55,12 @@ mod store_pipe;
 mod stored_pod;
 mod token_file;
 
-pub use conn_talk::{Agents, Answer, clock_moment};
+pub use conn_talk::{Agents, clock_moment};
 pub use connection::{Piped, pipe};
 pub use holder::{HolderFault, PodHolder};
 pub use memory_pod::{MemoryPod, moment_after};
 pub use options::PipeOptions;
+pub use pod_core::Answer;
 pub use refusal_lines::{refuse, refuse_table};
 pub use status::{PipeEnd, Status};
 pub use store_pipe::pipe_store;

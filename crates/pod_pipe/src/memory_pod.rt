@@ -11,10 +11,9 @@ ghost use Rattle.pod_pipe.specs.Holders.{AnswersAtEnd};
 ghost use Rattle.pod_pipe.specs.Memory.{memory_stands, memory_takes};
 
 use crate::holder::{HolderFault, PodHolder};
-use conn_talk::Answer;
 use pod_base::{Mem, Moment, Request, Stamp};
 use pod_command::Entry;
-use pod_core::{Replied, answer, is_change};
+use pod_core::{Answer, Replied, answer, is_change};
 use pod_pages::Version;
 use pod_rows::PodState;
 use std::alloc::Global;

@@ -14,7 +14,7 @@ use crate::{Answer, HolderFault, PodHolder, moment_after};
 use pod_base::{Mem, Moment, Request, Stamp};
 use pod_core::{Replied, answer, is_change};
 use pod_disk::Disk;
-use pod_keeper::{CommitFault, Done, Keeper};
+use pod_keeper::{CommitFault, Keeper};
 use std::alloc::Global;
 use token_table::Asked;
 
@@ -85,7 +85,11 @@ impl<D: Disk> StoredPod<D> {
         let moment = self.change_moment(stamp.moment);
         match self.keeper.commit(alloc, request, asked, stamp) {
             Ok(done) => {
-                let Done { response, place } = done;
+                let Answer {
+                    response,
+                    place,
+                    moment: _,
+                } = done;
                 Ok(Answer {
                     response,
                     place,

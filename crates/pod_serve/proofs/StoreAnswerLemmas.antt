@@ -6,7 +6,7 @@ use mathlib.Core.List.{IsPrefix}
 use Rattle.pod_base.proofs.Prefixes.{prefix_self}
 use Rattle.conn_talk.specs.Talks.{Chain, Ticks}
 use Rattle.conn_talk.specs.Turns.{CameTo, IsAnswerOf, IsItemOf, Rules}
-use Rattle.conn_talk.specs.declared.answers.Answer.{Answer}
+use Rattle.pod_core.specs.declared.request_answer.Answer.{Answer}
 use Rattle.conn_talk.specs.declared.answers.AnswerFault.{AnswerFault}
 use Rattle.conn_talk.specs.declared.answers.AnswerFault.TheVariants.{NoMemory, DiskFault, NoPlace}
 use Rattle.pod_base.specs.declared.moment.Moment.{Moment}

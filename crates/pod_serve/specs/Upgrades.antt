@@ -8,7 +8,7 @@ use Rattle.pod_reply.specs.Replies.{Reply}
 use Rattle.pod_reply.specs.Reply.{agent_of}
 use Rattle.request_target.specs.Targets.{origin_form}
 use Rattle.token_table.specs.Credentials.{AskedAgent}
-use Rattle.conn_talk.specs.declared.answers.Answer.{Answer}
+use Rattle.pod_core.specs.declared.request_answer.Answer.{Answer}
 use Rattle.conn_talk.specs.declared.answers.AnswerFault.{AnswerFault}
 use Rattle.pod_serve.specs.declared.upgrade.Upgrade.{Upgrade}
 

@@ -7,10 +7,10 @@ ghost use Rattle.token_table.specs.Credentials.{asked_view};
 ghost use Rattle.pod_serve.specs.Serving.{FoundNoPlace, SessionTurn};
 
 use crate::upgrade::{Upgrade, upgrade_in};
-use conn_talk::{Answer, AnswerFault, Answers};
+use conn_talk::{AnswerFault, Answers};
 use pod_base::{Request, Stamp};
-use pod_core::is_change;
-use pod_live::{CommitFault, CommittedEntry, PlacedResponse, Rounds, Session, StoreName};
+use pod_core::{Answer, is_change};
+use pod_live::{CommitFault, CommittedEntry, Rounds, Session, StoreName};
 use published_view::{ViewFault, ViewName};
 use std::alloc::Global;
 use std::sync::Wait;
@@ -31,18 +31,7 @@ fn answer_read<N: ViewName<CommittedEntry> + StoreName>(
     ensures sent { IfOk result (λ answer. IsSent answer.response) }
 {
     match session.read(alloc, request, asked, stamp) {
-        Ok(placed) => {
-            let PlacedResponse {
-                response,
-                place,
-                moment,
-            } = placed;
-            Ok(Answer {
-                response,
-                place,
-                moment,
-            })
-        }
+        Ok(answer) => Ok(answer),
         Err(ViewFault::NoMemory) => Err(AnswerFault::NoMemory),
         Err(ViewFault::NoPlace) => Err(AnswerFault::NoPlace),
     }
@@ -65,18 +54,7 @@ fn answer_change<N: ViewName<CommittedEntry> + StoreName, L: Rounds<N>, R: Wait>
     ensures sent { IfOk result (λ answer. IsSent answer.response) }
 {
     match live.commit(rt, alloc, session, request, asked, stamp) {
-        Ok(placed) => {
-            let PlacedResponse {
-                response,
-                place,
-                moment,
-            } = placed;
-            Ok(Answer {
-                response,
-                place,
-                moment,
-            })
-        }
+        Ok(answer) => Ok(answer),
         Err(CommitFault::NoMemory) => Err(AnswerFault::NoMemory),
         Err(CommitFault::DiskFault) => Err(AnswerFault::DiskFault),
     }

@@ -4,9 +4,10 @@ ghost use Rattle.pod_reply.specs.Reply.{agent_of};
 ghost use Rattle.token_table.specs.Credentials.{asked_view};
 ghost use Rattle.pod_serve.specs.Upgrades.{IsUpgradeTo, NotesAnswer};
 
-use conn_talk::{Answer, AnswerFault};
+use conn_talk::AnswerFault;
 use iri_ref::Iri;
 use pod_base::{Agent, Mem, Request};
+use pod_core::Answer;
 use pod_path::Path;
 use request_target::target_path;
 use std::alloc::Global;

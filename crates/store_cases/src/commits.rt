@@ -8,8 +8,9 @@ use crate::requests::put;
 use case_words::{first_word, number_of, numbers_of};
 use journal_log::OpenFault;
 use pod_base::{Bytes, List, Mem, NoMemory};
+use pod_core::Answer;
 use pod_disk::{Disks, MemDisk};
-use pod_keeper::{CommitFault, Done};
+use pod_keeper::CommitFault;
 use pod_rows::PodState;
 use std::alloc::Global;
 
@@ -52,7 +53,7 @@ fn head(alloc: Global, bytes: &[u8]) -> Mem<String> {
 }
 
 /// The outcome of a commit: a status and its place.
-fn told(alloc: Global, outcome: Option<Result<Done, CommitFault>>) -> Mem<String> {
+fn told(alloc: Global, outcome: Option<Result<Answer, CommitFault>>) -> Mem<String> {
     match outcome {
         Some(Ok(done)) => Ok(format!(in alloc; "{}@{}", done.response.status, done.place)?),
         Some(Err(CommitFault::DiskFault)) => Ok(String::from_str(alloc, "disk")?),

@@ -6,9 +6,9 @@ ghost use Rattle.pod_keeper.specs.Kept.{StandsForSome};
 
 use journal_log::OpenFault;
 use pod_base::{Bytes, List, Mem, Moment, Request, Stamp, Text};
-use pod_core::is_change;
+use pod_core::{Answer, is_change};
 use pod_disk::{Disks, MemDisk};
-use pod_keeper::{CommitFault, Done, Keeper, Version};
+use pod_keeper::{CommitFault, Keeper, Version};
 use std::alloc::Global;
 use std::marker::Model;
 use token_table::Asked;
@@ -68,7 +68,7 @@ impl Held {
         &mut self,
         alloc: Global,
         request: &Request,
-    ) -> Mem<Option<Result<Done, CommitFault>>> {
+    ) -> Mem<Option<Result<Answer, CommitFault>>> {
         if !is_change(request.method) {
             return Ok(None);
         }

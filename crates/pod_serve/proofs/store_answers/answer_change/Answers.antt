@@ -5,7 +5,7 @@ use Rattle.pod_serve.proofs.store_answers.answer_change.Goals as goal
 
 pub returns-in-Ok-clause-turned : goal.returns-in-Ok-clause-turned
 returns-in-Ok-clause-turned g c =
-    change_answered g.N.StoreName.kept g.N.StoreName.opened.next c.args.request.now (asked_view c.args.asked.now) c.args.stamp c.args.session.now c.commit.new.session c.in-Ok.placed.response c.in-Ok.placed.place c.in-Ok.placed.moment c.requires c.in-Ok.ensures.changed
+    change_answered g.N.StoreName.kept g.N.StoreName.opened.next c.args.request.now (asked_view c.args.asked.now) c.args.stamp c.args.session.now c.commit.new.session c.in-Ok.answer.response c.in-Ok.answer.place c.in-Ok.answer.moment c.requires c.in-Ok.ensures.changed
 
 pub returns-in-Err-NoMemory-clause-turned : goal.returns-in-Err-NoMemory-clause-turned
 returns-in-Err-NoMemory-clause-turned g c =

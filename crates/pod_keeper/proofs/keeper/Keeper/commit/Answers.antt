@@ -24,7 +24,7 @@ returns-in-Err-clause-pairs g c = λ history place doubt kept sure long. leaves_
 
 pub returns-in-Ok-carry_out-clause-world_done : goal.returns-in-Ok-carry_out-clause-world_done
 returns-in-Ok-carry_out-clause-world_done g c = λ history place doubt kept. done_by_events g.D.Disk.image c.args.self.now c.carry_out.new.self history place doubt kept c.args.request.now (asked_view c.args.asked.now) c.args.stamp c.requires.change
-    c.in-Ok.plan.done.response c.in-Ok.plan.done.place
+    c.in-Ok.plan.answer.response c.in-Ok.plan.answer.place
     (committed g.D.Disk.image g.D.Disk.moment g.D.Disk.left_since c.args.self.now c.args.request.now (asked_view c.args.asked.now) c.args.stamp c.in-Ok.plan c.in-Ok.ensures
     c.carry_out.new.self c.in-Ok-carry_out.ensures.follows history place doubt kept)
 

@@ -1,6 +1,6 @@
 use Rattle.std.proofs.Common.{Err, ap, refl, subst, sym, ◌∙◌}
 use Rattle.token_table.specs.Credentials.{asked_view}
-use Rattle.conn_talk.specs.declared.answers.Answer.{Answer}
+use Rattle.pod_core.specs.declared.request_answer.Answer.{Answer}
 use Rattle.pod_reply.specs.Replies.{Reply}
 use Rattle.pod_pipe.proofs.StoredLemmas.{IsAnsweredBy, committed, faulted, out_of_memory, same_reply}
 use Rattle.pod_pipe.proofs.stored_pod.StoredPod.change.Goals as goal
