@@ -9,7 +9,7 @@ ghost use Rattle.jsonld_expanded.specs.Walks.{Advances, Stands};
 
 use iri_ref::Iri;
 use pod_base::{Mem, NoMemory};
-use rdf_graph::{TRIPLES_LIMIT, Term, Triple, copy_iri};
+use rdf_graph::{TRIPLES_LIMIT, Term, Triple, copy_iri, saturating_sum};
 use std::alloc::Global;
 
 /// The most bytes that the terms that are made for one document have in their stored form. Each
@@ -26,14 +26,6 @@ pub(crate) struct Walk {
     pub(crate) next: u64,
     /// How many bytes of terms may still be made.
     pub(crate) left: u64,
-}
-
-/// The sum of two sizes, at most 2^64 - 1.
-fn saturating_sum(first: u64, second: u64) -> u64
-    ensures { (m : ℕ) (n : ℕ) → first ≡ saturated m → second ≡ saturated n
-        → result ≡ saturated (m + n) }
-{
-    first.saturating_add(second)
 }
 
 /// What is left of the bytes of terms that may be made, after this one.

@@ -7,8 +7,7 @@ ghost use Rattle.rdf_graph.specs.declared.size.TheConstants.{TRIPLES_LIMIT};
 ghost use Rattle.n3_patch.specs.Size.{node_size, nodes_size, counted_size, patch_size};
 
 use crate::triples::{PatchNode, PatchTriple};
-use rdf_graph::TRIPLES_LIMIT;
-use turtle_reader::saturating_sum;
+use rdf_graph::{TRIPLES_LIMIT, saturating_sum};
 
 /// The most bytes that the triples of a patch document count: past it the parser is out of memory.
 /// It is 8 times the limit of a document, so that the first broken rule of one that is too large is

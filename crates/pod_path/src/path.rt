@@ -198,7 +198,7 @@ impl Path {
     }
 
     /// Whether this is the path of an ACL or of a description.
-    fn is_auxiliary(&self) -> bool
+    pub fn is_auxiliary(&self) -> bool
         ensures is { result ≡ is_auxiliary self.now }
         ensures path { IsPath self.now }
     {

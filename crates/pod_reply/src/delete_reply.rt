@@ -5,7 +5,7 @@ ghost use Rattle.pod_reply.specs.DeleteReplies as spec;
 ghost use Rattle.pod_reply.specs.Ranks.{Ends};
 
 use crate::context::Context;
-use crate::obstacles::{find_row, is_auxiliary, refuse_condition, refuse_room};
+use crate::obstacles::{find_row, refuse_condition, refuse_room};
 use crate::replied::{Replied, change_reply};
 use crate::stop::{Rank, refuse_if};
 use pod_base::{List, Mem, Moment};
@@ -26,7 +26,7 @@ fn delete_edits<S: PodState>(
     ensures { IfOk result (λ edits. edits.items
         ≡ spec.delete_edits (S.pod state.now) path.now modified) }
 {
-    if is_auxiliary(path) {
+    if path.is_auxiliary() {
         removal(alloc, path.copy(alloc)?)
     } else {
         deletion(alloc, state, path, modified)

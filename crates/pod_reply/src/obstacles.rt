@@ -5,7 +5,6 @@ ghost use Rattle.std.specs.Prelude.{◌≡◌, List, Some, ⊤, codes, not};
 ghost use Rattle.pod_command.specs.declared.row.Row.{Row as TheRow};
 ghost use Rattle.pod_edits.specs.Places.{IsPlaceOf};
 ghost use Rattle.pod_edits.specs.Refusals.{added_rows, states_containment};
-ghost use Rattle.pod_path.specs.Hierarchy.{is_auxiliary};
 ghost use Rattle.pod_reply.specs.Obstacles as spec;
 ghost use Rattle.pod_reply.specs.PutReplies.{place_refusal};
 ghost use Rattle.pod_reply.specs.Ranks.{Passes};
@@ -24,13 +23,6 @@ use pod_responses::refusal;
 use pod_rows::PodState;
 use rdf_graph::Triple;
 use std::alloc::Global;
-
-/// Whether a path is that of an access list or a description.
-pub(crate) fn is_auxiliary(path: &Path) -> bool
-    ensures { result ≡ is_auxiliary path.now }
-{
-    path.is_acl() || path.is_meta()
-}
 
 /// 404 `missing`, where there is no row at the path; else the row.
 pub(crate) fn find_row<'a, S: PodState>(context: &'a Context<'_, S>) -> Rank<&'a Row>
@@ -58,7 +50,7 @@ fn added_rows(path: &Path, place: &Place) -> usize
     ensures { (rows : List TheRow) → IsPlaceOf rows path.now place.now
         → result ≡ added_rows rows path.now }
 {
-    if is_auxiliary(path) {
+    if path.is_auxiliary() {
         1
     } else {
         place.added_rows()

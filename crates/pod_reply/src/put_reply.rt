@@ -8,7 +8,7 @@ ghost use Rattle.pod_rows.specs.Pod.{is_row};
 ghost use Rattle.pod_rows.specs.View.{triples_in};
 
 use crate::context::Context;
-use crate::obstacles::{is_auxiliary, refuse_condition, refuse_content, refuse_place};
+use crate::obstacles::{refuse_condition, refuse_content, refuse_place};
 use crate::replied::{Replied, change_reply};
 use crate::stop::Rank;
 use pod_base::{List, Mem, Moment, Response};
@@ -69,7 +69,7 @@ fn making_edits<S: PodState>(
         (is_row (S.pod state.now).rows row.path)) }
 {
     match place {
-        Some(place) => if is_auxiliary(&row.path) {
+        Some(place) => if row.path.is_auxiliary() {
             replacement(alloc, row)
         } else {
             creation(alloc, row, place)

@@ -8,10 +8,10 @@ ghost use Rattle.sparql_patch.specs.Reading.{IsCounted, IsCollected};
 
 use crate::named::Named;
 use pod_base::{List, Mem, NoMemory};
-use rdf_graph::{TRIPLES_LIMIT, Term, Triple};
+use rdf_graph::{TRIPLES_LIMIT, Term, Triple, saturating_sum};
 use std::alloc::Global;
 use turtle_grammar::{Start, Within};
-use turtle_reader::{Language, Referent, ResolvedTriple, saturating_sum};
+use turtle_reader::{Language, Referent, ResolvedTriple};
 
 /// What an update names so far. Past the limit on size nothing more is kept, and past a blank node
 /// nothing is known of the rest.

@@ -41,6 +41,7 @@ mod token_search;
 
 pub use classes::Quote;
 pub use lexer::Lexer;
+pub use scan::strip_any_case;
 pub use texts::{is_label, is_lang_tag};
 pub use token::{LexFault, Token, TokenKind};
 pub use token_list::{listed_token, tokens};

@@ -178,8 +178,8 @@ fn tag_token(text: &[u8]) -> Option<(TokenKind, &[u8])>
     }
 }
 
-/// What follows the letters of a word in any case.
-fn strip_any_case<'a>(text: &'a [u8], spelling: &[u8]) -> Option<&'a [u8]>
+/// What follows a fixed word whose letters may be of either case, at the start of a text.
+pub fn strip_any_case<'a>(text: &'a [u8], spelling: &[u8]) -> Option<&'a [u8]>
     ensures { MatchesOnly (any_case spelling.now) text.now (option_copied result) }
 {
     if text.len() < spelling.len() {

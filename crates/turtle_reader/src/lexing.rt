@@ -2,8 +2,6 @@
 //! any case.
 
 ghost use Rattle.std.specs.Prelude.{◌≡◌, ◌<◌, length, drop, IfOk, IfSome, IfNone};
-ghost use Rattle.std.specs.Option.{option_copied};
-ghost use Rattle.turtle_lex.specs.Pattern.{any_case, MatchesOnly};
 ghost use Rattle.turtle_reader.specs.Lexemes.{IsLexemeOf};
 ghost use Rattle.turtle_reader.specs.Texts.{MatchesWord, HasNoWord, IsWordOf, IsWordAnswer};
 ghost use Rattle.turtle_reader.specs.Texts.{IsTokenlessAnswer, IsLexed, is_string_symbol};
@@ -11,7 +9,7 @@ ghost use Rattle.turtle_reader.specs.Texts.{adds, adds_to_string};
 
 use crate::lexeme::Lexeme;
 use turtle_grammar::{Start, Symbol};
-use turtle_lex::{LexFault, Lexer, TokenKind, listed_token};
+use turtle_lex::{LexFault, Lexer, TokenKind, listed_token, strip_any_case};
 
 /// Whether a lexeme of this symbol is a String.
 pub(crate) fn is_string(symbol: Symbol) -> bool
@@ -40,21 +38,6 @@ pub(crate) fn adds_to_string(next: &Result<Option<Lexeme>, LexFault>) -> bool
     match next {
         Ok(Some(lexeme)) => adds(lexeme.symbol),
         _ => false,
-    }
-}
-
-/// What follows the letters of a word in any case.
-fn strip_any_case<'a>(text: &'a [u8], spelling: &[u8]) -> Option<&'a [u8]>
-    ensures { MatchesOnly (any_case spelling.now) text.now (option_copied result) }
-{
-    if text.len() < spelling.len() {
-        return None;
-    }
-    let (letters, rest) = text.split_at(spelling.len());
-    if letters.eq_ignore_ascii_case(spelling) {
-        Some(rest)
-    } else {
-        None
     }
 }
 

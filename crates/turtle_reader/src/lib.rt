@@ -50,7 +50,6 @@ mod meaning;
 mod progress;
 mod reader;
 mod referent;
-mod sizes;
 mod text_walk;
 
 pub use budget::{STATEMENT_LIMIT, TERM_BYTES_LIMIT};
@@ -62,5 +61,4 @@ pub use lexeme::Lexeme;
 pub use meaning::Meaning;
 pub use reader::Reader;
 pub use referent::{Referent, ResolvedTriple};
-pub use sizes::saturating_sum;
 pub use text_walk::walk;

@@ -7,10 +7,10 @@ ghost use Rattle.turtle_text.specs.Triples.{IsReferentTerm, IsReferentTriple};
 ghost use Rattle.turtle_text.specs.Progress.{IsKeptAnywhere, KeepsTriple};
 
 use pod_base::{List, Mem, NoMemory};
-use rdf_graph::{TRIPLES_LIMIT, Term, Triple};
+use rdf_graph::{TRIPLES_LIMIT, Term, Triple, saturating_sum};
 use std::alloc::Global;
 use turtle_grammar::Start;
-use turtle_reader::{Language, LazyLabels, Referent, ResolvedTriple, saturating_sum};
+use turtle_reader::{Language, LazyLabels, Referent, ResolvedTriple};
 
 /// The triples so far, the sum of their encoded sizes, and the labels of unnamed nodes as soon as
 /// there is one.
