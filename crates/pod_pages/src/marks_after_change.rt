@@ -10,6 +10,7 @@ use crate::list_numbers::{changed_subjects, free_gone, numbered};
 use crate::list_table::ListTable;
 use crate::mark_all_rows::{is_most, marked_whole};
 use crate::marks_of_paths::{marked_below, marked_paths};
+use access_index::list_subjects;
 use iri_ref::Iri;
 use pod_base::Mem;
 use pod_path::Path;

@@ -1,10 +1,28 @@
 //! Statuses, and how connections end.
 ghost use Rattle.std.specs.Prelude.{◌≡◌};
+ghost use Rattle.std.specs.Process.{exit_status};
 ghost use Rattle.pod_pipe.specs.Statuses.{status_of};
+
+use std::process::ExitCode;
 
 /// The status of a program, as it ends.
 #[derive(Clone, Copy, Debug, PartialEq, Eq)]
 pub struct Status(pub u8);
+
+impl Status {
+    /// The arguments are invalid.
+    pub const INVALID_ARGUMENTS: Status = Status(2);
+
+    /// Out of memory, or of open files.
+    pub const NO_MEMORY: Status = Status(7);
+
+    /// The status as the process ends with it.
+    pub fn exit_code(self) -> ExitCode
+        ensures { exit_status result ≡ self.0 }
+    {
+        ExitCode::from(self.0)
+    }
+}
 
 /// How a connection over two streams ended.
 #[derive(Clone, Copy, Debug, PartialEq, Eq)]
