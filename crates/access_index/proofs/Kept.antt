@@ -15,8 +15,8 @@ use Rattle.access_index.specs.Index.{AreListsOf, AreTables, HandsDown, IsIndex, 
 use Rattle.access_index.specs.Listing.{AreOrdered, is_listed, is_listed_after, IsListOf}
 use Rattle.access_index.specs.Reach.{AgreeBeside, is_reached, is_within}
 use Rattle.access_index.specs.Tables.{keys, AreInOrder, entry_at, entry_of, resolved_at, without_all, list_subjects, resolve, add_found, add_lists, add_paths, resolved_or, refreshed, lists_after, entries_after}
-use Rattle.access_index.specs.declared.resolved.Resolved.{Resolved}
-use Rattle.access_index.specs.declared.table.Entry.{Entry}
+use Rattle.access_index.specs.declared.resolved_list.Resolved.{Resolved}
+use Rattle.access_index.specs.declared.path_table.Entry.{Entry}
 use Rattle.access_index.proofs.Governance.{same_effective, unreached}
 use Rattle.access_index.proofs.OrderedTables.{order_nil, order_placed, order_without_all, entry_listed, listed_placed, listed_without_all, all_placed, all_without_all}
 use Rattle.access_index.proofs.Resolving.{resolve_is, always_resolved}

@@ -16,7 +16,7 @@ use Rattle.pod_rows.specs.Apply.{is_before}
 use Rattle.pod_rows.proofs.OrderedRows.{other_less, other_more, same_path}
 use Rattle.access_index.specs.Listing.{is_listed}
 use Rattle.access_index.specs.Tables.{keys, AreInOrder, is_at, entry_at, keep_at, rank, placed, without, without_all}
-use Rattle.access_index.specs.declared.table.Entry.{Entry}
+use Rattle.access_index.specs.declared.path_table.Entry.{Entry}
 
 -- all paths of the table are after the path
 abbrev pub After : List ℕ → List Entry → Type 0

@@ -13,8 +13,8 @@ use Rattle.access_index.specs.Governing.{has_list, governs_among, IsEffective}
 use Rattle.access_index.specs.Index.{AreListsOf, HandsDown}
 use Rattle.access_index.specs.Listing.{is_listed}
 use Rattle.access_index.specs.Tables.{keys, entry_at, or_else, first_entry, container_entry, own_or_above, governing, resolve, resolved_at}
-use Rattle.access_index.specs.declared.resolved.Resolved.{Resolved}
-use Rattle.access_index.specs.declared.table.Entry.{Entry}
+use Rattle.access_index.specs.declared.resolved_list.Resolved.{Resolved}
+use Rattle.access_index.specs.declared.path_table.Entry.{Entry}
 use Rattle.access_index.proofs.Governance.{chosen, root_found, about_path}
 use Rattle.access_index.proofs.OrderedTables.{entry_listed, all_at}
 

@@ -6,7 +6,7 @@ use Rattle.acl_rules.specs.declared.rule.How.TheVariants.{Own, Inherited}
 use Rattle.pod_path.specs.Hierarchy.{subject_of}
 use Rattle.pod_rows.specs.Access.{Governs, governed, inherited, about, list_path}
 use Rattle.pod_rows.specs.Tree.{ancestors}
-use Rattle.access_index.specs.declared.resolved.Resolved.{Resolved}
+use Rattle.access_index.specs.declared.resolved_list.Resolved.{Resolved}
 
 -- Has the path an access list of its own?
 abbrev pub has_list : (List ℕ → Bool) → List ℕ → Bool

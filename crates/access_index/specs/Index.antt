@@ -7,7 +7,7 @@ use Rattle.pod_path.specs.Norm.{IsPath}
 use Rattle.access_index.specs.Governing.{has_list, IsEffective}
 use Rattle.access_index.specs.Listing.{is_listed}
 use Rattle.access_index.specs.Tables.{keys, AreInOrder, resolved_at}
-use Rattle.access_index.specs.declared.table.Entry.{Entry}
+use Rattle.access_index.specs.declared.path_table.Entry.{Entry}
 
 -- What is resolved for the entry's path is the list that governs it.
 abbrev pub IsResolved : (List ℕ → Bool) → Entry → Type 0

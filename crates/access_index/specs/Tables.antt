@@ -10,8 +10,8 @@ use Rattle.pod_rows.specs.Apply.{is_before}
 use Rattle.pod_rows.specs.Tree.{ancestors}
 use Rattle.access_index.specs.Listing.{AreOrdered}
 use Rattle.access_index.specs.Reach.{is_reached}
-use Rattle.access_index.specs.declared.resolved.Resolved.{Resolved}
-use Rattle.access_index.specs.declared.table.Entry.{Entry}
+use Rattle.access_index.specs.declared.resolved_list.Resolved.{Resolved}
+use Rattle.access_index.specs.declared.path_table.Entry.{Entry}
 
 abbrev pub resolved_at : List ℕ → How → Resolved
 resolved_at at how = record { at = at; how = how }

@@ -8,9 +8,9 @@ ghost use Rattle.access_index.specs.Listing.{is_listed, is_listed_after, IsListO
 ghost use Rattle.access_index.specs.Tables.{keys};
 
 use crate::acl_subjects::list_subjects;
-use crate::changes::{add_lists, add_paths, refreshed};
-use crate::resolved::Resolved;
-use crate::table::{Entry, copy_entries, entry_at, remove_all};
+use crate::path_table::{Entry, copy_entries, entry_at, remove_all};
+use crate::resolved_list::Resolved;
+use crate::table_changes::{add_lists, add_paths, refreshed};
 use pod_base::{List, Mem};
 use pod_path::Path;
 use std::alloc::Global;
@@ -39,7 +39,7 @@ impl Model for AccessIndex {
 }
 
 impl AccessIndex {
-    /// The index of these paths, in any order. `/.acl` is among them.
+    /// The index of the access lists in force for these paths, in any order. `/.acl` is among them.
     pub fn of(alloc: Global, paths: &List<Path>) -> Mem<AccessIndex>
         requires { IsTrue (has_list (is_listed paths.now.items) root) }
         ensures paths { IfOk result (λ index. IsListOf (is_listed paths.now.items) index) }

@@ -13,7 +13,7 @@ ghost use Rattle.access_index.specs.Governing.{has_list};
 ghost use Rattle.access_index.specs.Listing.{is_listed};
 ghost use Rattle.access_index.specs.Reach.{AgreeBeside, is_reached, is_within};
 
-/// The list in force in a pod is that among its rows.
+/// The law that the access list in force for a path of a pod is that among its rows.
 pub fn rows_law()
     ensures effective { (rows : List Row) (path : List ℕ)
         → effective_of rows path ≡ effective_among (is_row rows) path }
@@ -21,9 +21,9 @@ pub fn rows_law()
         → is_row rows path ≡ is_listed (map (λ row. row.path) rows) path }
 {}
 
-/// Which list is in force depends on which paths have lists. A path without a list of its own has
-/// that of its parent, and an access list and a description that of their subject. Every path has
-/// one where the root has.
+/// The law that the access list in force depends on which paths have lists. A path without a list
+/// of its own has that of its parent, and an access list and a description that of their subject.
+/// Every path has one where the root has.
 pub fn governing_law()
     ensures same { (is_row other : List ℕ → Bool) (path : List ℕ)
         → ((q : List ℕ) → has_list is_row q ≡ has_list other q)
@@ -41,13 +41,14 @@ pub fn governing_law()
         → has_list is_row root ≡ true → IsSome (effective_among is_row path) }
 {}
 
-/// A path is within another one where it is that one, or the other is an ancestor.
+/// The law that a path is within another one, which a change of an access list reaches, where it is
+/// that one, or the other is an ancestor.
 pub fn within_law()
     ensures { (path other : List ℕ)
         → IsTrue (is_within path other) ↔ ((path ≡ other) ⊎ IsInside path other) }
 {}
 
-/// Which lists a change of access lists leaves in force, and which it changes.
+/// The law of which access lists in force a change of lists leaves, and which it changes.
 pub fn changes_law()
     // Where a path is not reached, its list stays.
     ensures stays { (before after : List ℕ → Bool) (subjects : List (List ℕ)) (path : List ℕ)

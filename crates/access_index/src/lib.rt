@@ -14,15 +14,15 @@
 #![tactic(auto)]
 
 mod acl_subjects;
-mod changes;
+mod change_reach;
 mod index;
 pub mod laws;
-mod lookup;
-mod reach;
-mod resolved;
-mod table;
+mod path_table;
+mod resolved_list;
+mod table_changes;
+mod table_lookup;
 
 pub use acl_subjects::list_subjects;
+pub use change_reach::is_reached;
 pub use index::AccessIndex;
-pub use reach::is_reached;
-pub use resolved::Resolved;
+pub use resolved_list::Resolved;

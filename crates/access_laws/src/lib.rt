@@ -37,7 +37,7 @@ pub fn new_pods_are_the_owners()
     pod_rows::laws::rows_law();
 }
 
-/// A ground and its basis are there exactly where the mode is granted.
+/// A ground and a basis of access exist exactly where the mode is granted.
 pub fn bases_are_grants()
     ensures grounds { GroundsAreGrants }
     ensures bases { BasesAreGrants }

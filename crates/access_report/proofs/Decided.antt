@@ -17,7 +17,7 @@ use Rattle.pod_command.specs.declared.basis.Basis.{Basis}
 use Rattle.pod_rows.specs.Access.{effective_of, governed, list_path, rules_at}
 use Rattle.pod_rows.specs.Pod.{Pod}
 use Rattle.pod_access.specs.Decision.{basis_at, first_ground}
-use Rattle.pod_access.specs.declared.decision.Ground.{Ground}
+use Rattle.pod_access.specs.declared.granting_rules.Ground.{Ground}
 use Rattle.access_report.specs.Decisions.{IsDecision, how_eq, is_of, lines_by}
 use Rattle.access_report.specs.Reports.{line_at, lines_at, need}
 use Rattle.access_report.specs.declared.decision.Decision.{Decision}

@@ -23,7 +23,7 @@ use Rattle.pod_rows.specs.Pod.{Pod, is_at, row_at}
 use Rattle.pod_rows.specs.WellFormed.{WellFormed}
 use Rattle.rdf_graph.proofs.Members.{contains_cases, contains_here, contains_there, contains_none, All-from_members}
 use Rattle.pod_access.specs.Decision.{allow_modes, basis_at, basis_in, first_ground, IsFirstGround, rule_grants, who_of}
-use Rattle.pod_access.specs.declared.decision.Ground.{Ground}
+use Rattle.pod_access.specs.declared.granting_rules.Ground.{Ground}
 use Rattle.pod_access.proofs.Granting.{rule_node, some_is_granted}
 use Rattle.pod_access.proofs.Grounds.{if_ground, if_rule_within, if_subject_within}
 use Rattle.pod_access.proofs.Positions.{slice_get_member}

@@ -27,8 +27,8 @@ pub(crate) struct Decision {
     pub control: Option<Basis>,
 }
 
-/// The basis of a mode by the access list of `at`, whose path is `list`; none where the list doesn't
-/// grant it.
+/// The basis of a mode in a decision by the access list of `at`, whose path is `list`; none where
+/// the list doesn't grant it.
 fn basis_in<S: PodState>(
     alloc: Global,
     state: &S,
@@ -104,7 +104,7 @@ pub(crate) fn decide_at<S: PodState>(
     }
 }
 
-/// Whether these are one way in which a list applies.
+/// Whether two decisions have one way in which the list applies.
 fn is_how(a: How, b: How) -> bool
     ensures { result ≡ how_eq a b }
 {
@@ -114,14 +114,14 @@ fn is_how(a: How, b: How) -> bool
     }
 }
 
-/// Whether the decision is that of this list.
+/// Whether a decision is by the access list of `at`, which applies in this way.
 fn is_of(decision: &Decision, at: &Path, how: How) -> bool
     ensures { result ≡ is_of at.now how decision.now }
 {
     is_how(decision.how, how) && decision.at == *at
 }
 
-/// The decision by the access list of `at`, if there is one.
+/// The decision by the access list of `at` among those made, if there is one.
 pub(crate) fn find_decision<'a>(
     decided: &'a [Decision],
     at: &Path,
@@ -132,15 +132,15 @@ pub(crate) fn find_decision<'a>(
     decided.iter().find(|decision| is_of(decision, at, how))
 }
 
-/// Keeps the decisions by lists of what a path begins with. The paths of rows come in byte order, so
-/// the others govern none of those that are left.
+/// Keeps the decisions by lists of what a path begins with. The paths of rows come in byte order,
+/// so the others govern none of those that are left.
 pub(crate) fn keep_above(decided: &mut Vec<Decision>, path: &Path)
     ensures { decided.new.items ≡ filter (is_above path.now) decided.old.items }
 {
     decided.retain(|decision| is_above(decision, path));
 }
 
-/// Whether the path begins with that of the decision.
+/// Whether a decision is by the list of a path with which this one begins.
 fn is_above(decision: &Decision, path: &Path) -> bool
     ensures { result ≡ is_above path.now decision.now }
 {
@@ -148,7 +148,7 @@ fn is_above(decision: &Decision, path: &Path) -> bool
     path.as_str().as_bytes().starts_with(above)
 }
 
-/// Appends the line of a mode at a path, where it is granted.
+/// Appends the line of a mode at a path to an access report, where the decision grants it.
 fn add_line(
     alloc: Global,
     lines: &mut Vec<Line>,
@@ -170,7 +170,7 @@ fn add_line(
     }
 }
 
-/// Appends the lines of a path that is governed by the list of the decision.
+/// Appends the lines of a path to an access report, by the decision of the list that governs it.
 pub(crate) fn add_lines(
     alloc: Global,
     lines: &mut Vec<Line>,

@@ -20,7 +20,7 @@ use pod_rows::PodState;
 use rdf_graph::Term;
 use std::alloc::Global;
 
-/// Whether the subject is of this kind; of groups, whether it is this one.
+/// Whether a subject is of the kind that a report's line names; of groups, whether it is this one.
 fn is_named(subject: &Subject, who: &Who) -> bool
     ensures { result ≡ is_named who.now subject.now }
 {
@@ -33,7 +33,7 @@ fn is_named(subject: &Subject, who: &Who) -> bool
     }
 }
 
-/// Copies of the subjects of this kind.
+/// Copies of the subjects of the kind that a report's line names.
 fn subjects_of_kind(alloc: Global, subjects: &[Subject], who: &Who) -> Mem<Items<Subject>>
     ensures { IfOk result (λ copies. copies ≡ filter (is_named who.now) subjects.now) }
 {
@@ -47,7 +47,7 @@ fn subjects_of_kind(alloc: Global, subjects: &[Subject], who: &Who) -> Mem<Items
     Ok(Items::from_vec(copies))
 }
 
-/// The rule with those of its subjects that are of this kind.
+/// The rule with those of its subjects that are of the kind that a report's line names.
 fn rule_as(alloc: Global, rule: &Rule, who: &Who) -> Mem<Rule>
     ensures { IfOk result (λ copy. copy ≡ rule_as who.now rule.now) }
 {
@@ -62,14 +62,14 @@ fn rule_as(alloc: Global, rule: &Rule, who: &Who) -> Mem<Rule>
     })
 }
 
-/// The rule of a node.
+/// The rule of the node that a report's line names.
 fn find_rule<'a>(rules: &'a [Rule], node: &Term) -> Option<&'a Rule>
     ensures { option_copied result ≡ find (is_node node.now) rules.entry.now }
 {
     rules.iter().find(|rule| rule.node == *node)
 }
 
-/// Rules of which this is the only one.
+/// Rules of which the one that a report's line names is the only one.
 fn only_rule(alloc: Global, rule: Rule) -> Mem<Rules>
     ensures { IfOk result (λ rules. rules.list ≡ rule ∷ []) }
 {
@@ -79,7 +79,8 @@ fn only_rule(alloc: Global, rule: Rule) -> Mem<Rules>
     Ok(Rules { list })
 }
 
-/// Whether the rule grants the line's mode to the agent, by its subjects of the line's kind.
+/// Whether a rule grants the mode of a report's line to the agent, by its subjects of the line's
+/// kind.
 fn grants_alone<S: PodState>(
     alloc: Global,
     state: &S,
@@ -97,7 +98,7 @@ fn grants_alone<S: PodState>(
     Ok(granted(&rules, how, at, agent, state, line.mode).is_some())
 }
 
-/// Whether the rule of the line's node is among the rules, and grants.
+/// Whether the rule that a report's line names is among the rules, and grants the line's mode.
 fn grants_among<S: PodState>(
     alloc: Global,
     state: &S,
@@ -116,7 +117,7 @@ fn grants_among<S: PodState>(
     }
 }
 
-/// Whether a path is that of the access list of `at`.
+/// Whether the access list of `at` is the one that a report's line names.
 fn is_list_of(alloc: Global, at: &Path, acl: &Path) -> Mem<bool>
     ensures { IfOk result (λ is. is ≡ is_path_if acl.now (acl_of at.now)) }
 {
@@ -126,7 +127,8 @@ fn is_list_of(alloc: Global, at: &Path, acl: &Path) -> Mem<bool>
     }
 }
 
-/// Whether the access list that governs the line's path is that of its basis, and its rule grants.
+/// Whether the access list that governs the path of a report's line is that of its basis, and its
+/// rule grants.
 fn checks_at<S: PodState>(alloc: Global, state: &S, agent: &Agent, line: &Line) -> Mem<bool>
     ensures { IfOk result (λ r. IsTrue r ↔ ChecksIn (S.pod state.now) agent.now line.now
         (effective_of (S.pod state.now).rows line.now.path)) }
@@ -142,15 +144,15 @@ fn checks_at<S: PodState>(alloc: Global, state: &S, agent: &Agent, line: &Line) 
     }
 }
 
-/// Whether there is a row at a path.
+/// Whether the path of a report's line is a row.
 fn has_row<S: PodState>(state: &S, path: &Path) -> bool
     ensures { result ≡ is_row (S.pod state.now).rows path.now }
 {
     state.find(path).is_some()
 }
 
-/// Whether a line is what the access lists say of the agent: its path is a row that is no access
-/// list, its basis names the list that governs the path, its rule is a node there of type
+/// Whether a report's line is what the access lists say of the agent: its path is a row that is no
+/// access list, its basis names the list that governs the path, its rule is a node there of type
 /// `acl:Authorization` with that place and mode (or `acl:Write`, where the mode is Append), and a
 /// subject of the kind that the basis names covers the agent.
 ///

@@ -15,8 +15,8 @@ use pod_path::Path;
 use pod_rows::PodState;
 use std::alloc::Global;
 
-/// Appends the lines of a path. It returns the decision, where none of those before it is by the
-/// same list.
+/// Appends the lines of a path to an access report. It returns the decision, where none of those
+/// before it is by the same list.
 fn add_path<S: PodState>(
     alloc: Global,
     state: &S,
@@ -45,7 +45,7 @@ fn add_path<S: PodState>(
     }
 }
 
-/// Appends the lines of a row. An access list has none.
+/// Appends the lines of a row to an access report. An access list has none.
 fn add_row<S: PodState>(
     alloc: Global,
     state: &S,
@@ -68,7 +68,7 @@ fn add_row<S: PodState>(
     push_some(decided, new)
 }
 
-/// The lines of all rows.
+/// The lines of an access report on all rows.
 fn lines_of_rows<S: PodState>(alloc: Global, state: &S, agent: &Agent) -> Mem<List<Line>>
     ensures { IfOk result (λ lines. lines.items ≡ report_of (S.pod state.now) agent.now) }
 {
@@ -81,10 +81,10 @@ fn lines_of_rows<S: PodState>(alloc: Global, state: &S, agent: &Agent) -> Mem<Li
     Ok(List::from_vec(lines))
 }
 
-/// What an agent may do in a pod: a line for each mode that it is granted on each row that is no
-/// access list, in byte order of the paths and in the order read, write, append, control. The basis
-/// of a line is what an entry would record: the first rule that grants, and in it the first subject
-/// that covers the agent.
+/// The access report on what an agent may do in a pod: a line for each mode that it is granted on
+/// each row that is no access list, in byte order of the paths and in the order read, write,
+/// append, control. The basis of a line is what an entry would record: the first rule that grants,
+/// and in it the first subject that covers the agent.
 ///
 /// It goes over the rows once, and decides once for all that an access list governs in one way.
 pub fn report<S: PodState>(alloc: Global, state: &S, agent: &Agent) -> Mem<List<Line>>

@@ -13,9 +13,9 @@ use pod_base::Mem;
 use rdf_graph::{Graph, Term, Triple};
 use std::alloc::Global;
 
-/// The rules of a graph: one for each node of type `acl:Authorization`, in the order of the graph's
-/// triples, as are the lists of each rule. A value that is no IRI, an IRI of no path of this base,
-/// another class and another mode give nothing.
+/// The rules that the graph of an access list states: one for each node of type
+/// `acl:Authorization`, in the order of the graph's triples, as are the lists of each rule. A value
+/// that is no IRI, an IRI of no path of this base, another class and another mode give nothing.
 ///
 /// It goes over the graph once, and then over the triples of each rule, which stand together.
 pub fn rules_of(alloc: Global, graph: &Graph, base: &Iri) -> Mem<Rules>
@@ -31,7 +31,7 @@ pub fn rules_of(alloc: Global, graph: &Graph, base: &Iri) -> Mem<Rules>
     Ok(Rules { list })
 }
 
-/// The rule of a node.
+/// The rule that a graph states of one of its nodes.
 fn rule_of<'a>(alloc: Global, graph: &'a Graph, base: &Iri, node: &'a Term) -> Mem<Rule>
     requires { IsOrdered graph.now }
     ensures { IfOk result (λ rule. rule ≡ rule_of base.now graph.now node.now) }
@@ -43,7 +43,7 @@ fn rule_of<'a>(alloc: Global, graph: &'a Graph, base: &Iri, node: &'a Term) -> M
     Ok(rule)
 }
 
-/// A node without values.
+/// The rule of a graph's node before its triples are added.
 fn empty_rule(alloc: Global, node: &Term) -> Mem<Rule>
     ensures { IfOk result (λ rule. rule ≡ empty_rule node.now) }
 {
@@ -58,7 +58,7 @@ fn empty_rule(alloc: Global, node: &Term) -> Mem<Rule>
 }
 
 impl Rule {
-    /// Adds what a triple gives.
+    /// Adds to a graph's rule what a triple of its node gives.
     fn add(&mut self, alloc: Global, base: &Iri, triple: &Triple) -> Mem<()>
         ensures { OnOk result (self.new ≡ with_triple base.now triple.now self.old) }
     {
@@ -68,7 +68,7 @@ impl Rule {
         self.subjects.push_some(alloc, subject)
     }
 
-    /// Adds the paths that a triple gives.
+    /// Adds to a graph's rule the paths that a triple of its node gives.
     fn add_places(&mut self, alloc: Global, base: &Iri, triple: &Triple) -> Mem<()>
         ensures { OnOk result (self.new ≡ with_places base.now triple.now self.old) }
     {

@@ -24,7 +24,7 @@ impl<T> Model for Items<T> {
 }
 
 impl<T> Items<T> {
-    /// No items. They grow by `alloc`.
+    /// A list of no items. It grows by `alloc`.
     pub fn new(alloc: Global) -> Items<T>
         ensures { result ≡ [] }
     {
@@ -33,28 +33,28 @@ impl<T> Items<T> {
         }
     }
 
-    /// The items of a vector, whose memory they take over.
+    /// The list of a vector's items, whose memory it takes over.
     pub fn from_vec(items: Vec<T>) -> Items<T>
         ensures { result ≡ items.items }
     {
         Items { items }
     }
 
-    /// Lends the items.
+    /// Lends the items of the list.
     pub fn as_slice(&self) -> &[T]
         ensures { result.now ≡ self.now }
     {
         self.items.as_slice()
     }
 
-    /// How many there are.
+    /// How many items the list has.
     pub fn len(&self) -> usize
         ensures { result ≡ length self.now }
     {
         self.items.len()
     }
 
-    /// Whether there are none.
+    /// Whether the list has no items.
     pub fn is_empty(&self) -> bool
         ensures { result ≡ (length self.now == 0) }
     {
@@ -63,7 +63,7 @@ impl<T> Items<T> {
 }
 
 impl<T: Drop> Items<T> {
-    /// Appends an item. Out of memory, nothing changes.
+    /// Appends an item to the list. Out of memory, nothing changes.
     pub fn push(&mut self, _alloc: Global, item: T) -> Mem<()>
         ensures pushed { OnOk result (self.new ≡ self.old ++ item ∷ []) }
         ensures unchanged { OnErr result (self.new ≡ self.old) }
@@ -72,7 +72,7 @@ impl<T: Drop> Items<T> {
         Ok(())
     }
 
-    /// Appends an item, if there is one.
+    /// Appends an item to the list, if there is one.
     pub(crate) fn push_some(&mut self, alloc: Global, item: Option<T>) -> Mem<()>
         ensures { OnOk result (self.new ≡ self.old ++ option_to_list item) }
     {

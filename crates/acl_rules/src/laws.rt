@@ -20,8 +20,8 @@ ghost use Rattle.acl_rules.specs.declared.rule.Subject.TheVariants.{Everyone as 
 ghost use Rattle.acl_rules.specs.declared.rule.Subject.TheVariants.{Authenticated as KnownSubject};
 ghost use Rattle.acl_rules.specs.declared.rule.Subject.TheVariants.{Group as GroupSubject};
 
-/// The nodes of the rules are those of type `acl:Authorization`. They stand in strict order, so no
-/// node has two rules. Each rule is that of its node.
+/// The rules of a graph are those of its nodes of type `acl:Authorization`. They stand in strict
+/// order, so no node has two rules. Each rule is that of its node.
 pub fn nodes_law()
     ensures nodes { (base : List ℕ) (g : List Triple) (node : Term)
         → Contains (map (λ rule. rule.node) (rules_of base g)) node ↔ IsRule g node }
@@ -31,7 +31,7 @@ pub fn nodes_law()
         → Contains (rules_of base g) rule → rule ≡ rule_of base g rule.node }
 {}
 
-/// The values of a node's rule are those that its triples state.
+/// The values of a rule are those that the triples of its node state.
 pub fn values_law()
     ensures access_to { (base : List ℕ) (g : List Triple) (node : Term) (path : List ℕ)
         → Contains (rule_of base g node).access_to path
@@ -55,8 +55,8 @@ pub fn values_law()
         ↔ (States g node acl_agent_group group × (doc ≡ document_of base group)) }
 {}
 
-/// The document that an IRI names is the path of which it is the URI, and so is the resource, where
-/// the IRI has no fragment. The IRI of a resource is its URI.
+/// The document that an IRI in an access rule names is the path of which it is the URI, and so is
+/// the resource, where the IRI has no fragment. The IRI of a resource is its URI.
 pub fn documents_law()
     ensures documents { (base iri path : List ℕ)
         → (document_of base iri ≡ Some path) ↔ IsUriOf base iri path }

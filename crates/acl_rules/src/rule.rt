@@ -47,7 +47,7 @@ pub enum How {
 }
 
 impl Rules {
-    /// Equal rules, which share their texts.
+    /// Equal rules of an access list, which share their texts.
     pub fn copy(&self, alloc: Global) -> Mem<Rules>
         ensures { IfOk result (λ copy. copy ≡ self.now) }
     {
@@ -63,7 +63,7 @@ impl Rules {
 }
 
 impl Rule {
-    /// An equal rule, which shares its texts.
+    /// An equal rule of an access list, which shares its texts.
     pub fn copy(&self, alloc: Global) -> Mem<Rule>
         ensures { IfOk result (λ copy. copy ≡ self.now) }
     {
@@ -83,7 +83,7 @@ impl Rule {
 }
 
 impl Subject {
-    /// An equal subject, which shares its texts.
+    /// An equal subject of a rule, which shares its texts.
     pub fn copy(&self, alloc: Global) -> Mem<Subject>
         ensures { IfOk result (λ copy. copy ≡ self.now) }
     {
@@ -103,7 +103,7 @@ impl Subject {
     }
 }
 
-/// An equal path, if there is one.
+/// Copies the path of the document of a rule's group, if there is one.
 fn copy_document(alloc: Global, doc: &Option<Path>) -> Mem<Option<Path>>
     ensures { IfOk result (λ copy. copy ≡ doc.now) }
 {
@@ -116,7 +116,7 @@ fn copy_document(alloc: Global, doc: &Option<Path>) -> Mem<Option<Path>>
     }
 }
 
-/// Equal paths.
+/// Copies the paths of a rule.
 fn copy_paths(alloc: Global, paths: &Items<Path>) -> Mem<Items<Path>>
     ensures { IfOk result (λ copies. copies ≡ paths.now) }
 {
@@ -129,7 +129,7 @@ fn copy_paths(alloc: Global, paths: &Items<Path>) -> Mem<Items<Path>>
     Ok(Items::from_vec(copies))
 }
 
-/// Equal modes.
+/// Copies the modes of a rule.
 fn copy_modes(alloc: Global, modes: &Items<Mode>) -> Mem<Items<Mode>>
     ensures { IfOk result (λ copies. copies ≡ modes.now) }
 {
@@ -137,7 +137,7 @@ fn copy_modes(alloc: Global, modes: &Items<Mode>) -> Mem<Items<Mode>>
     Ok(Items::from_vec(copies))
 }
 
-/// Equal subjects.
+/// Copies the subjects of a rule.
 fn copy_subjects(alloc: Global, subjects: &Items<Subject>) -> Mem<Items<Subject>>
     ensures { IfOk result (λ copies. copies ≡ subjects.now) }
 {

@@ -20,21 +20,22 @@ use rdf_graph::vocabulary::RDF_TYPE;
 use rdf_graph::{Term, Triple};
 use std::alloc::Global;
 
-/// Whether the triple says that its subject is a rule.
+/// Whether a statement (a triple) says that its subject is a rule.
 pub(crate) fn is_rule_statement(triple: &Triple) -> bool
     ensures { result ≡ is_rule_statement triple.now }
 {
     is_iri(&triple.p, RDF_TYPE) && is_iri(&triple.o, ACL_AUTHORIZATION)
 }
 
-/// The path of the document that an IRI names, without its fragment.
+/// The path of the document that an IRI in a rule's statement names, without its fragment.
 fn document_of(alloc: Global, base: &Iri, iri: &str) -> Mem<Option<Path>>
     ensures { IfOk result (λ found. found ≡ document_of base.now iri.now) }
 {
     Path::of_uri(alloc, base, iri)
 }
 
-/// The path of the resource that an IRI names. One with a fragment names none.
+/// The path of the resource that an IRI in a rule's statement names. One with a fragment names
+/// none.
 fn resource_of(alloc: Global, base: &Iri, iri: &str) -> Mem<Option<Path>>
     ensures { IfOk result (λ found. found ≡ resource_of base.now iri.now) }
 {
@@ -44,14 +45,14 @@ fn resource_of(alloc: Global, base: &Iri, iri: &str) -> Mem<Option<Path>>
     document_of(alloc, base, iri)
 }
 
-/// Whether the IRI has a fragment.
+/// Whether an IRI in a rule's statement has a fragment.
 fn has_fragment(iri: &str) -> bool
     ensures { result ≡ list_any is_hash iri.now }
 {
     iri.as_bytes().iter().any(|byte| *byte == b'#')
 }
 
-/// The path that the triple gives, where it is one of this property.
+/// The path that a statement of a rule gives, where it is one of this property.
 pub(crate) fn place_of(
     alloc: Global,
     base: &Iri,
@@ -69,7 +70,7 @@ pub(crate) fn place_of(
     }
 }
 
-/// The mode with this IRI.
+/// The mode that an IRI in a rule's statement names.
 fn mode_of(iri: &str) -> Option<Mode>
     ensures { result ≡ mode_of iri.now }
 {
@@ -86,7 +87,7 @@ fn mode_of(iri: &str) -> Option<Mode>
     }
 }
 
-/// The mode that the triple grants.
+/// The mode that a statement of a rule grants.
 pub(crate) fn granted_mode(triple: &Triple) -> Option<Mode>
     ensures { result ≡ granted_mode triple.now }
 {
@@ -99,7 +100,7 @@ pub(crate) fn granted_mode(triple: &Triple) -> Option<Mode>
     }
 }
 
-/// The class of agents with this IRI.
+/// The class of agents that an IRI in a rule's statement names.
 fn class_of(iri: &str) -> Option<Subject>
     ensures { result ≡ class_of iri.now }
 {
@@ -112,7 +113,7 @@ fn class_of(iri: &str) -> Option<Subject>
     }
 }
 
-/// The agent with this IRI.
+/// The agent that an IRI in a rule's statement names.
 fn agent_of(alloc: Global, iri: &str) -> Mem<Option<Subject>>
     ensures { IfOk result (λ found. found ≡ Some (AgentSubject iri.now)) }
 {
@@ -120,7 +121,7 @@ fn agent_of(alloc: Global, iri: &str) -> Mem<Option<Subject>>
     Ok(Some(Subject::Agent(iri)))
 }
 
-/// The group with this IRI.
+/// The group that an IRI in a rule's statement names.
 fn group_of(alloc: Global, base: &Iri, iri: &str) -> Mem<Option<Subject>>
     ensures { IfOk result (λ found. found
         ≡ Some (GroupSubject (document_of base.now iri.now) iri.now)) }
@@ -130,7 +131,7 @@ fn group_of(alloc: Global, base: &Iri, iri: &str) -> Mem<Option<Subject>>
     Ok(Some(Subject::Group { doc, iri }))
 }
 
-/// Whom the triple covers.
+/// The subject that a statement of a rule gives: whom the rule covers.
 pub(crate) fn subject_of(alloc: Global, base: &Iri, triple: &Triple) -> Mem<Option<Subject>>
     ensures { IfOk result (λ found. found ≡ subject_of base.now triple.now) }
 {

@@ -47,7 +47,7 @@ pub const FOAF_AGENT: &str = "http://xmlns.com/foaf/0.1/Agent";
 /// The property of a group's member.
 pub const VCARD_HAS_MEMBER: &str = "http://www.w3.org/2006/vcard/ns#hasMember";
 
-/// Whether the term is this IRI.
+/// Whether a term is this IRI of the vocabulary of access lists.
 pub fn is_iri(term: &Term, iri: &str) -> bool
     ensures { result ≡ term_eq term.now (Iri iri.now) }
 {

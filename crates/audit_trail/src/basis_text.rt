@@ -4,13 +4,13 @@ ghost use Rattle.std.specs.Prelude.{◌≡◌, ◌++◌, ◌∷◌, OnOk};
 ghost use Rattle.std.specs.List.{flat_map};
 ghost use Rattle.audit_trail.specs.Lines as spec;
 
-use crate::lengths::total;
+use crate::line_lengths::total;
 use pod_base::Mem;
 use pod_command::{Basis, Who};
 use std::alloc::Global;
 use turtle_text::term_len;
 
-/// How many bytes [`append_who`] appends.
+/// The length of the text of whom a basis's rule covers, as [`append_who`] appends it.
 fn who_len(who: &Who) -> usize {
     match who {
         Who::Agent => b"agent".len(),
@@ -20,13 +20,13 @@ fn who_len(who: &Who) -> usize {
     }
 }
 
-/// How many bytes [`append_basis`] appends.
+/// The length of a basis's text, as [`append_basis`] appends it.
 fn basis_len(basis: &Basis) -> usize {
     let rule = usize::try_from(term_len(&basis.rule)).unwrap_or(usize::MAX);
     total(&[basis.acl.as_str().len(), rule, who_len(&basis.who), 2])
 }
 
-/// How many bytes [`append_bases`] appends.
+/// The length of the text of bases, as [`append_bases`] appends it.
 pub(crate) fn bases_len(bases: &[Basis]) -> usize {
     if bases.is_empty() {
         return 2;
@@ -38,7 +38,7 @@ pub(crate) fn bases_len(bases: &[Basis]) -> usize {
     len
 }
 
-/// Appends whom the subject of a rule covers.
+/// Appends the text of whom the subject of a basis's rule covers to a line of the trail.
 fn append_who(into: &mut Vec<u8>, who: &Who) -> Mem<()>
     ensures { OnOk result (into.new.items ≡ into.old.items ++ spec.who_word who.now) }
 {
@@ -54,9 +54,9 @@ fn append_who(into: &mut Vec<u8>, who: &Who) -> Mem<()>
     Ok(())
 }
 
-/// Appends a basis: the path of the access list, `|`, the node of the rule as the text of a graph
-/// has it, `|`, and `agent`, `everyone`, `authenticated`, or `group:` and the group's IRI. After an
-/// `Err` only a part may have been appended.
+/// Appends the text of a basis to a line of the trail: the path of the access list, `|`, the node
+/// of the rule as the text of a graph has it, `|`, and `agent`, `everyone`, `authenticated`, or
+/// `group:` and the group's IRI. After an `Err` only a part may have been appended.
 pub fn append_basis(alloc: Global, into: &mut Vec<u8>, basis: &Basis) -> Mem<()>
     ensures { OnOk result (into.new.items ≡ into.old.items ++ spec.basis_text basis.now) }
 {
@@ -67,7 +67,7 @@ pub fn append_basis(alloc: Global, into: &mut Vec<u8>, basis: &Basis) -> Mem<()>
     append_who(into, &basis.who)
 }
 
-/// Appends a basis after a space.
+/// Appends the text of a basis to a line of the trail, after a space.
 fn append_spaced(alloc: Global, into: &mut Vec<u8>, basis: &Basis) -> Mem<()>
     ensures { OnOk result (into.new.items ≡ into.old.items ++ 32 ∷ spec.basis_text basis.now) }
 {
@@ -75,7 +75,7 @@ fn append_spaced(alloc: Global, into: &mut Vec<u8>, basis: &Basis) -> Mem<()>
     append_basis(alloc, into, basis)
 }
 
-/// Appends each basis after a space.
+/// Appends the text of each basis to a line of the trail, after a space.
 fn append_each(alloc: Global, into: &mut Vec<u8>, bases: &[Basis]) -> Mem<()>
     ensures { OnOk result (into.new.items
         ≡ into.old.items ++ flat_map (λ b. 32 ∷ spec.basis_text b) bases.now) }
@@ -86,7 +86,7 @@ fn append_each(alloc: Global, into: &mut Vec<u8>, bases: &[Basis]) -> Mem<()>
     Ok(())
 }
 
-/// Appends each basis after a space; ` -` where there is none.
+/// Appends the text of each basis to a line of the trail, after a space; ` -` where there is none.
 pub(crate) fn append_bases(alloc: Global, into: &mut Vec<u8>, bases: &[Basis]) -> Mem<()>
     ensures { OnOk result (into.new.items
         ≡ into.old.items ++ spec.spaced (spec.bases_words bases.now)) }

@@ -4,8 +4,8 @@ ghost use Rattle.std.specs.Prelude.{◌≡◌, ◌++◌, ◌∷◌, [], decimal,
 ghost use Rattle.audit_trail.specs.Lines as spec;
 
 use crate::basis_text::{append_bases, bases_len};
-use crate::lengths::{number_len, total};
-use crate::words::{agent_word, append_first, append_word, freeze, method_word};
+use crate::line_lengths::{number_len, total};
+use crate::line_words::{agent_word, append_first, append_word, freeze, method_word};
 use itoa::Buffer;
 use pod_base::{Bytes, Mem};
 use pod_command::Entry;
@@ -14,7 +14,7 @@ use std::alloc::Global;
 /// The spaces between the line's eight first words, and its LF.
 const SEPARATORS: usize = 8;
 
-/// How many bytes the line has.
+/// How many bytes the line of an entry's change has.
 fn entry_len(entry: &Entry) -> usize {
     total(&[
         number_len(entry.seq),
@@ -30,7 +30,8 @@ fn entry_len(entry: &Entry) -> usize {
     ])
 }
 
-/// Appends the path, the connection, the request's number in it, and how many edits there are.
+/// Appends to an entry's line the path, the connection, the request's number in it, and how many
+/// edits there are.
 fn append_change(line: &mut Vec<u8>, entry: &Entry) -> Mem<()>
     ensures { OnOk result (line.new.items ≡ line.old.items ++ spec.spaced
         (entry.now.path ∷ decimal entry.now.conn ∷ decimal entry.now.number
@@ -45,7 +46,7 @@ fn append_change(line: &mut Vec<u8>, entry: &Entry) -> Mem<()>
     append_word(line, count.format(entry.edits.as_slice().len()).as_bytes())
 }
 
-/// The line of a change.
+/// The line of a change in the audit trail, by its entry.
 ///
 /// It has the number of the entry, the moment, the agent, the method, the path, the connection, the
 /// number of the request in it, the count of edits, and each basis, or `-` where there is none; one

@@ -17,10 +17,10 @@
 
 mod basis_text;
 mod entry_lines;
-mod lengths;
+mod line_lengths;
+mod line_words;
 mod session_lines;
-mod targets;
-mod words;
+mod target_text;
 
 pub use basis_text::append_basis;
 pub use entry_lines::entry_line;

@@ -3,9 +3,9 @@
 ghost use Rattle.std.specs.Prelude.{◌≡◌, ◌++◌, ◌∷◌, [], decimal, IfOk, OnOk};
 ghost use Rattle.audit_trail.specs.Lines as spec;
 
-use crate::lengths::{number_len, total};
-use crate::targets::{append_target, target_len};
-use crate::words::{agent_word, append_first, append_word, freeze, method_word};
+use crate::line_lengths::{number_len, total};
+use crate::line_words::{agent_word, append_first, append_word, freeze, method_word};
+use crate::target_text::{append_target, target_len};
 use itoa::Buffer;
 use pod_base::{Agent, Bytes, Mem, Moment, Request};
 use std::alloc::Global;
@@ -13,7 +13,7 @@ use std::alloc::Global;
 /// The words between the line's five spaces, and its LF.
 const SEPARATORS: usize = 6;
 
-/// How many bytes the line has.
+/// How many bytes the line of a session's request has.
 fn session_len(place: u64, moment: Moment, agent: &Agent, request: &Request, status: u16) -> usize {
     total(&[
         number_len(place),
@@ -26,7 +26,8 @@ fn session_len(place: u64, moment: Moment, agent: &Agent, request: &Request, sta
     ])
 }
 
-/// Appends a space, the target, and the status with the end of the line.
+/// Appends to the trail's line of a session a space, the target, and the status with the end of the
+/// line.
 fn append_outcome(line: &mut Vec<u8>, target: &[u8], status: u16) -> Mem<()>
     ensures { OnOk result (line.new.items
         ≡ line.old.items
@@ -40,7 +41,7 @@ fn append_outcome(line: &mut Vec<u8>, target: &[u8], status: u16) -> Mem<()>
     Ok(())
 }
 
-/// The line of a request that was answered at a place of the history.
+/// The trail's line of a session's request that was answered at a place of the history.
 ///
 /// It has the place, the moment, the agent, the method, the target and the status, one space
 /// between, and ends in LF. Anybody is `-`, also where a token was refused. A method that the

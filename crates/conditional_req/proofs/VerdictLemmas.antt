@@ -14,8 +14,8 @@ use Rattle.pod_base.specs.declared.moment.TheConstants.{LAST_SECOND}
 use Rattle.conditional_req.specs.Conditions.{date_of, matching, none_matching, modified_since, unmodified_since, needs_read}
 use Rattle.conditional_req.specs.TagLists.{is_any, are_tags, has_strong_match, has_weak_match}
 use Rattle.conditional_req.specs.Verdicts.{Validators, match_fails, none_match_fails, has_none_match, is_later, is_not_later, is_reading, has_preconditions, is_refused, is_known, verdict, lists_tags, compares_tags, IgnoresTags, IgnoresState}
-use Rattle.conditional_req.specs.declared.preconditions.Verdict.{Verdict}
-use Rattle.conditional_req.specs.declared.preconditions.Verdict.TheVariants.{Go, NotModified, Failed}
+use Rattle.conditional_req.specs.declared.precondition_verdict.Verdict.{Verdict}
+use Rattle.conditional_req.specs.declared.precondition_verdict.Verdict.TheVariants.{Go, NotModified, Failed}
 
 -- ---- the verdict from its two tests
 

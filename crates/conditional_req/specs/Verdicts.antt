@@ -6,10 +6,10 @@ use Rattle.pod_base.specs.declared.moment.TheConstants.{LAST_SECOND}
 use Rattle.pod_base.specs.declared.method.Method.{Method}
 use Rattle.pod_base.specs.declared.method.Method.TheVariants.{Get, Head, Options, Post, Put, Patch}
 use Rattle.pod_base.specs.declared.method.Method.TheVariants.{Delete, Other}
-use Rattle.conditional_req.specs.declared.preconditions.Current.{Current}
-use Rattle.conditional_req.specs.declared.preconditions.Verdict.{Verdict}
-use Rattle.conditional_req.specs.declared.preconditions.Verdict.TheVariants.{Go, NotModified}
-use Rattle.conditional_req.specs.declared.preconditions.Verdict.TheVariants.{Failed}
+use Rattle.conditional_req.specs.declared.precondition_verdict.Current.{Current}
+use Rattle.conditional_req.specs.declared.precondition_verdict.Verdict.{Verdict}
+use Rattle.conditional_req.specs.declared.precondition_verdict.Verdict.TheVariants.{Go, NotModified}
+use Rattle.conditional_req.specs.declared.precondition_verdict.Verdict.TheVariants.{Failed}
 use Rattle.conditional_req.specs.declared.tag.Tag.{Tag}
 use Rattle.conditional_req.specs.TagLists.{is_any, are_tags, has_strong_match, has_weak_match}
 use Rattle.conditional_req.specs.Conditions.{matching, none_matching, unmodified_since}

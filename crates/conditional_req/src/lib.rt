@@ -19,12 +19,12 @@
 //! It stands on `field_list`, `httpdate`, `sha2`, `hex` and `pod_base`.
 #![tactic(auto)]
 
-mod conditions;
-mod entity_tag;
-mod preconditions;
+mod precondition_fields;
+mod precondition_verdict;
 mod tag;
 mod tag_list;
+mod tag_parser;
 
-pub use conditions::{Conditions, read_conditions};
-pub use preconditions::{Current, Verdict, judge};
+pub use precondition_fields::{Conditions, read_conditions};
+pub use precondition_verdict::{Current, Verdict, judge};
 pub use tag::{TAG_DIGEST_LEN, Tag, tag_of, tag_of_digest};

@@ -14,7 +14,7 @@ pub const TAG_DIGEST_LEN: usize = 16;
 #[derive(Clone, Copy, Debug, PartialEq, Eq)]
 pub struct Tag(pub [u8; 34]);
 
-/// The hexadecimal digits of the first bytes of a digest.
+/// The hexadecimal digits of a tag: those of the first bytes of a digest.
 fn digits_of(digest: &[u8; 32]) -> [u8; 32]
     ensures { result ≡ encode_lower (take 16 digest.now) }
 {
@@ -35,7 +35,7 @@ pub fn tag_of(ctype: &str, body: &[u8], mark: u8) -> Tag
     tag_of_digest(&digest_of(ctype, body), mark)
 }
 
-/// [`tag_of`] by the digest of a content type and a body.
+/// The tag of a representation, as [`tag_of`] has it, by the digest of its content type and body.
 pub fn tag_of_digest(digest: &[u8; 32], mark: u8) -> Tag
     ensures { (ctype body : List ℕ) → digest.now ≡ digests.digest_of ctype body
         → result.0 ≡ spec.tag_text ctype body mark }

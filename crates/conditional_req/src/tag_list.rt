@@ -6,18 +6,18 @@ ghost use Rattle.field_list.specs.declared.quoting.Quoting.TheVariants.{Tags};
 ghost use Rattle.conditional_req.specs.EntityTags as tags;
 ghost use Rattle.conditional_req.specs.TagLists as spec;
 
-use crate::entity_tag::{is_entity_tag, is_strong_match, is_weak_match};
 use crate::tag::Tag;
+use crate::tag_parser::{is_entity_tag, is_strong_match, is_weak_match};
 use field_list::{Elements, Quoting};
 
-/// Whether a value is `*`, which is any representation.
+/// Whether the value of If-Match or If-None-Match is `*`, and no list of tags.
 pub(crate) fn is_any(value: &[u8]) -> bool
     ensures { result ≡ spec.is_any value.now }
 {
     value == b"*".as_slice()
 }
 
-/// Whether each element of a value is an entity tag.
+/// Whether a value is a list of tags: each element is an entity tag.
 pub(crate) fn are_tags(value: &[u8]) -> bool
     ensures { result ≡ spec.are_tags value.now }
 {
@@ -30,7 +30,7 @@ pub(crate) fn are_tags(value: &[u8]) -> bool
     true
 }
 
-/// Whether a value has a tag that is strongly equal to one of these.
+/// Whether the list of tags in a value has one that is strongly equal to one of these.
 pub(crate) fn has_strong_match(value: &[u8], tags: &[Tag]) -> bool
     ensures { result ≡ spec.has_strong_match tags.now value.now }
 {
@@ -43,7 +43,7 @@ pub(crate) fn has_strong_match(value: &[u8], tags: &[Tag]) -> bool
     false
 }
 
-/// Whether a value has a tag that is weakly equal to one of these.
+/// Whether the list of tags in a value has one that is weakly equal to one of these.
 pub(crate) fn has_weak_match(value: &[u8], tags: &[Tag]) -> bool
     ensures { result ≡ spec.has_weak_match tags.now value.now }
 {

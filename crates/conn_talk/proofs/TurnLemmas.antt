@@ -21,7 +21,7 @@ use Rattle.conn_talk.specs.declared.answers.AnswerFault.{AnswerFault}
 use Rattle.conn_talk.specs.declared.answers.AnswerFault.TheVariants as faults
 use Rattle.conn_talk.specs.declared.talk_end.TalkEnd.{TalkEnd}
 use Rattle.conn_talk.specs.declared.talk_end.TalkEnd.TheVariants.{Closed, Limit, Upgraded, Bad, WriteFault, NoMemory, NoPlace}
-use Rattle.conn_talk.specs.declared.trail.TrailEntry.{TrailEntry}
+use Rattle.conn_talk.specs.declared.trail_line.TrailEntry.{TrailEntry}
 
 -- the date of a moment is its text
 pub dated : (moment : ℕ) (date : List ℕ) → IsDateOf moment date → date ≡ date_text moment

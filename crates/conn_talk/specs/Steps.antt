@@ -20,7 +20,7 @@ use Rattle.conn_talk.specs.Turns.{IsItemOf, Rules}
 use Rattle.conn_talk.specs.declared.talk_end.TalkEnd.{TalkEnd}
 use Rattle.conn_talk.specs.declared.talk_end.TalkEnd.TheVariants.{Closed, Limit, Upgraded, Bad}
 use Rattle.conn_talk.specs.declared.talk_end.TalkEnd.TheVariants.{WriteFault, NoMemory, NoPlace}
-use Rattle.conn_talk.specs.declared.trail.TrailEntry.{TrailEntry}
+use Rattle.conn_talk.specs.declared.trail_line.TrailEntry.{TrailEntry}
 
 -- the line of a request that was answered
 abbrev pub entry_line : Request → AskedAgent → TrailEntry → List ℕ

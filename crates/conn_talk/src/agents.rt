@@ -1,11 +1,9 @@
 //! [`Agents`]: how requests are authenticated.
-ghost use Rattle.std.specs.Prelude.{◌≡◌, IfOk};
-ghost use Rattle.pod_reply.specs.Reply.{agent_of};
+ghost use Rattle.std.specs.Prelude.{◌≡◌};
 ghost use Rattle.token_table.specs.Credentials.{asked_view};
 ghost use Rattle.conn_talk.specs.Agents.{asking_of};
 
-use pod_base::{Agent, Mem, Request, Text};
-use std::alloc::Global;
+use pod_base::{Request, Text};
 use token_table::{Asked, Tokens};
 
 /// How requests are authenticated.
@@ -18,7 +16,7 @@ pub enum Agents {
 }
 
 impl Agents {
-    /// The requesting agent.
+    /// Authenticates a request, by the token table or as the owner's.
     pub fn asked(&self, request: &Request) -> Asked<'_>
         ensures { asked_view result ≡ asking_of self.now request.now }
     {
@@ -26,18 +24,5 @@ impl Agents {
             Agents::Owner(owner) => Asked::Known(owner),
             Agents::Table(tokens) => tokens.agent_of(&request.fields),
         }
-    }
-}
-
-/// The requesting agent, as a line of the trail shows it: anybody, also where a token was refused.
-pub(crate) fn shown_agent(alloc: Global, asked: &Asked<'_>) -> Mem<Agent>
-    ensures { IfOk result (λ agent. agent ≡ agent_of (asked_view asked.now)) }
-{
-    match asked {
-        Asked::Known(agent) => {
-            let agent = agent.copy(alloc)?;
-            Ok(Agent::Known(agent))
-        }
-        Asked::Public | Asked::Refused => Ok(Agent::Public),
     }
 }

@@ -33,7 +33,7 @@ pub trait Answers {
     /// What a request that found no place says of it, before and after.
     ghost passes: { Request → Self → Self → Type 0 };
 
-    /// Answers a request at the stamp's moment.
+    /// Answers a request of the connection, at the stamp's moment.
     ///
     /// # Errors
     ///

@@ -23,17 +23,17 @@
 
 mod agents;
 mod answers;
-mod connection;
+mod connection_events;
 mod one_request;
 mod output;
 mod response_writing;
 mod talk_end;
-mod trail;
+mod trail_line;
 
 pub use agents::Agents;
 pub use answers::{AnswerFault, Answers};
-pub use connection::Connection;
+pub use connection_events::Connection;
 pub use one_request::clock_moment;
 pub use output::Output;
 pub use talk_end::TalkEnd;
-pub use trail::NoTrail;
+pub use trail_line::NoTrail;

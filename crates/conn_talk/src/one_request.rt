@@ -18,11 +18,11 @@ use crate::answers::{AnswerFault, Answers};
 use crate::output::Output;
 use crate::response_writing::{write_out, write_text};
 use crate::talk_end::TalkEnd;
-use crate::trail::{TrailEntry, line_of};
+use crate::trail_line::{TrailEntry, write_line};
 use http_out::{Out, disk_text, memory_text};
 use pod_base::{Moment, Request, Stamp, moment_of};
 use pod_core::{Answer, closes_after, is_change};
-use pod_io::{Clock, Sink, write_all};
+use pod_io::{Clock, Sink};
 use std::alloc::Global;
 use token_table::Asked;
 
@@ -36,14 +36,15 @@ struct Answered {
     entry: TrailEntry,
 }
 
-/// The clock's moment.
+/// The clock's moment, at which one request is answered.
 pub fn clock_moment<C: Clock>(clock: &C) -> Moment
     ensures { IsClockMoment (C.may_give clock.now) result.0 }
 {
     moment_of(clock.now())
 }
 
-/// The bytes of an answer to a request of that number, and what a line shows of it.
+/// The bytes of the answer to one request, of that number, and what a line of the trail shows of
+/// it.
 fn answer_out(answer: Answer, request: &Request, number: u64) -> Answered
     requires { IsSent answer.response }
     ensures out { result.out ≡ response_text answer.response (date_text answer.moment.0)
@@ -66,34 +67,8 @@ fn answer_out(answer: Answer, request: &Request, number: u64) -> Answered
     Answered { out, entry }
 }
 
-/// Writes the line of an answered request to the error sink, where the trail is enabled.
-fn write_line<E: Sink>(
-    alloc: Global,
-    trail: bool,
-    request: &Request,
-    asked: &Asked<'_>,
-    entry: TrailEntry,
-    errors: &mut E,
-) -> Result<(), TalkEnd>
-    ensures writes { Writes result
-        (if trail then entry_line request.now (asked_view asked.now) entry else [])
-        (E.taken errors.old) (E.taken errors.new) }
-    ensures fails { IfErr result MayStop }
-    ensures faults { CountsWrites result 0 0 (E.faults errors.old) (E.faults errors.new) }
-{
-    if !trail {
-        return Ok(());
-    }
-    let Ok(line) = line_of(alloc, request, asked, entry) else {
-        return Err(TalkEnd::NoMemory);
-    };
-    match write_all(errors, line.as_slice()) {
-        Ok(()) => Ok(()),
-        Err(_failed) => Err(TalkEnd::WriteFault),
-    }
-}
-
-/// Writes an answer, and then its line. Returns whether it switches protocols.
+/// Writes the answer to one request, and then its line of the trail. Returns whether it switches
+/// protocols.
 fn write_answered<K: Output, E: Sink>(
     alloc: Global,
     trail: bool,
@@ -122,7 +97,7 @@ fn write_answered<K: Output, E: Sink>(
     }
 }
 
-/// Writes a fixed response, which doesn't switch protocols.
+/// Answers one request by a fixed response, which doesn't switch protocols.
 fn write_fixed<K: Output>(output: &mut K, text: &[u8]) -> Result<bool, TalkEnd>
     ensures writes { Writes result text.now (K.taken output.old) (K.taken output.new) }
     ensures upgraded { IfOk result (λ upgraded. upgraded ≡ false) }
@@ -136,8 +111,8 @@ fn write_fixed<K: Output>(output: &mut K, text: &[u8]) -> Result<bool, TalkEnd>
     }
 }
 
-/// Sends the responses that the output holds back before a change, so that none
-/// of them waits for a disk.
+/// Sends the responses that the output holds back before one request is answered that is a change,
+/// so that none of them waits for a disk.
 pub(crate) fn flush_before<K: Output>(request: &Request, output: &mut K) -> Result<(), TalkEnd>
     ensures taken { K.taken output.new ≡ K.taken output.old }
     ensures end { IfErr result (λ end. end ≡ TalkEnd.WriteFault) }

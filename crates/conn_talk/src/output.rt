@@ -19,7 +19,8 @@ pub trait Output {
     /// What an output is after calls: at least what it borrows is the same.
     ghost follows: { Self → Self → Type 0 };
 
-    /// Takes a prefix of `piece`, which is not empty, and returns its length: at least one byte.
+    /// Takes a prefix of `piece`, bytes of a response, which is not empty, and returns its length:
+    /// at least one byte.
     fn write(&mut self, piece: &[u8]) -> Result<usize, Failed>
         requires { 0 < length piece.now }
         ensures some { IfOk result (λ count. 0 < count) }
@@ -28,7 +29,7 @@ pub trait Output {
         ensures faults { CountsFaults result (faults self.old) (faults self.new) }
         ensures follows { follows self.old self.new };
 
-    /// Sends what it holds back. It takes no memory.
+    /// Sends what the output holds back of the responses. It takes no memory.
     fn flush(&mut self) -> Result<(), Failed>
         ensures taken { taken self.new ≡ taken self.old }
         ensures faults { CountsFaults result (faults self.old) (faults self.new) }

@@ -9,7 +9,8 @@ use pod_io::Failed;
 /// The size of the buffer that a response is copied through.
 const PIECE: usize = 8_192;
 
-/// Writes the whole text, or not all of it where a write fails. It takes no memory.
+/// Writes the whole text of a response to the output, or not all of it where a write fails. It
+/// takes no memory.
 pub(crate) fn write_text<K: Output>(output: &mut K, text: &[u8]) -> Result<(), Failed>
     ensures writes { Writes result text.now (K.taken output.old) (K.taken output.new) }
     ensures faults { CountsFaults result (K.faults output.old) (K.faults output.new) }
@@ -22,7 +23,7 @@ pub(crate) fn write_text<K: Output>(output: &mut K, text: &[u8]) -> Result<(), F
     Ok(())
 }
 
-/// Writes a whole response, or not all of it where a write fails. It takes no memory.
+/// Writes a whole response to the output, or not all of it where a write fails. It takes no memory.
 pub(crate) fn write_out<K: Output>(output: &mut K, mut out: Out) -> Result<(), Failed>
     ensures writes { Writes result out (K.taken output.old) (K.taken output.new) }
     ensures faults { CountsFaults result (K.faults output.old) (K.faults output.new) }

@@ -13,7 +13,7 @@ ghost use Rattle.content_nego.specs.Views.{offer_view, range_view};
 
 use crate::media_range::{MediaRange, media_range};
 use crate::media_type::{MediaType, media_type, specificity};
-use crate::quality::FULL_QUALITY;
+use crate::quality_number::FULL_QUALITY;
 use field_list::{Elements, Quoting};
 
 /// The most specific range of an offer so far: how specific it is, and its quality in thousandths.
@@ -31,7 +31,8 @@ pub(crate) struct Tally {
     second: Best,
 }
 
-/// The more specific one of the best range so far and another, the first of equals.
+/// The more specific one of the best range of Accept for an offer so far and another range, the
+/// first of equals.
 fn better(best: Best, offer: &Option<MediaType>, range: &MediaRange) -> Best
     ensures { result ≡ tallies.better (offer_view offer.now) best (range_view range.now) }
 {
@@ -46,7 +47,7 @@ fn better(best: Best, offer: &Option<MediaType>, range: &MediaRange) -> Best
     }
 }
 
-/// The tally with one more range.
+/// The tally of an Accept field with one more range.
 fn with_range(
     tally: Tally,
     first: &Option<MediaType>,
@@ -63,7 +64,7 @@ fn with_range(
     }
 }
 
-/// The tally with one more element, which counts where it is well-formed.
+/// The tally of an Accept field with one more element, which counts where it is well-formed.
 fn with_element(
     tally: Tally,
     first: &Option<MediaType>,
@@ -100,7 +101,7 @@ fn tally_of(accept: &[u8], first: &Option<MediaType>, second: &Option<MediaType>
     tally
 }
 
-/// The offer of the greater quality, the first of equals; none where both are 0.
+/// The offer of the greater quality by Accept, the first of equals; none where both are 0.
 fn greater(first: u16, second: u16) -> Option<usize>
     ensures { result ≡ choices.greater first second }
 {
@@ -110,7 +111,7 @@ fn greater(first: u16, second: u16) -> Option<usize>
     if second <= first { Some(0) } else { Some(1) }
 }
 
-/// The choice by a tally.
+/// The choice between the offers by the tally of an Accept field.
 fn chosen(tally: Tally) -> Option<usize>
     ensures { result ≡ tallies.chosen tally }
 {

@@ -13,9 +13,9 @@
 #![tactic(auto)]
 
 mod accept;
+mod accept_parameters;
 mod media_range;
 mod media_type;
-mod parameters;
-mod quality;
+mod quality_number;
 
 pub use accept::choose;

@@ -14,7 +14,7 @@ pub(crate) struct MediaType<'a> {
     pub(crate) subtype: &'a [u8],
 }
 
-/// The media type that a text is: two tokens around a slash.
+/// The media type of an offer or a range: two tokens around a slash.
 pub(crate) fn media_type<'a>(text: &'a [u8]) -> Option<MediaType<'a>>
     ensures value { offer_view result ≡ spec.media_type text.entry.now }
     ensures some { IfSome result (λ m. spec.media_type text.entry.now ≡ Some (media_view m)) }
@@ -32,15 +32,15 @@ pub(crate) fn media_type<'a>(text: &'a [u8]) -> Option<MediaType<'a>>
     }
 }
 
-/// Whether the bytes are `*`.
+/// Whether a media type has `*` as its type or subtype.
 fn is_wildcard(bytes: &[u8]) -> bool
     ensures { result ≡ bytes_eq bytes.now (codes "*") }
 {
     bytes == b"*".as_slice()
 }
 
-/// How specific a range is for a media type: 3 where it is the type, 2 where it has its type and
-/// any subtype, 1 where it is `*/*`, and 0 where it isn't a range of it.
+/// How specific a range of Accept is for a media type: 3 where it is the type, 2 where it has its
+/// type and any subtype, 1 where it is `*/*`, and 0 where it isn't a range of it.
 fn specificity_for(offer: &MediaType, range: &MediaType) -> u8
     ensures { result ≡ spec.specificity_for (media_view offer.now) (media_view range.now) }
 {
@@ -59,7 +59,7 @@ fn specificity_for(offer: &MediaType, range: &MediaType) -> u8
     }
 }
 
-/// The same for an offer that may be no media type: it has no range then.
+/// How specific a range of Accept is for an offer that may be no media type: it has no range then.
 pub(crate) fn specificity(offer: &Option<MediaType>, range: &MediaType) -> u8
     ensures value { result ≡ spec.specificity (offer_view offer.now) (media_view range.now) }
     ensures bound { result ≤ 3 }

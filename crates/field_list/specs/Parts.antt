@@ -4,7 +4,7 @@ use Rattle.std.specs.Option.{option_map_or}
 use Rattle.field_list.specs.Places.{parts_from}
 use Rattle.field_list.specs.declared.quoting.Quoting.{Quoting}
 use Rattle.field_list.specs.declared.quoting.Place.TheVariants.{Outside}
-use Rattle.field_list.specs.declared.parts.Parts.{Parts}
+use Rattle.field_list.specs.declared.separated_parts.Parts.{Parts}
 
 -- the parts of a text, which begins outside of quotes
 abbrev pub parts : Quoting → ℕ → List ℕ → List (List ℕ)

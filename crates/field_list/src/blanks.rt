@@ -5,7 +5,7 @@ ghost use Rattle.httparse.specs.Grammar.{skip_ows, trim_ows};
 
 use httparse::is_space_or_tab;
 
-/// The bytes without the spaces and tabs before them.
+/// The bytes of a field without the blanks before them: spaces and tabs.
 pub fn trim_start(mut bytes: &[u8]) -> &[u8]
     ensures { result.now ≡ skip_ows bytes.now }
 {
@@ -17,7 +17,7 @@ pub fn trim_start(mut bytes: &[u8]) -> &[u8]
     bytes
 }
 
-/// The bytes without the spaces and tabs after them.
+/// The bytes of a field without the blanks after them: spaces and tabs.
 pub fn trim_end(mut bytes: &[u8]) -> &[u8]
     ensures { result.now ≡ reverse (skip_ows (reverse bytes.now)) }
 {
@@ -29,7 +29,7 @@ pub fn trim_end(mut bytes: &[u8]) -> &[u8]
     bytes
 }
 
-/// The bytes without the spaces and tabs around them.
+/// The bytes of a field without the blanks around them: spaces and tabs.
 #[tactic(auto, unfolding(httparse::specs::Grammar::trim_ows))]
 pub fn trim(bytes: &[u8]) -> &[u8]
     ensures { result.now ≡ trim_ows bytes.now }

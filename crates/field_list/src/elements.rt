@@ -4,8 +4,8 @@ ghost use Rattle.std.specs.Prelude.{◌≡◌};
 ghost use Rattle.field_list.specs.Elements.{elements, elements_rest};
 
 use crate::blanks::trim;
-use crate::parts::Parts;
 use crate::quoting::Quoting;
+use crate::separated_parts::Parts;
 
 /// The elements of a list that commas separate, one after another, without the blanks around them.
 /// Empty elements are skipped (RFC 9110, section 5.6.1).
@@ -15,7 +15,7 @@ pub struct Elements<'a> {
 }
 
 impl<'a> Elements<'a> {
-    /// The elements of a field's value.
+    /// The elements of the list in a field's value.
     pub fn of(quoting: Quoting, value: &'a [u8]) -> Elements<'a>
         ensures { elements_rest result ≡ elements quoting value.entry.now }
     {

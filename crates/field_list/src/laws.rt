@@ -5,7 +5,7 @@ ghost use Rattle.std.specs.List.{join_with_byte};
 ghost use Rattle.field_list.specs.Parts.{parts};
 ghost use Rattle.field_list.specs.declared.quoting.Quoting.{Quoting};
 
-/// The parts of a text, with a separator between each two, are the text.
+/// The parts of a field's text, with a separator between each two, are the text.
 pub fn parts_join_to_the_text()
     ensures { (quoting : Quoting) (separator : ℕ) (text : List ℕ)
         → join_with_byte separator (parts quoting separator text) ≡ text }

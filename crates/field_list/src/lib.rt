@@ -18,21 +18,21 @@
 
 mod blanks;
 mod elements;
-mod joined;
 pub mod laws;
+mod listed_words;
 mod pairs;
-mod parts;
 mod quoted_string;
 mod quoting;
-mod values;
-mod words;
+mod repeated_field;
+mod separated_parts;
+mod single_field;
 
 pub use blanks::{trim, trim_end, trim_start};
 pub use elements::Elements;
-pub use joined::joined_value;
+pub use listed_words::{has_word, some_has_word};
 pub use pairs::split_pair;
-pub use parts::Parts;
 pub use quoted_string::{QuotedBytes, is_quoted_string};
 pub use quoting::Quoting;
-pub use values::only_value;
-pub use words::{has_word, some_has_word};
+pub use repeated_field::joined_value;
+pub use separated_parts::Parts;
+pub use single_field::only_value;

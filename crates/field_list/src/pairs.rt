@@ -3,10 +3,10 @@
 ghost use Rattle.std.specs.Prelude.{◌≡◌, IfSome, IfNone, Some, None};
 ghost use Rattle.field_list.specs.Pairs as spec;
 
-use crate::parts::Parts;
 use crate::quoting::Quoting;
+use crate::separated_parts::Parts;
 
-/// The two parts of a text around its one separator outside of quotes; none where it has none or
+/// The pair of texts around the one separator outside of quotes; none where there is none or
 /// several.
 pub fn split_pair<'a>(
     quoting: Quoting,

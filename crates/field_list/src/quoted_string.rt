@@ -7,7 +7,7 @@ ghost use Rattle.field_list.specs.QuotedString.{meaning, meaning_rest};
 use crate::quoting::{Place, Quoting, next_place};
 use httparse::is_header_value_token;
 
-/// Whether a byte may follow in quotes.
+/// Whether a byte may follow in a quoted string.
 fn continues(place: Place, byte: u8) -> bool
     ensures { result ≡ spec.continues place byte }
 {
@@ -38,7 +38,8 @@ pub fn is_quoted_string(text: &[u8]) -> bool
     }
 }
 
-/// Whether a byte is part of what a quoted string means.
+/// Whether a byte is part of what a quoted string means, and neither its end nor a backslash that
+/// escapes.
 fn is_meant(place: Place, byte: u8) -> bool
     ensures { result ≡ spec.is_meant place byte }
 {

@@ -23,7 +23,7 @@ pub enum Place {
     Escaped,
 }
 
-/// Whether a backslash in quotes escapes the byte after it.
+/// Whether a quoted string has escapes: a backslash in quotes escapes the byte after it.
 fn has_escapes(quoting: Quoting) -> bool
     ensures { result ≡ spec.has_escapes quoting }
 {
@@ -33,7 +33,7 @@ fn has_escapes(quoting: Quoting) -> bool
     }
 }
 
-/// The place of what follows a byte.
+/// The place, in quotes or outside of them, of what follows a byte.
 pub(crate) fn next_place(quoting: Quoting, place: Place, byte: u8) -> Place
     ensures { result ≡ spec.next_place quoting place byte }
 {
@@ -58,7 +58,7 @@ pub(crate) fn next_place(quoting: Quoting, place: Place, byte: u8) -> Place
     }
 }
 
-/// Whether a byte is a separator and outside of quotes.
+/// Whether a byte is a separator outside of quotes.
 pub(crate) fn separates(separator: u8, place: Place, byte: u8) -> bool
     ensures { result ≡ spec.separates separator place byte }
 {

@@ -20,8 +20,8 @@ use Rattle.graph_patch.specs.Lookup.{AreCandidates, IsIndex, IsKeyRange, first_t
 use Rattle.rdf_graph.specs.SubjectRange.{IsSubjectRange}
 use Rattle.rdf_graph.specs.Triple.{IsGivenTerm, triple_cmp}
 use Rattle.rdf_graph.specs.TripleLaws.{triple_cmp_total}
-use Rattle.graph_patch.specs.declared.index.KeyOrder.{KeyOrder}
-use Rattle.graph_patch.specs.declared.index.KeyOrder.TheVariants.{PredicateObject, ObjectSubject}
+use Rattle.graph_patch.specs.declared.triple_index.KeyOrder.{KeyOrder}
+use Rattle.graph_patch.specs.declared.triple_index.KeyOrder.TheVariants.{PredicateObject, ObjectSubject}
 use Rattle.rdf_graph.specs.declared.term.Term.{Term}
 use Rattle.rdf_graph.specs.declared.triple.Triple.{Triple}
 use Rattle.rdf_graph.proofs.Prefixes.{lt-falls, le-falls}

@@ -7,10 +7,10 @@ use Rattle.std.specs.declared.cmp.Ordering.TheVariants.{Equal}
 use Rattle.std.specs.Ordering.{eq_by_cmp, nat_cmp, on, then_cmp}
 use Rattle.rdf_graph.specs.Graph.{IsOrdered}
 use Rattle.rdf_graph.specs.Triple.{IsGivenTerm, bytes_cmp, triple_cmp}
-use Rattle.graph_patch.specs.declared.index.KeyOrder.{KeyOrder}
-use Rattle.graph_patch.specs.declared.index.KeyOrder.TheVariants.{PredicateObject, ObjectSubject}
-use Rattle.graph_patch.specs.declared.lookup.Candidates.{Candidates}
-use Rattle.graph_patch.specs.declared.lookup.Lookup.{Lookup}
+use Rattle.graph_patch.specs.declared.triple_index.KeyOrder.{KeyOrder}
+use Rattle.graph_patch.specs.declared.triple_index.KeyOrder.TheVariants.{PredicateObject, ObjectSubject}
+use Rattle.graph_patch.specs.declared.triple_lookup.Candidates.{Candidates}
+use Rattle.graph_patch.specs.declared.triple_lookup.Lookup.{Lookup}
 use Rattle.rdf_graph.specs.declared.term.Term.{Term}
 use Rattle.rdf_graph.specs.declared.term.Term.TheVariants.{Iri, Blank, Literal, Tagged}
 use Rattle.rdf_graph.specs.declared.triple.Triple.{Triple}

@@ -4,7 +4,7 @@ use Rattle.std.specs.Prelude.{Some, IsSome, All, slice_get, map}
 use Rattle.graph_patch.specs.Pattern.{Binding, Extends, HoldsIn, IsVariableOf, HasDistinctNames}
 use Rattle.graph_patch.specs.Pattern.{value_of}
 use Rattle.rdf_graph.specs.Term.{term_eq}
-use Rattle.graph_patch.specs.declared.bindings.BoundVariable.{BoundVariable}
+use Rattle.graph_patch.specs.declared.search_bindings.BoundVariable.{BoundVariable}
 use Rattle.graph_patch.specs.declared.pattern.Found.{Found}
 use Rattle.graph_patch.specs.declared.pattern.Found.TheVariants.{Nothing, One, Many}
 use Rattle.graph_patch.specs.declared.pattern.Pattern.{Pattern}

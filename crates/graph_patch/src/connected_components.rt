@@ -10,7 +10,7 @@ use crate::pattern::{Pattern, Slot};
 use pod_base::{Mem, Text};
 use std::alloc::Global;
 
-/// A label for each condition, the same for connected ones.
+/// A label for each condition's connected component, the same for connected ones.
 pub(crate) fn label_components(alloc: Global, conditions: &[Pattern]) -> Mem<Vec<usize>>
     ensures long { IfOk result (λ labels. length labels.items ≡ length conditions.now) }
     ensures small { IfOk result
@@ -25,7 +25,7 @@ pub(crate) fn label_components(alloc: Global, conditions: &[Pattern]) -> Mem<Vec
     Ok(labels)
 }
 
-/// Gives the label of the last condition so far to all that are connected with it.
+/// Gives the component's label of the last condition so far to all that are connected with it.
 fn join_earlier(labels: &mut [usize], conditions: &[Pattern], i: usize)
     requires last { length labels.old ≡ i + 1 }
     requires within { i < length conditions.now }
@@ -42,7 +42,7 @@ fn join_earlier(labels: &mut [usize], conditions: &[Pattern], i: usize)
     }
 }
 
-/// Replaces one label by another.
+/// Replaces one label of a component by another.
 fn relabel(labels: &mut [usize], from: usize, to: usize)
     ensures { labels.new ≡ map (λ label. if label == from then to else label) labels.old }
 {
@@ -51,14 +51,14 @@ fn relabel(labels: &mut [usize], from: usize, to: usize)
     }
 }
 
-/// What replaces a label.
+/// What replaces the label of a component.
 fn relabelled(label: usize, from: usize, to: usize) -> usize
     ensures { result ≡ (if label == from then to else label) }
 {
     if label == from { to } else { label }
 }
 
-/// The conditions with that label, in order.
+/// The conditions of the connected component with that label, in order.
 pub(crate) fn component_of<'a>(
     alloc: Global,
     conditions: &'a [Pattern],
@@ -79,14 +79,14 @@ pub(crate) fn component_of<'a>(
     Ok(component)
 }
 
-/// Whether both have some variable.
+/// Whether two conditions have a common variable, which connects them.
 fn shares_variable(first: &Pattern, second: &Pattern) -> bool
     ensures { IsTrue result ↔ SharesVariable first.now second.now }
 {
     is_in(&first.s, second) || is_in(&first.p, second) || is_in(&first.o, second)
 }
 
-/// Whether the slot has a variable of the pattern.
+/// Whether the slot has a variable of the pattern, which connects two conditions.
 fn is_in(slot: &Slot, pattern: &Pattern) -> bool
     ensures { IsTrue result
         ↔ ((name : List ℕ) × (slot.now ≡ Var name) × HasVariable pattern.now name) }
@@ -101,7 +101,7 @@ fn is_in(slot: &Slot, pattern: &Pattern) -> bool
     }
 }
 
-/// Whether the slot is the variable of that name.
+/// Whether the slot is the variable of that name, which may connect two conditions.
 pub(crate) fn is_variable(slot: &Slot, name: &Text) -> bool
     ensures { IsTrue result ↔ (slot.now ≡ Var name.now) }
 {

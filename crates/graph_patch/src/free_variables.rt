@@ -9,7 +9,8 @@ use crate::pattern::{Pattern, Slot};
 use pod_base::Text;
 
 impl Patch {
-    /// Whether each variable of the deletions and insertions is one of the conditions.
+    /// Whether no variable of the patch is free, so that each of its deletions and insertions is
+    /// one of the conditions.
     pub fn is_bound(&self) -> bool
         ensures { IsTrue result ↔ IsBound self.now }
     {
@@ -19,7 +20,7 @@ impl Patch {
     }
 }
 
-/// Whether each variable of the patterns is one of the conditions.
+/// Whether no variable of the patterns is free, so that each is one of the conditions.
 fn all_bound(patterns: &[Pattern], conditions: &[Pattern]) -> bool
     ensures { IsTrue result ↔ AllBound patterns.now conditions.now }
 {
@@ -31,7 +32,7 @@ fn all_bound(patterns: &[Pattern], conditions: &[Pattern]) -> bool
     true
 }
 
-/// Whether each variable of the pattern is one of the conditions.
+/// Whether no variable of the pattern is free, so that each is one of the conditions.
 fn is_bound(pattern: &Pattern, conditions: &[Pattern]) -> bool
     ensures { IsTrue result
         ↔ ((name : List ℕ) → HasVariable pattern.now name → IsVariableOf conditions.now name) }
@@ -41,7 +42,7 @@ fn is_bound(pattern: &Pattern, conditions: &[Pattern]) -> bool
         && is_bound_in(&pattern.o, conditions)
 }
 
-/// Whether the slot has no variable, or one of the conditions.
+/// Whether the slot has no free variable, but none at all or one of the conditions.
 fn is_bound_in(slot: &Slot, conditions: &[Pattern]) -> bool
     ensures { IsTrue result ↔ IsBoundIn slot.now conditions.now }
 {
@@ -51,7 +52,7 @@ fn is_bound_in(slot: &Slot, conditions: &[Pattern]) -> bool
     }
 }
 
-/// Whether the name is a variable of the conditions.
+/// Whether the name is a variable of the conditions, and so isn't free.
 fn is_variable_of(conditions: &[Pattern], name: &Text) -> bool
     ensures { IsTrue result ↔ IsVariableOf conditions.now name.now }
 {
@@ -63,7 +64,7 @@ fn is_variable_of(conditions: &[Pattern], name: &Text) -> bool
     false
 }
 
-/// Whether the pattern has the variable.
+/// Whether a condition's pattern has the variable, so that it isn't free.
 pub(crate) fn has_variable(pattern: &Pattern, name: &Text) -> bool
     ensures { IsTrue result ↔ HasVariable pattern.now name.now }
 {

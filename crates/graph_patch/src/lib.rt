@@ -21,23 +21,23 @@
 //! `sparql_patch`.
 #![tactic(auto)]
 
-mod bindings;
 mod connected_components;
 mod free_variables;
-mod index;
-mod instances;
-mod lookup;
 mod patch;
 mod pattern;
+mod pattern_instances;
 mod pattern_order;
-mod search;
+mod search_bindings;
 mod solution_mappings;
-mod steps;
+mod solution_search;
+mod step_budget;
 #[cfg(test)]
 mod tests;
+mod triple_index;
+mod triple_lookup;
 
-pub use instances::INSTANCES_LIMIT;
 pub use patch::{Patch, PatchFault, instantiate, the_mapping};
 pub use pattern::{Found, Mapping, Pattern, Slot};
+pub use pattern_instances::INSTANCES_LIMIT;
 pub use solution_mappings::solutions;
-pub use steps::STEP_LIMIT;
+pub use step_budget::STEP_LIMIT;

@@ -64,8 +64,8 @@ pub fn instantiate(alloc: Global, graph: &Graph, patch: &Patch) -> Result<Change
     }
 }
 
-/// The one mapping under which the conditions hold. `NoMatch` and `ManyMatches` come as `solutions`
-/// says, and no other fault but `NoMemory`.
+/// The one mapping under which the conditions of a patch hold. `NoMatch` and `ManyMatches` come as
+/// `solutions` says, and no other fault but `NoMemory`.
 pub fn the_mapping(
     alloc: Global,
     graph: &Graph,

@@ -28,7 +28,7 @@ pub struct Mapping {
 }
 
 impl Mapping {
-    /// The term of the variable with that name, if it has one.
+    /// The term that the mapping has for the variable with that name, if it has one.
     pub fn get(&self, name: &str) -> Option<&Term>
         ensures { option_copied result ≡ value_of self.now.pairs.items name.now }
     {
@@ -36,7 +36,7 @@ impl Mapping {
     }
 }
 
-/// The term of the first pair with that name, if there is one.
+/// The term of a mapping's first pair with that name, if there is one.
 pub(crate) fn value<'a>(pairs: &'a [(Text, Term)], name: &str) -> Option<&'a Term>
     ensures { option_copied result ≡ value_of pairs.now name.now }
 {

@@ -61,7 +61,8 @@ impl Ord for Slot {
     }
 }
 
-/// How each text that begins with `?` compares with a term's.
+/// The order of a variable's slot and a term's, which is how each text that begins with `?`
+/// compares with the term's.
 #[tactic(auto, unfolding(rdf_graph::specs::Term::text))]
 fn cmp_with_variable(term: &Term) -> Ordering
     ensures { (name : List ℕ) → result ≡ bytes_cmp (63 ∷ name) (text term.now) }
@@ -72,7 +73,8 @@ fn cmp_with_variable(term: &Term) -> Ordering
     }
 }
 
-/// How a term's text compares with each text that begins with `?`.
+/// The order of a term's slot and a variable's, which is how the term's text compares with each
+/// that begins with `?`.
 #[tactic(auto, unfolding(rdf_graph::specs::Term::text))]
 fn cmp_to_variable(term: &Term) -> Ordering
     ensures { (name : List ℕ) → result ≡ bytes_cmp (text term.now) (63 ∷ name) }

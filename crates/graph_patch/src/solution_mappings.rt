@@ -6,18 +6,18 @@ ghost use Rattle.graph_patch.specs.Solutions.{AreSolutions};
 ghost use Rattle.graph_patch.specs.declared.pattern.Found.TheVariants.{Nothing};
 
 use crate::connected_components::{component_of, label_components};
-use crate::index::KeyOrder;
-use crate::lookup::{Lookup, index_for};
 use crate::pattern::{Found, Mapping, Pattern};
-use crate::search::search;
-use crate::steps::Steps;
+use crate::solution_search::search;
+use crate::step_budget::Steps;
+use crate::triple_index::KeyOrder;
+use crate::triple_lookup::{Lookup, index_for};
 use pod_base::{List, Mem};
 use rdf_graph::Graph;
 use std::alloc::Global;
 
-/// The mappings from exactly the variables of the conditions to terms under which each condition is
-/// a triple of the graph: none, the one, or more. Without conditions it is the one empty mapping
-/// (Solid Protocol, N3 Patch).
+/// The solution mappings, from exactly the variables of the conditions to terms, under which each
+/// condition is a triple of the graph: none, the one, or more. Without conditions it is the one
+/// empty mapping (Solid Protocol, N3 Patch).
 ///
 /// Connected components of conditions are solved separately, and the second mapping ends a search.
 /// Where a search may know a condition's predicate or object and not its subject, it uses an index,
@@ -54,7 +54,7 @@ pub fn solutions(alloc: Global, graph: &Graph, conditions: &List<Pattern>) -> Me
     Ok(found)
 }
 
-/// The solutions of a component of the conditions.
+/// The solution mappings of a component of the conditions.
 fn solve_component<'a>(
     alloc: Global,
     lookup: Lookup<'a>,
@@ -78,7 +78,8 @@ fn solve_component<'a>(
 }
 
 impl Found {
-    /// The solutions of two lists of conditions without a common variable, from those of each.
+    /// The solution mappings of two lists of conditions without a common variable, from those of
+    /// each.
     fn join(self, other: Found) -> Mem<Found>
         ensures { IfOk result (IsJoin self other) }
     {
@@ -95,7 +96,7 @@ impl Found {
         }
     }
 
-    /// Whether there is no solution.
+    /// Whether there is no solution mapping.
     fn is_nothing(&self) -> bool
         ensures { IsTrue result ↔ (self.now ≡ Nothing) }
     {

@@ -28,7 +28,7 @@
 //! who could otherwise open it by a change of an access list.
 #![tactic(auto)]
 
-mod isolation;
+mod isolated_sessions;
 
 ghost use Rattle.history_laws.specs.Acknowledged.{EntriesAreAcknowledged, EntriesArePublishedOnce};
 ghost use Rattle.history_laws.specs.Entries.{EachPodIsWellFormed, EntryHasOneItem};
@@ -39,11 +39,11 @@ ghost use Rattle.history_laws.specs.Progress.{RepairsMayComplete, WorldsMayStop}
 ghost use Rattle.history_laws.specs.SameRequests.{SameSessions, SameSessionsOverAlike};
 ghost use Rattle.history_laws.specs.SameItems.{SameItems};
 
-pub use isolation::sessions_are_isolated;
+pub use isolated_sessions::sessions_are_isolated;
 use pod_io::Clock;
 
-/// What the same requests of the same agents are answered at the same moments is the same, byte for
-/// byte, where neither memory nor a disk failed.
+/// Sessions over histories that have the same requests of the same agents at the same moments have
+/// the same answers, byte for byte, where neither memory nor a disk failed.
 pub fn one_session<C: Clock>(clock: &C)
     ensures items { SameItems (C.may_give clock.now) }
     ensures sessions { SameSessions (C.may_give clock.now) }
@@ -74,8 +74,9 @@ pub fn each_change_once<C: Clock>(clock: &C)
     let _clock = clock;
 }
 
-/// A world at rest has the steps of a change that is next and has a reply with an entry: it can be
-/// completed, after a repair where an entry is in doubt, and its gate may fail.
+/// A history may grow: a world at rest has the steps of a change that is next and has a reply with
+/// an entry. The change can be completed, after a repair where an entry is in doubt, and its gate
+/// may fail.
 pub fn changes_may_complete<C: Clock>(clock: &C)
     ensures completes { ChangesMayComplete (C.may_give clock.now) }
     ensures repaired { RepairsMayComplete (C.may_give clock.now) }
@@ -84,8 +85,9 @@ pub fn changes_may_complete<C: Clock>(clock: &C)
     let _clock = clock;
 }
 
-/// A world that hasn't stopped has the other steps: bytes arrive, a read is answered at a place that
-/// its connection may look at, a malformed message is refused, and the world stops.
+/// A history may see the other events, while its world hasn't stopped: bytes arrive, a read is
+/// answered at a place that its connection may look at, a malformed message is refused, and the
+/// world stops.
 pub fn events_may_come<C: Clock>(clock: &C)
     ensures arrives { BytesMayArrive (C.may_give clock.now) }
     ensures reads { ReadsMayBeAnswered (C.may_give clock.now) }

@@ -11,7 +11,8 @@ use http_payload::PayloadFault;
 use pod_base::{Heard, List, Mem, NoMemory};
 use std::alloc::Global;
 
-/// Parses some bytes of a body: returns how many and the state after them.
+/// The step of the parser that takes some bytes of a body: returns how many and the state after
+/// them.
 pub(crate) fn body_step(
     alloc: Global,
     events: &mut List<Heard>,

@@ -1,15 +1,14 @@
 //! [`Conn`], the parser of a connection's messages.
 
-ghost use Rattle.std.specs.Prelude.{◌≡◌, ◌≢◌, ◌++◌, true, false, List as Items, ℕ, [], IfOk, OnErr};
+ghost use Rattle.std.specs.Prelude.{◌≡◌, ◌++◌, List as Items, ℕ, [], IfOk, OnErr};
 ghost use Rattle.std.specs.Prelude.{IsErr};
 ghost use Rattle.pod_base.specs.declared.heard.Heard.{Heard as Event};
 ghost use Rattle.http_conn.specs.Messages.{Messages};
 ghost use Rattle.http_conn.specs.ParserStates.{Represents, IsSoundState, rest_of};
 
-use crate::parse_piece::parse_piece;
-use crate::parser_state::{ParserState, PartialHead};
-use http_head::blank_length;
-use pod_base::{Heard, List, Mem, NoMemory};
+use crate::parse_piece::parse_events;
+use crate::parser_state::{ParserState, PartialHead, rest_of};
+use pod_base::{Heard, List, Mem};
 use std::alloc::Global;
 use std::marker::Model;
 use std::mem;
@@ -45,16 +44,16 @@ impl Conn {
         }
     }
 
-    /// Parses the next piece and returns its events. The events of all calls are those of all bytes
-    /// that were fed, however they were cut (RFC 9112, section 2.2).
+    /// Parses the next piece of the connection and returns its events. The events of all calls are
+    /// those of all bytes that were fed, however they were cut (RFC 9112, section 2.2).
     ///
     /// No event follows a refusal, a request that closes the connection, and the
     /// [`REQUEST_LIMIT`](crate::REQUEST_LIMIT)th request.
     ///
     /// # Errors
     ///
-    /// [`NoMemory`] where it is out of memory; from then on each call returns it. A caller that is
-    /// to go on from the state before takes a [`copy`](Conn::copy) first.
+    /// [`NoMemory`](pod_base::NoMemory) where it is out of memory; from then on each call returns
+    /// it. A caller that is to go on from the state before takes a [`copy`](Conn::copy) first.
     pub fn feed(&mut self, alloc: Global, piece: &[u8]) -> Mem<List<Heard>>
         ensures represents { IfOk result (λ new. (text : Items ℕ) (events : Items Event)
             → Represents self.old text events
@@ -89,40 +88,4 @@ impl Conn {
     {
         rest_of(&self.state)
     }
-}
-
-/// How many bytes of an unfinished message a state keeps.
-fn rest_of(state: &ParserState) -> usize
-    ensures { result ≡ rest_of state.now }
-{
-    match state {
-        ParserState::Head(partial) => partial.bytes.len() - blank_length(partial.bytes.as_slice()),
-        ParserState::Body(partial) => partial.len,
-        ParserState::Closed | ParserState::Failed => 0,
-    }
-}
-
-/// Whether a call was out of memory.
-fn has_failed(state: &ParserState) -> bool
-    ensures yes { result ≡ true → state.now ≡ ParserState.Failed }
-    ensures no { result ≡ false → state.now ≢ ParserState.Failed }
-{
-    matches!(state, ParserState::Failed)
-}
-
-/// Parses a piece: returns the state after it and its events.
-fn parse_events(alloc: Global, state: ParserState, piece: &[u8]) -> Mem<(ParserState, List<Heard>)>
-    requires { IsSoundState state }
-    ensures sound { IfOk result (λ r. IsSoundState r.0) }
-    ensures represents { IfOk result (λ r. (text : Items ℕ) (events : Items Event)
-        → Represents state text events
-        → Represents r.0 (text ++ piece.now) (events ++ r.1.items)) }
-    ensures failed { state ≡ ParserState.Failed → IsErr result }
-{
-    if has_failed(&state) {
-        return Err(NoMemory);
-    }
-    let mut events = List::new(alloc);
-    let next = parse_piece(alloc, &mut events, state, piece)?;
-    Ok((next, events))
 }

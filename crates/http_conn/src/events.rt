@@ -16,7 +16,7 @@ use std::alloc::Global;
 /// The most requests of a connection. No event follows the last of them.
 pub const REQUEST_LIMIT: u64 = 10_000;
 
-/// Appends an event.
+/// Appends an event of the connection.
 fn push_event(alloc: Global, events: &mut List<Heard>, event: Heard) -> Mem<()>
     ensures { OnOk result (events.new.items ≡ events.old.items ++ event ∷ []) }
 {
@@ -26,7 +26,7 @@ fn push_event(alloc: Global, events: &mut List<Heard>, event: Heard) -> Mem<()>
     }
 }
 
-/// Appends the refusal of a malformed message, after which the connection is closed.
+/// Appends the event that refuses a malformed message, after which the connection is closed.
 pub(crate) fn refuse(alloc: Global, events: &mut List<Heard>, status: u16) -> Mem<ParserState>
     ensures pushed { OnOk result (events.new.items ≡ events.old.items ++ heard.Bad status ∷ []) }
     ensures closed { IfOk result (λ new. new ≡ ParserState.Closed) }
@@ -35,7 +35,7 @@ pub(crate) fn refuse(alloc: Global, events: &mut List<Heard>, status: u16) -> Me
     Ok(ParserState::Closed)
 }
 
-/// Appends the point at which `100 Continue` is due, where the head waits for it.
+/// Appends the event that `100 Continue` is due, where the head waits for it.
 pub(crate) fn push_interim(
     alloc: Global,
     events: &mut List<Heard>,
@@ -53,7 +53,7 @@ pub(crate) fn push_interim(
     }
 }
 
-/// Whether a request that `count` others precede is the last of its connection.
+/// Whether the event of a request, which `count` others precede, is the last of its connection.
 fn is_last_request(count: u64, head: &RequestHead) -> bool
     ensures { result
         ≡ (persistence.closes head.now.minor head.now.fields || nat_le REQUEST_LIMIT (count + 1)) }
@@ -61,7 +61,7 @@ fn is_last_request(count: u64, head: &RequestHead) -> bool
     closes(head.minor, &head.fields) || count >= REQUEST_LIMIT - 1
 }
 
-/// Appends a complete request.
+/// Appends the event of a complete request.
 pub(crate) fn push_request(
     alloc: Global,
     events: &mut List<Heard>,

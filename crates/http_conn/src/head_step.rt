@@ -18,7 +18,8 @@ use http_payload::Payload;
 use pod_base::{BytesBuilder, Heard, List, Mem, NoMemory};
 use std::alloc::Global;
 
-/// The state after a head whose body has that form. The head has `len` bytes.
+/// The connection's state after a step to the end of a head whose body has that form. The head has
+/// `len` bytes.
 fn start_body(
     alloc: Global,
     events: &mut List<Heard>,
@@ -45,7 +46,8 @@ fn start_body(
     }))
 }
 
-/// The state after a head of `len` bytes, by the form of its body.
+/// The connection's state after a step to the end of a head of `len` bytes, by the form of its
+/// body.
 fn frame_body(
     alloc: Global,
     events: &mut List<Heard>,
@@ -65,7 +67,7 @@ fn frame_body(
     }
 }
 
-/// The state after the bytes of a complete head.
+/// The connection's state after a step to the end of a head, by the bytes of the head.
 fn parse_head(alloc: Global, events: &mut List<Heard>, count: u64, bytes: &[u8]) -> Mem<ParserState>
     requires { head_end bytes.now ≡ end.Whole (length bytes.now) }
     ensures sound { IfOk result IsSoundState }
@@ -84,7 +86,8 @@ fn parse_head(alloc: Global, events: &mut List<Heard>, count: u64, bytes: &[u8])
     }
 }
 
-/// Parses some bytes from the beginning of a head on: returns how many and the state after them.
+/// The step of the parser from the beginning of a head on: returns how many bytes it takes and the
+/// state after them.
 fn start_head(
     alloc: Global,
     events: &mut List<Heard>,
@@ -120,7 +123,8 @@ fn start_head(
     }
 }
 
-/// Parses some more bytes of a head that has begun: returns how many and the state after them.
+/// The step of the parser in a head that has begun: returns how many bytes it takes and the state
+/// after them.
 fn continue_head(
     alloc: Global,
     events: &mut List<Heard>,
@@ -163,7 +167,7 @@ fn continue_head(
     }
 }
 
-/// Parses some bytes of a head: returns how many and the state after them.
+/// The step of the parser in a head: returns how many bytes it takes and the state after them.
 pub(crate) fn head_step(
     alloc: Global,
     events: &mut List<Heard>,

@@ -1,9 +1,10 @@
 //! What a connection keeps between two pieces: the unfinished message.
 
-ghost use Rattle.std.specs.Prelude.{◌≡◌, [], IfOk};
+ghost use Rattle.std.specs.Prelude.{◌≡◌, ◌≢◌, true, false, [], IfOk};
 ghost use Rattle.http_head.specs.HeadScan.{HasScanned};
+ghost use Rattle.http_conn.specs.ParserStates.{rest_of};
 
-use http_head::{HeadSearch, RequestHead};
+use http_head::{HeadSearch, RequestHead, blank_length};
 use http_payload::Payload;
 use pod_base::{BytesBuilder, Mem};
 use std::alloc::Global;
@@ -20,7 +21,7 @@ pub(crate) struct PartialHead {
 }
 
 impl PartialHead {
-    /// A head without bytes, after `count` requests.
+    /// The parser's state before any byte of a head, after `count` requests.
     pub(crate) fn new(alloc: Global, count: u64) -> PartialHead
         ensures bytes { result.bytes ≡ [] }
         ensures seen { HasScanned result.search [] }
@@ -33,7 +34,7 @@ impl PartialHead {
         }
     }
 
-    /// An equal head.
+    /// An equal state of the parser in a partial head.
     fn copy(&self, alloc: Global) -> Mem<PartialHead>
         ensures { IfOk result (λ copy. copy ≡ self.now) }
     {
@@ -59,7 +60,7 @@ pub(crate) struct PartialBody {
 }
 
 impl PartialBody {
-    /// An equal request.
+    /// An equal state of the parser in a request with a partial body.
     fn copy(&self, alloc: Global) -> Mem<PartialBody>
         ensures { IfOk result (λ copy. copy ≡ self.now) }
     {
@@ -88,7 +89,7 @@ pub(crate) enum ParserState {
 }
 
 impl ParserState {
-    /// An equal state.
+    /// An equal state of the parser.
     pub(crate) fn copy(&self, alloc: Global) -> Mem<ParserState>
         ensures { IfOk result (λ copy. copy ≡ self.now) }
     {
@@ -105,4 +106,23 @@ impl ParserState {
             ParserState::Failed => Ok(ParserState::Failed),
         }
     }
+}
+
+/// How many bytes of an unfinished message the parser's state keeps.
+pub(crate) fn rest_of(state: &ParserState) -> usize
+    ensures { result ≡ rest_of state.now }
+{
+    match state {
+        ParserState::Head(partial) => partial.bytes.len() - blank_length(partial.bytes.as_slice()),
+        ParserState::Body(partial) => partial.len,
+        ParserState::Closed | ParserState::Failed => 0,
+    }
+}
+
+/// Whether the parser's state is that after a call that was out of memory.
+pub(crate) fn has_failed(state: &ParserState) -> bool
+    ensures yes { result ≡ true → state.now ≡ ParserState.Failed }
+    ensures no { result ≡ false → state.now ≢ ParserState.Failed }
+{
+    matches!(state, ParserState::Failed)
 }

@@ -28,7 +28,8 @@ struct FirstHead {
     form: BodyForm,
 }
 
-/// The head with the bytes of that length, where it is one and its body has a form.
+/// The head of that length in a text that is to be a single request, where it is one and its body
+/// has a form.
 fn framed_head(alloc: Global, bytes: &[u8], len: usize) -> Mem<Option<FirstHead>>
     requires within { len ≤ length bytes.now }
     requires ends { ends.head_end bytes.now ≡ end.Whole len }
@@ -49,7 +50,8 @@ fn framed_head(alloc: Global, bytes: &[u8], len: usize) -> Mem<Option<FirstHead>
     }
 }
 
-/// The head with which a text begins, where it is complete and its body has a form.
+/// The head with which the text of a single request begins, where it is complete and its body has a
+/// form.
 fn first_head(alloc: Global, bytes: &[u8]) -> Mem<Option<FirstHead>>
     ensures some { IfOk result (λ found. IfSome found (λ f. (f.len ≤ length bytes.now)
         × HasHead bytes.now f.len f.head f.form)) }
@@ -63,7 +65,8 @@ fn first_head(alloc: Global, bytes: &[u8]) -> Mem<Option<FirstHead>>
     }
 }
 
-/// The body with which the bytes begin, and how many of them it takes, where it is complete.
+/// The body of a single request, with which the bytes after its head begin, and how many of them it
+/// takes, where it is complete.
 fn first_body(alloc: Global, form: BodyForm, bytes: &[u8]) -> Mem<Option<(Bytes, usize)>>
     ensures some { IfOk result (λ found. IfSome found (λ r. (r.1 ≤ length bytes.now)
         × IsBody form (take r.1 bytes.now) r.0)) }
@@ -87,8 +90,8 @@ fn first_body(alloc: Global, form: BodyForm, bytes: &[u8]) -> Mem<Option<(Bytes,
     }
 }
 
-/// Whether only empty lines follow a request with these fields, and no event: so many of them that
-/// no head can follow are a malformed message, unless the connection is closed.
+/// Whether only empty lines follow a single request with these fields, and no event: so many of
+/// them that no head can follow are a malformed message, unless the connection is closed.
 fn ends_text(minor: u8, fields: &Fields, rest: &[u8]) -> bool
     ensures yes { IsTrue result → AreEmptyLines rest.now
         × ((persistence.closes minor fields.now ≡ true) ⊎ (length rest.now < HEAD_LIMIT)) }
@@ -101,7 +104,8 @@ fn ends_text(minor: u8, fields: &Fields, rest: &[u8]) -> bool
     closes(minor, fields) || rest.len() < HEAD_LIMIT
 }
 
-/// The request of a head and the bytes after it, where the text is that request and nothing else.
+/// The single request of a head and the bytes after it, where the text is that request and nothing
+/// else.
 fn request_of(alloc: Global, first: FirstHead, bytes: &[u8]) -> Mem<Option<Request>>
     requires within { first.len ≤ length bytes.now }
     requires begins { HasHead bytes.now first.len first.head first.form }
@@ -132,8 +136,8 @@ fn request_of(alloc: Global, first: FirstHead, bytes: &[u8]) -> Mem<Option<Reque
     }
 }
 
-/// The request that the bytes are: one request, which waits for no `100 Continue`, and then empty
-/// lines alone. None exactly where they are not that.
+/// The single request that the bytes are: one request, which waits for no `100 Continue`, and then
+/// empty lines alone. None exactly where they are not that.
 pub fn one_request(alloc: Global, bytes: &[u8]) -> Mem<Option<Request>>
     ensures some { IfOk result (λ found. IfSome found (IsOneRequest bytes.now)) }
     ensures none { IfOk result (λ found. IfNone found ((request : Parsed)

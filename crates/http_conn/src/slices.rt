@@ -2,7 +2,7 @@
 
 ghost use Rattle.std.specs.Prelude.{◌≡◌, ◌≤◌, length, take, drop, min};
 
-/// The first `len` bytes.
+/// The first `len` bytes of a slice.
 pub(crate) fn prefix(bytes: &[u8], len: usize) -> &[u8]
     requires { len ≤ length bytes.now }
     ensures { result.now ≡ take len bytes.now }
@@ -10,7 +10,7 @@ pub(crate) fn prefix(bytes: &[u8], len: usize) -> &[u8]
     &bytes[..len]
 }
 
-/// The first `most` bytes, or all where there are fewer.
+/// The first `most` bytes of a slice, or all where there are fewer.
 pub(crate) fn prefix_up_to(bytes: &[u8], most: usize) -> &[u8]
     ensures bytes { result.now ≡ take most bytes.now }
     ensures len { length result.now ≡ min most (length bytes.now) }
@@ -22,7 +22,7 @@ pub(crate) fn prefix_up_to(bytes: &[u8], most: usize) -> &[u8]
     }
 }
 
-/// The bytes from `at` on.
+/// The bytes of a slice from `at` on.
 pub(crate) fn suffix(bytes: &[u8], at: usize) -> &[u8]
     requires { at ≤ length bytes.now }
     ensures { result.now ≡ drop at bytes.now }

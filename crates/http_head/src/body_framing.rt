@@ -2,13 +2,12 @@
 
 ghost use Rattle.std.specs.Prelude.{◌≡◌, ◌&&◌, ◌||◌, ◌==◌, not, true, false, map, find, codes};
 ghost use Rattle.std.specs.List.{list_all, list_any};
-ghost use Rattle.std.specs.Str.{bytes_eq, str_eq_ignore_ascii_case};
+ghost use Rattle.std.specs.Str.{str_eq_ignore_ascii_case};
 ghost use Rattle.pod_base.specs.Fields.{is_named};
-ghost use Rattle.http_head.specs.Decimals.{is_number, significant};
 ghost use Rattle.http_head.specs.BodyFraming as spec;
 
 use crate::body_form::BodyForm;
-use crate::content_length::{body_length, is_number, is_same_number};
+use crate::content_length::{are_numbers, body_length, lengths_differ};
 use crate::request_head::RequestHead;
 use pod_base::Fields;
 use thiserror::Error;
@@ -27,7 +26,7 @@ pub enum FramingFault {
     Coding,
 }
 
-/// Whether there is a field of that name.
+/// Whether a head has a field of that name, for the framing of its body.
 fn has_field(fields: &Fields, name: &str) -> bool
     ensures { result ≡ list_any (is_named name.now) fields.now }
 {
@@ -38,43 +37,8 @@ fn has_field(fields: &Fields, name: &str) -> bool
         .any(|field| field.is_named(name))
 }
 
-/// Whether each Content-Length is a number.
-fn are_numbers(fields: &Fields) -> bool
-    ensures { result ≡ list_all (λ f. is_number f.value) (spec.lengths fields.now) }
-{
-    fields
-        .list
-        .as_slice()
-        .iter()
-        .filter(|field| field.is_named("content-length"))
-        .all(|field| is_number(field.value.as_slice()))
-}
-
-/// Whether each Content-Length is that number.
-fn are_all_equal_to(fields: &Fields, number: &[u8]) -> bool
-    ensures { result ≡ list_all
-        (λ f. bytes_eq (significant f.value) (significant number.now)) (spec.lengths fields.now) }
-{
-    fields
-        .list
-        .as_slice()
-        .iter()
-        .filter(|field| field.is_named("content-length"))
-        .all(|field| is_same_number(field.value.as_slice(), number))
-}
-
-/// Whether two of the Content-Lengths are different numbers.
-fn lengths_differ(fields: &Fields) -> bool
-    ensures { list_all (λ f. is_number f.value) (spec.lengths fields.now) ≡ true
-        → result ≡ spec.lengths_differ (spec.lengths fields.now) }
-{
-    match fields.first("content-length") {
-        Some(first) => !are_all_equal_to(fields, first.as_slice()),
-        None => false,
-    }
-}
-
-/// Whether the fields contradict each other or the version, or a length is no number.
+/// Whether the fields that frame a body contradict each other or the version, or a length is no
+/// number.
 fn conflicts(minor: u8, fields: &Fields) -> bool
     ensures { result ≡ spec.conflicts minor fields.now }
 {
@@ -84,7 +48,7 @@ fn conflicts(minor: u8, fields: &Fields) -> bool
         || lengths_differ(fields)
 }
 
-/// Whether each Transfer-Encoding is `chunked`, in some case.
+/// Whether each Transfer-Encoding is `chunked`, in some case, which frames a body by chunks.
 fn are_chunked(fields: &Fields) -> bool
     ensures { result ≡ list_all
         (λ f. str_eq_ignore_ascii_case f.value (codes "chunked")) (spec.codings fields.now) }
@@ -97,14 +61,14 @@ fn are_chunked(fields: &Fields) -> bool
         .all(|field| field.value.as_slice().eq_ignore_ascii_case(b"chunked"))
 }
 
-/// Whether the Transfer-Encoding is `chunked` alone.
+/// Whether the Transfer-Encoding is `chunked` alone, which frames a body by chunks.
 fn is_chunked(fields: &Fields) -> bool
     ensures { result ≡ spec.is_chunked (spec.codings fields.now) }
 {
     fields.count("transfer-encoding") == 1 && are_chunked(fields)
 }
 
-/// The form of a body that no coding frames.
+/// The form of a body that no Transfer-Encoding frames: its length, or that it is empty.
 fn length_form(fields: &Fields) -> Result<BodyForm, FramingFault>
     ensures { result ≡ spec.length_form fields.now }
 {

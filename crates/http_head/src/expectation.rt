@@ -9,7 +9,7 @@ ghost use Rattle.http_head.specs.Expectation as spec;
 use crate::body_form::BodyForm;
 use pod_base::Fields;
 
-/// Whether a body of that form may have bytes.
+/// Whether a body of that form may have bytes; without them no expectation counts.
 fn may_have_content(form: BodyForm) -> bool
     ensures { result ≡ spec.may_have_content form }
 {
@@ -20,7 +20,7 @@ fn may_have_content(form: BodyForm) -> bool
     }
 }
 
-/// Whether the value of some Expect field is `100-continue`, in any case.
+/// Whether a client's expectation, the value of some Expect field, is `100-continue`, in any case.
 fn asks_for_continue(fields: &Fields) -> bool
     ensures { result ≡ list_any (λ f. str_eq_ignore_ascii_case f.value (codes "100-continue"))
         (fields_named (codes "expect") fields.now) }
@@ -33,7 +33,8 @@ fn asks_for_continue(fields: &Fields) -> bool
         .any(|field| field.value.as_slice().eq_ignore_ascii_case(b"100-continue"))
 }
 
-/// Whether the client waits for `100 Continue` before it sends the body (RFC 9110, section 10.1.1).
+/// Whether a head has the expectation that `100 Continue` comes before the client sends the body
+/// (RFC 9110, section 10.1.1).
 ///
 /// It does where the value of some Expect field is `100-continue`, in any case. A client of a
 /// version before 1.1 can't wait, and neither can one that sends no body. Other values of Expect

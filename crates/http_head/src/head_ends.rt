@@ -6,7 +6,7 @@ ghost use Rattle.std.specs.Option.{option_map};
 ghost use Rattle.http_head.specs.HeadEnds.{WholeWithin};
 ghost use Rattle.http_head.specs.HeadEnds as ends;
 
-use crate::head_scan::HeadSearch;
+use crate::head_search::HeadSearch;
 use memchr::memchr;
 
 /// The most bytes of a head, with the empty lines before it.
@@ -23,7 +23,7 @@ pub enum HeadEnd {
     TooLong,
 }
 
-/// The length of the line end at the start of the bytes, 0 where there is none.
+/// The length of the line end, LF or CR LF, at the start of a head's bytes; 0 where there is none.
 fn line_end_length(bytes: &[u8]) -> usize
     ensures len { result ≤ length bytes.now }
     ensures exact { result ≡ ends.line_end_length bytes.now }
@@ -35,8 +35,8 @@ fn line_end_length(bytes: &[u8]) -> usize
     }
 }
 
-/// The length of the empty lines at the start of the bytes: each LF and each CR LF up to the first
-/// other byte (RFC 9112, section 2.2).
+/// The length of the empty lines before a head: each LF and each CR LF up to the first other byte
+/// (RFC 9112, section 2.2).
 pub fn blank_length(bytes: &[u8]) -> usize
     ensures len { result ≤ length bytes.now }
     ensures exact { result ≡ ends.blank_length bytes.now }
@@ -52,7 +52,8 @@ pub fn blank_length(bytes: &[u8]) -> usize
     at
 }
 
-/// The length of the line end after an LF at the start of the bytes, 0 where there is no such LF.
+/// The length of the line end that follows an LF at the start of the bytes and ends a head; 0 where
+/// there is no such LF.
 fn line_end_after_lf(bytes: &[u8]) -> usize
     ensures len { result ≤ length bytes.now - 1 }
     ensures exact { result ≡ ends.line_end_after_lf bytes.now }
@@ -63,7 +64,8 @@ fn line_end_after_lf(bytes: &[u8]) -> usize
     }
 }
 
-/// The offset of the first LF. A head that ends in the bytes ends there or after it.
+/// The offset of the first LF in a head's bytes. A head that ends in the bytes ends there or after
+/// it.
 fn first_line_feed(bytes: &[u8]) -> Option<usize>
     ensures within { IfSome result (λ n. n < length bytes.now) }
     ensures skips { IfSome result (λ n. ends.head_length bytes.now
@@ -73,7 +75,8 @@ fn first_line_feed(bytes: &[u8]) -> Option<usize>
     memchr(b'\n', bytes)
 }
 
-/// How many bytes there are up to the first LF that a line end follows, with that line end.
+/// The length of a head: how many bytes there are up to the first LF that a line end follows, with
+/// that line end.
 pub(crate) fn head_length(bytes: &[u8]) -> Option<usize>
     ensures len { IfSome result (λ n. (0 < n) × (n ≤ length bytes.now)) }
     ensures exact { result ≡ ends.head_length bytes.now }
@@ -90,7 +93,7 @@ pub(crate) fn head_length(bytes: &[u8]) -> Option<usize>
     None
 }
 
-/// The first bytes of the text, at most that many.
+/// The first bytes of a text whose head's end is sought, at most that many.
 pub(crate) fn prefix_of(text: &[u8], most: usize) -> &[u8]
     ensures len { length result.now ≤ length text.now }
     ensures exact { result.now ≡ take most text.now }
@@ -102,7 +105,7 @@ pub(crate) fn prefix_of(text: &[u8], most: usize) -> &[u8]
     }
 }
 
-/// The bytes from an offset on.
+/// The bytes from an offset on of a text whose head's end is sought.
 pub(crate) fn suffix_from(text: &[u8], at: usize) -> &[u8]
     requires { at ≤ length text.now }
     ensures { result.now ≡ drop at text.now }

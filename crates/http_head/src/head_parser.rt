@@ -25,7 +25,7 @@ pub const HEAD_LINE_LIMIT: usize = 66;
 /// The most fields of a head.
 pub const FIELD_LIMIT: usize = 64;
 
-/// How many lines a head has from its request line on.
+/// How many lines a head that is parsed has, from its request line on.
 fn line_count(head: &[u8]) -> usize
     ensures { result ≡ heads.line_count head.now }
 {
@@ -33,7 +33,7 @@ fn line_count(head: &[u8]) -> usize
     memchr_iter(b'\n', lines).count()
 }
 
-/// The spans of a head's parts, where it is one.
+/// The spans of the parts to which a head is parsed, where it is one.
 fn spans_of(head: &[u8], spans: &mut [HeaderSpan; FIELD_LIMIT]) -> Option<RequestSpans>
     ensures within { IfSome result (IsRequestWithin head.now spans.new) }
     ensures found { IfSome result (λ r. (h : grammar.RequestHead) × heads.HasParts head.now h
@@ -46,14 +46,14 @@ fn spans_of(head: &[u8], spans: &mut [HeaderSpan; FIELD_LIMIT]) -> Option<Reques
     }
 }
 
-/// Whether that is the name of the host's field.
+/// Whether that is the name of a head's Host field.
 fn is_host(name: &[u8]) -> bool
     ensures { result ≡ str_eq_ignore_ascii_case name.now (codes "host") }
 {
     name.eq_ignore_ascii_case(b"host")
 }
 
-/// How many of the fields are Host, in any case.
+/// How many of the fields of a parsed head are Host, in any case.
 fn host_count(head: &[u8], spans: &[HeaderSpan]) -> usize
     requires { All (IsHeaderWithin (length head.now)) spans.now }
     ensures { result ≡ heads.host_count (map (header_bytes head.now) spans.now) }
@@ -65,7 +65,7 @@ fn host_count(head: &[u8], spans: &[HeaderSpan]) -> usize
     count
 }
 
-/// The method of a word.
+/// The method that the first word of a head names.
 fn method_of(word: &[u8]) -> Method
     ensures { result ≡ heads.method_of word.now }
 {
@@ -88,7 +88,7 @@ fn method_of(word: &[u8]) -> Method
     }
 }
 
-/// A name in lower case.
+/// The name of a head's field in lower case.
 fn lower_name(alloc: Global, name: &[u8]) -> Mem<Text>
     requires { IsAscii name.now }
     ensures { IfOk result (λ lower. lower ≡ str_to_ascii_lowercase name.now) }
@@ -100,7 +100,7 @@ fn lower_name(alloc: Global, name: &[u8]) -> Mem<Text>
     Text::from_string(alloc, lower)
 }
 
-/// The part of a head that a span covers. It shares the head's block.
+/// The part of a parsed head that a span covers. It shares the head's block.
 fn part(alloc: Global, head: &Bytes, span: Span) -> Mem<Bytes>
     requires { IsWithin (length head.now) span }
     ensures { IfOk result (λ part. part ≡ span_bytes head.now span) }
@@ -108,7 +108,7 @@ fn part(alloc: Global, head: &Bytes, span: Span) -> Mem<Bytes>
     head.slice(alloc, span.start, span.end)
 }
 
-/// The field of a line. Its value shares the head's block.
+/// The field that a line of a head is parsed to. Its value shares the head's block.
 fn field_of(alloc: Global, head: &Bytes, span: &HeaderSpan) -> Mem<Field>
     requires within { IsHeaderWithin (length head.now) span.now }
     requires ascii { IsAscii (span_bytes head.now span.now.name) }
@@ -119,7 +119,7 @@ fn field_of(alloc: Global, head: &Bytes, span: &HeaderSpan) -> Mem<Field>
     Ok(Field { name, value })
 }
 
-/// The fields of a head.
+/// The fields that the lines of a head are parsed to.
 fn fields_of(alloc: Global, head: &Bytes, spans: &[HeaderSpan]) -> Mem<Fields>
     requires within { All (IsHeaderWithin (length head.now)) spans.now }
     requires ascii { All (λ s. IsAscii (span_bytes head.now s.name)) spans.now }
@@ -134,8 +134,8 @@ fn fields_of(alloc: Global, head: &Bytes, spans: &[HeaderSpan]) -> Mem<Fields>
     Ok(fields)
 }
 
-/// The head of the parts that were found. The target and the values share one block, a copy of the
-/// head's bytes.
+/// The head of the parts to which its bytes were parsed. The target and the values share one block,
+/// a copy of the head's bytes.
 fn head_of(
     alloc: Global,
     bytes: &[u8],
@@ -163,7 +163,7 @@ fn head_of(
     })
 }
 
-/// Whether a head of that minor version has the wrong number of Host fields.
+/// Whether a parsed head of that minor version has the wrong number of Host fields.
 fn lacks_host(minor: u8, hosts: usize) -> bool
     ensures { result ≡ (minor == 1 && not (hosts == 1)) }
 {

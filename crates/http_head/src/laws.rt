@@ -50,7 +50,7 @@ pub fn one_head()
     ensures malformed_host { (head : List ℕ) → IsMalformedHead head → LacksHost head → ⊥ }
 {}
 
-/// No text lacks both: it parses to a head, or it has one of the three faults.
+/// No text lacks both a head and a fault: it parses to a head, or it has one of the three faults.
 pub fn some_head_or_fault()
     ensures { (head : List ℕ) → (HasTooManyLines head → ⊥) → (IsMalformedHead head → ⊥)
         → (LacksHost head → ⊥) → ((one : RequestHead) → ParsesTo head one → ⊥) → ⊥ }

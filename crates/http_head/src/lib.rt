@@ -19,21 +19,21 @@
 
 mod body_form;
 mod body_framing;
+mod connection_closing;
 mod content_length;
 mod expectation;
 mod head_ends;
 mod head_parser;
-mod head_scan;
+mod head_search;
 pub mod laws;
-mod persistence;
 mod request_head;
 
 pub use body_form::BodyForm;
 pub use body_framing::{FramingFault, framing};
+pub use connection_closing::closes;
 pub use content_length::BODY_LIMIT;
 pub use expectation::expects_continue;
 pub use head_ends::{HEAD_LIMIT, HeadEnd, blank_length, head_end};
 pub use head_parser::{FIELD_LIMIT, HEAD_LINE_LIMIT, read_head};
-pub use head_scan::HeadSearch;
-pub use persistence::closes;
+pub use head_search::HeadSearch;
 pub use request_head::{HeadFault, RequestHead};

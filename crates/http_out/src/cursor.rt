@@ -15,7 +15,7 @@ pub(crate) struct Cursor {
     pub(crate) offset: usize,
 }
 
-/// How many fields there are.
+/// How many fields a response has, over whose lines the cursor goes.
 fn field_count(fields: &Fields) -> usize
     ensures { result ≡ length fields.now }
 {
@@ -44,7 +44,7 @@ fn copy_next(response: &Response, head: &HeadParts, cursor: &mut Cursor, into: &
     count
 }
 
-/// Copies bytes from the cursor on, as many as there is room for: returns how many.
+/// Copies bytes of a response from the cursor on, as many as there is room for: returns how many.
 pub(crate) fn fill(
     response: &Response,
     head: &HeadParts,

@@ -17,15 +17,16 @@ pub(crate) struct HeadParts {
     pub(crate) close: bool,
 }
 
-/// The date of a moment, as HTTP writes it (RFC 9110, section 5.6.7).
-fn date_text(moment: Moment) -> [u8; 29]
+/// The date among the parts of a response's head, as HTTP writes it (RFC 9110, section 5.6.7).
+fn head_date(moment: Moment) -> [u8; 29]
     ensures { IsDateOf moment.0 result }
 {
     let date = HttpDate::from_unix_secs(moment_of(moment.0).0).unwrap();
     date.to_bytes()
 }
 
-/// The standard phrase of a status, where it has one.
+/// The reason phrase among the parts of a response's head: the standard one of its status, where it
+/// has one.
 #[tactic(auto, unfolding(crate::specs::Text::phrase_of))]
 pub(crate) fn phrase_of(code: &StatusCode) -> &'static str
     ensures { result.now ≡ phrase_of code.now }
@@ -34,7 +35,7 @@ pub(crate) fn phrase_of(code: &StatusCode) -> &'static str
 }
 
 impl HeadParts {
-    /// The parts of a response of that status and moment.
+    /// The parts of the head of a response of that status and moment.
     pub(crate) fn new(status: u16, moment: Moment, close: bool) -> HeadParts
         requires { (100 ≤ status) × (status < 600) }
         ensures code { result.code ≡ status }
@@ -43,7 +44,7 @@ impl HeadParts {
     {
         HeadParts {
             code: StatusCode::from_u16(status).unwrap(),
-            date: date_text(moment),
+            date: head_date(moment),
             close,
         }
     }

@@ -2,8 +2,8 @@
 
 ghost use Rattle.http_out.specs.Text.{NoBodyWithoutLength};
 
-/// A response whose status has no length (1xx, 204 and 304) has no byte of a body, whatever its
-/// body is (RFC 9112, section 6.3).
+/// The bytes of a response whose status has no length (1xx, 204 and 304) hold no byte of a body
+/// (RFC 9112, section 6.3), whatever body the response has.
 pub fn no_body_without_length()
     ensures { NoBodyWithoutLength }
 {}

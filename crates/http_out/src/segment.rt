@@ -30,7 +30,7 @@ pub(crate) enum Segment {
 impl Segment {
     ghost use Rattle.pod_base.specs.declared.response.Response.{Response as Whole};
 
-    /// Whether it is the end of the text.
+    /// Whether the segment is the end of the text.
     pub(crate) fn is_end(self) -> bool
         ensures yes { IsTrue result → self ≡ Segment.End }
         ensures no { result ≡ false → self ≢ Segment.End }
@@ -38,7 +38,7 @@ impl Segment {
         matches!(self, Segment::End)
     }
 
-    /// The segment after it, in a response with so many fields.
+    /// The segment of a response after this one, where there are so many fields.
     pub(crate) fn next(self, fields: usize) -> Segment
         ensures after { (response : Whole) (date : List ℕ) (close : Bool)
             → length response.fields ≡ fields

@@ -12,7 +12,7 @@ use crate::segment::Segment;
 use itoa::Buffer;
 use pod_base::{Body, Field, Fields, Response, copy_bytes};
 
-/// The field of that number.
+/// The field of a response whose line has the segments of that number.
 fn field_at(fields: &Fields, i: usize) -> Option<&Field>
     ensures some { IfSome (option_copied result) (λ f. drop i fields.now
         ≡ f ∷ drop (i + 1) fields.now) }
@@ -21,7 +21,7 @@ fn field_at(fields: &Fields, i: usize) -> Option<&Field>
     fields.list.as_slice().get(i)
 }
 
-/// The bytes of a segment of a field's line, none where there is no such field.
+/// The bytes of a segment of a field's line; none where there is no such field.
 fn field_bytes(fields: &Fields, i: usize, segment: Segment) -> &[u8]
     ensures name { segment ≡ Segment.Name i → result.now ≡ first_name (drop i fields.now) }
     ensures colon { segment ≡ Segment.Colon i → result.now ≡ first_colon (drop i fields.now) }
@@ -40,14 +40,15 @@ fn field_bytes(fields: &Fields, i: usize, segment: Segment) -> &[u8]
     }
 }
 
-/// Whether a response of this status has no length and no body (RFC 9112, section 6.3).
+/// Whether the segments of a response's length and body have no bytes, by its status (RFC 9112,
+/// section 6.3).
 fn has_no_length(status: u16) -> bool
     ensures { result ≡ text.has_no_length status }
 {
     status < 200 || status == 204 || status == 304
 }
 
-/// The line that says that the connection closes, where the response has it.
+/// The bytes of the segment that says that the connection closes, where the response has it.
 fn closing_line(status: u16, close: bool) -> &'static [u8]
     ensures { result.now ≡ text.closing_line status close }
 {
@@ -82,7 +83,7 @@ fn segment_bytes<'a>(response: &'a Response, head: &'a HeadParts, segment: Segme
     }
 }
 
-/// The length of a body.
+/// The length of a response's body, whose digits are the bytes of a segment.
 fn body_length(body: &Body) -> u64
     ensures { result ≡ text.body_length body.now }
 {
@@ -93,7 +94,8 @@ fn body_length(body: &Body) -> u64
     }
 }
 
-/// Copies the digits of the length from a byte on, as far as they go: returns how many bytes.
+/// Copies the bytes of the segment with the length's digits from an offset on, as far as they go:
+/// returns how many.
 fn copy_length(response: &Response, offset: usize, into: &mut [u8]) -> usize
     ensures count { result ≡ min (length (length_digits response.now) - offset) (length into.old) }
     ensures copied { into.new ≡ take result (drop offset (length_digits response.now))
@@ -108,7 +110,8 @@ fn copy_length(response: &Response, offset: usize, into: &mut [u8]) -> usize
     copy_bytes(digits.format(length).as_bytes(), offset, into)
 }
 
-/// Copies the body that is sent from a byte on, as far as it goes: returns how many bytes.
+/// Copies the bytes of the segment with the body that is sent from an offset on, as far as it goes:
+/// returns how many.
 fn copy_body(response: &Response, offset: usize, into: &mut [u8]) -> usize
     ensures count { result ≡ min (length (text.body_text response.now) - offset) (length into.old) }
     ensures copied { into.new ≡ take result (drop offset (text.body_text response.now))
@@ -125,7 +128,7 @@ fn copy_body(response: &Response, offset: usize, into: &mut [u8]) -> usize
     }
 }
 
-/// Copies a segment from a byte on, as far as it goes: returns how many bytes.
+/// Copies the bytes of a segment from an offset on, as far as it goes: returns how many.
 pub(crate) fn copy_segment(
     response: &Response,
     head: &HeadParts,

@@ -1,9 +1,9 @@
 -- The steps over one byte.
 use Rattle.std.proofs.Common.{◌≡◌, ◌≢◌, ℕ, ◌+◌, ◌<◌, ◌≤◌, List, [], ◌∷◌, ◌++◌, length, refl, sym, ap, ◌∙◌, subst, arith, append-nil, Option, Some, None, IfSome, IfNone, inl, inr}
 use Rattle.std.proofs.lemmas.Bool.{cases_eq}
-use Rattle.http_payload.specs.declared.stage.Stage.{Stage}
-use Rattle.http_payload.specs.declared.stage.Stage.TheVariants.{Rest, Line, Chunk, ChunkEnd, Trailers, Trailer, TrailerEnd, LastEnd}
-use Rattle.http_payload.specs.declared.stage.TheConstants.{TRAILERS_LIMIT}
+use Rattle.http_payload.specs.declared.body_stage.Stage.{Stage}
+use Rattle.http_payload.specs.declared.body_stage.Stage.TheVariants.{Rest, Line, Chunk, ChunkEnd, Trailers, Trailer, TrailerEnd, LastEnd}
+use Rattle.http_payload.specs.declared.body_stage.TheConstants.{TRAILERS_LIMIT}
 use Rattle.http_payload.specs.Chunks.{Ending, Whole, crlf, trailer_texts, IsTrailers, InTrailer, EndsInChunks}
 use Rattle.http_payload.specs.PayloadState.{PayloadState, payload_state, Left, IsOpenLine}
 use Rattle.http_payload.specs.Steps.{Never, TakesByte}

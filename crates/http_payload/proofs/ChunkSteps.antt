@@ -4,7 +4,7 @@ use Rattle.std.proofs.lemmas.List.{take-append-drop}
 use Rattle.std.specs.List.{AllByRecursion}
 use Rattle.httparse.specs.Grammar.{ChunkLine, print_chunk_line, chunk_size}
 use Rattle.httparse.proofs.ChunkLemmas.{chunk_line_unique}
-use Rattle.http_payload.specs.declared.stage.Stage.TheVariants.{Rest, Line, Chunk as InTheChunk, Trailers}
+use Rattle.http_payload.specs.declared.body_stage.Stage.TheVariants.{Rest, Line, Chunk as InTheChunk, Trailers}
 use Rattle.http_head.specs.declared.content_length.TheConstants.{BODY_LIMIT}
 use Rattle.http_payload.specs.Chunks.{crlf, IsShortLine, Chunk, chunk_text, IsChunk, chunk_texts, chunk_bytes, IsTrailers, IsLast, IsOverLine, Ending, Whole, Over, EndsAs, EndsInChunks, InChunk}
 use Rattle.http_payload.specs.PayloadState.{payload_state}

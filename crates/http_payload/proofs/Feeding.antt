@@ -5,8 +5,8 @@ use Rattle.http_head.specs.declared.body_form.BodyForm.{BodyForm}
 use Rattle.http_payload.specs.declared.payload_fault.PayloadFault.{PayloadFault}
 use Rattle.http_payload.specs.declared.payload_fault.PayloadFault.TheVariants.{Malformed, TooLarge, NoMemory}
 use Rattle.http_payload.specs.declared.payload.Fed.{Fed}
-use Rattle.http_payload.specs.declared.stage.Stage.{Stage}
-use Rattle.http_payload.specs.declared.stage.Stage.TheVariants.{Rest, Line, Chunk, ChunkEnd, Trailers, Trailer, TrailerEnd, LastEnd, Failed}
+use Rattle.http_payload.specs.declared.body_stage.Stage.{Stage}
+use Rattle.http_payload.specs.declared.body_stage.Stage.TheVariants.{Rest, Line, Chunk, ChunkEnd, Trailers, Trailer, TrailerEnd, LastEnd, Failed}
 use Rattle.http_payload.specs.Chunks.{Whole}
 use Rattle.http_payload.specs.Bodies.{IsBody, IsFault, IsPartial, IsOrOutOfMemory}
 use Rattle.http_payload.specs.PayloadState.{PayloadState, payload_state, IsSoundPayload, RepresentsBody, IsDone, fault_at}

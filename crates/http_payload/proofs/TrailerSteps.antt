@@ -2,7 +2,7 @@
 use Rattle.std.proofs.Common.{◌≡◌, ◌≢◌, ℕ, ◌+◌, ◌≤◌, IsTrue, List, [], ◌∷◌, ◌++◌, length, refl, sym, ap, ◌∙◌, subst, arith, length-append, append_assoc}
 use Rattle.std.specs.List.{AllByRecursion}
 use Rattle.std.proofs.lemmas.Bool.Decides.{nat_tests}
-use Rattle.http_payload.specs.declared.stage.TheConstants.{TRAILERS_LIMIT}
+use Rattle.http_payload.specs.declared.body_stage.TheConstants.{TRAILERS_LIMIT}
 use Rattle.http_payload.specs.Chunks.{crlf, is_line_byte, AreLineBytes, IsTrailer, trailer_texts, IsTrailers, InTrailer}
 
 pub stays_no_cr : (b : ℕ) → IsTrue (is_line_byte b) → b ≡ 13 → ⊥

@@ -2,8 +2,8 @@
 use Rattle.std.specs.Prelude.{ℕ, ◌≡◌, ◌≢◌, List}
 use Rattle.http_payload.specs.declared.body_bytes.BodyBytes.{BodyBytes}
 use Rattle.http_payload.specs.declared.body_bytes.BodyBytes.TheVariants.{Growing, Complete}
-use Rattle.http_payload.specs.declared.stage.Stage.{Stage}
-use Rattle.http_payload.specs.declared.stage.Stage.TheVariants.{Rest}
+use Rattle.http_payload.specs.declared.body_stage.Stage.{Stage}
+use Rattle.http_payload.specs.declared.body_stage.Stage.TheVariants.{Rest}
 
 -- the bytes, wherever they are
 abbrev pub bytes_of_body : BodyBytes → List ℕ

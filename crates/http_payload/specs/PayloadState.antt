@@ -4,12 +4,12 @@ use Rattle.httparse.specs.Grammar.{ChunkLine, print_chunk_line}
 use Rattle.http_head.specs.declared.body_form.BodyForm.{BodyForm}
 use Rattle.http_head.specs.declared.body_form.BodyForm.TheVariants.{Empty, Length, Chunked}
 use Rattle.http_payload.specs.declared.payload_fault.PayloadFault.{PayloadFault}
-use Rattle.http_payload.specs.declared.stage.Stage.{Stage}
-use Rattle.http_payload.specs.declared.stage.Stage.TheVariants.{Rest, Line, Chunk, ChunkEnd}
-use Rattle.http_payload.specs.declared.stage.Stage.TheVariants.{Trailers, Trailer, TrailerEnd}
-use Rattle.http_payload.specs.declared.stage.Stage.TheVariants.{LastEnd, Failed}
+use Rattle.http_payload.specs.declared.body_stage.Stage.{Stage}
+use Rattle.http_payload.specs.declared.body_stage.Stage.TheVariants.{Rest, Line, Chunk, ChunkEnd}
+use Rattle.http_payload.specs.declared.body_stage.Stage.TheVariants.{Trailers, Trailer, TrailerEnd}
+use Rattle.http_payload.specs.declared.body_stage.Stage.TheVariants.{LastEnd, Failed}
 use Rattle.http_head.specs.declared.content_length.TheConstants.{BODY_LIMIT}
-use Rattle.http_payload.specs.declared.stage.TheConstants.{TRAILERS_LIMIT}
+use Rattle.http_payload.specs.declared.body_stage.TheConstants.{TRAILERS_LIMIT}
 use Rattle.http_payload.specs.Chunks.{Ending, Whole, IsShortLine, IsTrailers, InTrailer, InChunk}
 use Rattle.http_payload.specs.Chunks.{EndsInChunks}
 use Rattle.http_payload.specs.Bodies.{Ends}

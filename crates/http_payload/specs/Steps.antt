@@ -4,10 +4,10 @@ use Rattle.std.specs.Prelude.{Result, Ok, Err, ⊤}
 use Rattle.http_payload.specs.declared.payload_fault.PayloadFault.{PayloadFault}
 use Rattle.http_payload.specs.declared.payload_fault.PayloadFault.TheVariants.{Malformed, TooLarge}
 use Rattle.http_payload.specs.declared.payload_fault.PayloadFault.TheVariants.{NoMemory}
-use Rattle.http_payload.specs.declared.stage.Stage.TheVariants.{Trailers, Chunk}
+use Rattle.http_payload.specs.declared.body_stage.Stage.TheVariants.{Trailers, Chunk}
 use Rattle.http_head.specs.declared.content_length.TheConstants.{BODY_LIMIT}
 use Rattle.http_payload.specs.Chunks.{Ending, Over}
-use Rattle.http_payload.specs.declared.stage.Stage.{Stage}
+use Rattle.http_payload.specs.declared.body_stage.Stage.{Stage}
 use Rattle.http_payload.specs.PayloadState.{PayloadState, payload_state, Left, IsSoundPayload}
 use Rattle.http_payload.specs.PayloadState.{IsSoundAt}
 use Rattle.http_payload.specs.PayloadState.{fault_of, fault_at}

@@ -9,9 +9,9 @@ ghost use Rattle.http_payload.specs.PayloadState.{payload_state, IsSoundAt, Repr
 ghost use Rattle.http_payload.specs.PayloadState.{fault_at};
 ghost use Rattle.http_payload.specs.BodyBytes.{bytes_of_body, IsKeptAt};
 
+use crate::body_stage::Stage;
 use crate::feed_loop::{Step, feed_piece};
 use crate::payload_fault::PayloadFault;
-use crate::stage::Stage;
 use pod_base::{Bytes, Mem};
 use std::alloc::Global;
 use std::mem;
@@ -26,7 +26,7 @@ pub(crate) enum BodyBytes {
 }
 
 impl BodyBytes {
-    /// No bytes, at that stage. It takes no memory.
+    /// The bytes of a body at that stage, of which none has come. It takes no memory.
     pub(crate) fn new(alloc: Global, stage: Stage) -> BodyBytes
         ensures empty { bytes_of_body result ≡ [] }
         ensures kept { IsKeptAt stage result }
@@ -38,7 +38,7 @@ impl BodyBytes {
         }
     }
 
-    /// The same bytes, at the same stage.
+    /// The same bytes of a body, at the same stage.
     pub(crate) fn copy(&self, alloc: Global) -> Mem<BodyBytes>
         ensures same { IfOk result (λ copy. bytes_of_body copy ≡ bytes_of_body self.now) }
         ensures kept { IfOk result (λ copy. (stage : Stage) → IsKeptAt stage self.now
@@ -95,8 +95,9 @@ fn freeze(alloc: Global, body: &mut BodyBytes) -> Result<(), PayloadFault>
     }
 }
 
-/// Reads a piece up to its end, or to the end of the body. A complete body takes nothing.
-fn grow(
+/// Adds a piece to the bytes of a body, up to the piece's end, or to that of the body. A complete
+/// body takes nothing.
+fn grow_body(
     stage: Stage,
     line: &mut Vec<u8>,
     body: &mut BodyBytes,
@@ -131,8 +132,7 @@ fn grow(
     }
 }
 
-/// Reads a piece up to its end, or to the end of the body, and freezes the bytes of a body that is
-/// complete then.
+/// Adds a piece to the bytes of a body, and freezes them where the body is complete then.
 pub(crate) fn feed_body(
     alloc: Global,
     stage: Stage,
@@ -163,7 +163,7 @@ pub(crate) fn feed_body(
         × (bytes_of_body body.new ≡ bytes_of_body body.old)) }
     ensures not_failed { stage ≡ Stage.Rest 0 → IsOk result }
 {
-    let step = grow(stage, line, body, piece)?;
+    let step = grow_body(stage, line, body, piece)?;
     if step.stage.is_end() {
         freeze(alloc, body)?;
     }

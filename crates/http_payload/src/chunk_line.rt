@@ -12,8 +12,8 @@ use httparse::{Status, parse_chunk_size};
 /// The most bytes of the line before a chunk, its end included.
 pub const CHUNK_LINE_LIMIT: usize = 256;
 
-/// Whether a line with this prefix can still end within [`CHUNK_LINE_LIMIT`]: its CR LF takes two
-/// bytes more, and after a CR one.
+/// Whether a chunk line with this prefix can still end within [`CHUNK_LINE_LIMIT`]: its CR LF takes
+/// two bytes more, and after a CR one.
 fn can_end(text: &[u8]) -> bool
     ensures yes { IsTrue result → CanEnd text.now }
     ensures no { result ≡ false → CanEnd text.now → ⊥ }
@@ -25,8 +25,8 @@ fn can_end(text: &[u8]) -> bool
     }
 }
 
-/// The line at the start of the text: its length and its size, or none where the text is a prefix
-/// of a line.
+/// The chunk line at the start of the text: its length and its size, or none where the text is a
+/// prefix of a line.
 fn line_in(text: &[u8]) -> Result<Option<(usize, u64)>, PayloadFault>
     ensures some { IfOk result (λ found. IfSome found (λ r. BeginsWithLine text.now r.0 r.1)) }
     ensures none { IfOk result (λ found. IfNone found (IsOpenLine text.now)) }
@@ -39,7 +39,8 @@ fn line_in(text: &[u8]) -> Result<Option<(usize, u64)>, PayloadFault>
     }
 }
 
-/// Reads a line of which nothing has come: how many bytes it takes, and its size where it ends.
+/// Reads a chunk line of which nothing has come: how many bytes it takes, and its size where it
+/// ends.
 fn new_line(line: &mut Vec<u8>, bytes: &[u8]) -> Result<(usize, Option<u64>), PayloadFault>
     requires empty { line.old.items ≡ [] }
     requires some { 0 < length bytes.now }
@@ -57,8 +58,8 @@ fn new_line(line: &mut Vec<u8>, bytes: &[u8]) -> Result<(usize, Option<u64>), Pa
     }
 }
 
-/// Continues a line of which some bytes have come: how many more it takes, and its size where it
-/// ends.
+/// Continues a chunk line of which some bytes have come: how many more it takes, and its size where
+/// it ends.
 fn kept_line(line: &mut Vec<u8>, bytes: &[u8]) -> Result<(usize, Option<u64>), PayloadFault>
     requires open { IsOpenLine line.old.items }
     requires some { 0 < length bytes.now }

@@ -7,12 +7,11 @@ ghost use Rattle.http_payload.specs.Bodies.{IsFault};
 ghost use Rattle.http_payload.specs.PayloadState.{payload_state, IsSoundAt, TakesBytes};
 ghost use Rattle.http_payload.specs.PayloadState.{RepresentsBody};
 ghost use Rattle.http_payload.specs.PayloadState.{fault_at};
-ghost use Rattle.http_payload.specs.Steps.{Advances, Blocks, AfterLine};
+ghost use Rattle.http_payload.specs.Steps.{Advances, Blocks};
 
+use crate::body_stage::{Stage, after_byte, after_line};
 use crate::chunk_line::read_line;
 use crate::payload_fault::PayloadFault;
-use crate::stage::{Stage, after_byte};
-use http_head::BODY_LIMIT;
 
 /// How many bytes were read, and the stage after them.
 #[derive(Clone, Copy)]
@@ -21,7 +20,7 @@ pub(crate) struct Step {
     pub(crate) stage: Stage,
 }
 
-/// Appends bytes, at most `left`, and returns how many.
+/// Appends bytes of the piece that is fed to a body, at most `left`, and returns how many.
 fn append_up_to(body: &mut Vec<u8>, left: u64, bytes: &[u8]) -> Result<usize, PayloadFault>
     ensures taken { IfOk result (λ taken. taken ≡ min left (length bytes.now)) }
     ensures appended { IfOk result (λ taken. body.new.items
@@ -33,21 +32,7 @@ fn append_up_to(body: &mut Vec<u8>, left: u64, bytes: &[u8]) -> Result<usize, Pa
     Ok(taken)
 }
 
-/// The stage after a line of that size, after so many bytes of chunks.
-fn after_line(used: usize, size: u64) -> Result<Stage, PayloadFault>
-    requires { used ≤ BODY_LIMIT }
-    ensures { AfterLine used size result }
-{
-    if size == 0 {
-        Ok(Stage::Trailers(0))
-    } else if size > BODY_LIMIT - used as u64 {
-        Err(PayloadFault::TooLarge)
-    } else {
-        Ok(Stage::Chunk(size))
-    }
-}
-
-/// Continues a line before a chunk.
+/// One step of the loop that feeds a body, in a chunk line.
 fn line_step(line: &mut Vec<u8>, body: &[u8], bytes: &[u8]) -> Result<Step, PayloadFault>
     requires some { 0 < length bytes.now }
     requires sound { IsSoundAt Stage.Line line.old.items body.now }
@@ -65,7 +50,7 @@ fn line_step(line: &mut Vec<u8>, body: &[u8], bytes: &[u8]) -> Result<Step, Payl
     Ok(Step { taken, stage })
 }
 
-/// Reads one byte.
+/// One step of the loop that feeds a body, by one byte.
 fn byte_step(stage: Stage, bytes: &[u8]) -> Result<Step, PayloadFault>
     requires some { 0 < length bytes.now }
     requires byte { TakesBytes stage }
@@ -81,8 +66,8 @@ fn byte_step(stage: Stage, bytes: &[u8]) -> Result<Step, PayloadFault>
     }
 }
 
-/// Reads some of the first bytes.
-fn advance(
+/// One step of the loop that feeds a body, by some of the first bytes.
+fn feed_step(
     stage: Stage,
     line: &mut Vec<u8>,
     body: &mut Vec<u8>,
@@ -118,7 +103,7 @@ fn advance(
     }
 }
 
-/// Reads a piece up to its end, or to the end of the body.
+/// The loop that feeds a piece to a body, up to the piece's end, or to that of the body.
 pub(crate) fn feed_piece(
     stage: Stage,
     line: &mut Vec<u8>,
@@ -147,7 +132,7 @@ pub(crate) fn feed_piece(
     let mut taken = 0;
     let mut stage = stage;
     while taken < piece.len() && !stage.is_end() {
-        let step = advance(stage, line, body, &piece[taken..])?;
+        let step = feed_step(stage, line, body, &piece[taken..])?;
         taken += step.taken;
         stage = step.stage;
     }

@@ -21,14 +21,14 @@
 #![tactic(auto)]
 
 mod body_bytes;
+mod body_stage;
 mod chunk_line;
 mod feed_loop;
 pub mod laws;
 mod payload;
 mod payload_fault;
-mod stage;
 
+pub use body_stage::TRAILERS_LIMIT;
 pub use chunk_line::CHUNK_LINE_LIMIT;
 pub use payload::{Fed, Payload};
 pub use payload_fault::PayloadFault;
-pub use stage::TRAILERS_LIMIT;

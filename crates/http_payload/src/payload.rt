@@ -7,8 +7,8 @@ ghost use Rattle.http_payload.specs.Bodies.{IsBody, IsFault, IsPartial, IsOrOutO
 ghost use Rattle.http_payload.specs.PayloadState.{IsDone, RepresentsBody, fault_of};
 
 use crate::body_bytes::{BodyBytes, feed_body};
+use crate::body_stage::Stage;
 use crate::payload_fault::PayloadFault;
-use crate::stage::Stage;
 use http_head::BodyForm;
 use pod_base::{Bytes, Mem};
 use std::alloc::Global;
@@ -60,7 +60,7 @@ impl Payload {
         }
     }
 
-    /// Whether the body is complete.
+    /// Whether the body of the request is complete.
     pub fn is_done(&self) -> bool
         ensures done { IsTrue result → IsDone self.now }
         ensures whole { IsTrue result → (form : Form) (text : List ℕ)
@@ -152,7 +152,7 @@ impl Payload {
 }
 
 impl Payload {
-    /// A body in the same state: what it is fed doesn't change this one.
+    /// A payload in the same state: what it is fed doesn't change this one.
     pub fn copy(&self, alloc: Global) -> Mem<Payload>
         ensures { IfOk result (λ copy. copy ≡ self.now) }
     {

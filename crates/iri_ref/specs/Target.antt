@@ -1,8 +1,8 @@
 -- The target of a reference, as slices of the base and of the reference.
 use Rattle.std.specs.Prelude.{ℕ, List, ◌∷◌, ◌++◌, Option, Some, None, option_copied}
-use Rattle.iri_ref.specs.declared.target.TargetPath.{TargetPath}
-use Rattle.iri_ref.specs.declared.target.TargetPath.TheVariants.{Unchanged, WithoutDots}
-use Rattle.iri_ref.specs.declared.target.Target.{Target}
+use Rattle.iri_ref.specs.declared.target_components.TargetPath.{TargetPath}
+use Rattle.iri_ref.specs.declared.target_components.TargetPath.TheVariants.{Unchanged, WithoutDots}
+use Rattle.iri_ref.specs.declared.target_components.Target.{Target}
 use Rattle.iri_ref.specs.Characters.{slash}
 use Rattle.iri_ref.specs.Components.{Components}
 use Rattle.iri_ref.specs.Segments.{remove_dot_segments}

@@ -19,7 +19,8 @@ pub(crate) struct Reference<'a> {
     pub(crate) fragment: Option<&'a str>,
 }
 
-/// The scheme of a text and what follows its colon, or the text.
+/// The first component of a reference, its scheme, and what follows its colon, or the whole
+/// reference.
 fn split_scheme(text: &str) -> (Option<&str>, &str)
     ensures some { IfSome (option_copied result.0)
         (λ scheme. BeginsWithScheme text.now scheme result.1.now) }
@@ -32,7 +33,8 @@ fn split_scheme(text: &str) -> (Option<&str>, &str)
     }
 }
 
-/// Whether the text has a scheme and no forbidden character.
+/// Whether the components of a reference are those of an absolute IRI: a scheme, and no forbidden
+/// character.
 pub(crate) fn is_absolute(text: &str) -> bool
     ensures { IsTrue result ↔ IsAbsolute text.now }
 {
@@ -42,7 +44,8 @@ pub(crate) fn is_absolute(text: &str) -> bool
     }
 }
 
-/// The text up to the first such mark, and what follows it where there is one.
+/// The components of a reference before and after the first such mark, that of its query or its
+/// fragment.
 fn split_at_mark(text: &str, mark: char) -> (&str, Option<&str>)
     requires { mark < 128 }
     ensures whole { text.now ≡ result.0.now ++ prefixed (mark ∷ []) (option_copied result.1) }
@@ -54,7 +57,8 @@ fn split_at_mark(text: &str, mark: char) -> (&str, Option<&str>)
     }
 }
 
-/// The text before its first slash, and what begins with it.
+/// The components of a reference after two slashes: the authority before the first slash, and the
+/// path from there on.
 fn split_at_slash(text: &str) -> (&str, &str)
     ensures whole { text.now ≡ result.0.now ++ result.1.now }
     ensures first { Lacks is_slash result.0.now }
@@ -66,7 +70,7 @@ fn split_at_slash(text: &str) -> (&str, &str)
     }
 }
 
-/// The authority after two slashes, and the path.
+/// The components authority and path of a reference, where two slashes begin an authority.
 fn split_authority(text: &str) -> (Option<&str>, &str)
     ensures whole { text.now ≡ authority_text (option_copied result.0) ++ result.1.now }
     ensures authority { IfSome (option_copied result.0) (λ authority. Lacks is_slash authority) }
@@ -81,7 +85,7 @@ fn split_authority(text: &str) -> (Option<&str>, &str)
     (Some(authority), path)
 }
 
-/// The components of a text: what the expression of appendix B matches.
+/// The five components of a reference: what the expression of appendix B matches.
 pub(crate) fn parse_components(text: &str) -> Reference<'_>
     ensures { HasComponents text.now (components_of result) }
 {

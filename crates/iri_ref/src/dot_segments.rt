@@ -39,7 +39,7 @@ impl Model for PathWriter {
         × (w.begun ≡ false → length (string_bytes w.text) ≡ w.start) };
 }
 
-/// How many bytes of a path precede its last slash.
+/// How many bytes of a path are left where the dot segment `..` removes its last segment.
 fn parent_len(path: &[u8]) -> usize
     ensures within { result ≤ length path.now }
     ensures prefix { take result path.now ≡ before_last is_slash path.now }
@@ -63,7 +63,7 @@ pub fn is_dot_segment(segment: &str) -> bool
 }
 
 impl PathWriter {
-    /// A path at the end of this text, with no segment yet.
+    /// A writer of paths without dot segments, at the end of this text.
     fn new(text: String) -> PathWriter
         ensures before { result.before ≡ string_bytes text }
         ensures path { result.path ≡ None }
@@ -75,14 +75,14 @@ impl PathWriter {
         }
     }
 
-    /// The text with the path at its end.
+    /// The text with the path at its end, without dot segments.
     fn into_text(self) -> String
         ensures { string_bytes result ≡ self.before ++ unwrap_or self.path [] }
     {
         self.text
     }
 
-    /// Writes the first segment.
+    /// Writes the first segment of the path, which is no dot segment.
     fn push_first(&mut self, segment: &str) -> Result<(), AllocError>
         requires { self.old.path ≡ None }
         ensures { OnOk result (self.new ≡ record self.old { path = Some segment.now }) }
@@ -92,7 +92,7 @@ impl PathWriter {
         Ok(())
     }
 
-    /// Writes one more segment.
+    /// Writes one more segment of the path, which is no dot segment.
     fn push_next(&mut self, segment: &str) -> Result<(), AllocError>
         requires { IsSome self.old.path }
         ensures { OnOk result (IfSome self.old.path
@@ -103,7 +103,7 @@ impl PathWriter {
         Ok(())
     }
 
-    /// Removes the last segment.
+    /// Removes the last segment of the path, at a dot segment `..`.
     fn pop_segment(&mut self)
         requires { IsSome self.old.path }
         ensures { IfSome self.old.path (λ path. self.new
@@ -113,7 +113,7 @@ impl PathWriter {
         self.text.truncate(end);
     }
 
-    /// Takes one more segment of the path.
+    /// Takes one more segment of the path, which may be a dot segment.
     fn push(&mut self, segment: &str) -> Result<(), AllocError>
         ensures { OnOk result (self.new ≡ record self.old {
           path = after_segment self.old.path segment.now;
@@ -136,7 +136,8 @@ impl PathWriter {
         self.push_next(segment)
     }
 
-    /// Takes the segments of a path. Returns whether the last one is a dot segment.
+    /// Takes the segments of a path, which may be dot segments. Returns whether the last one is a
+    /// dot segment.
     fn push_segments(&mut self, path: &str) -> Result<bool, AllocError>
         ensures written { OnOk result (self.new
             ≡ record self.old { path = after_segments self.old.path (segments path.now) }) }
@@ -162,7 +163,7 @@ impl PathWriter {
         Ok(())
     }
 
-    /// A path without its dot segments. A prefix precedes it with a slash.
+    /// Writes a path without its dot segments. A prefix precedes it with a slash.
     fn push_path(&mut self, prefix: Option<&str>, path: &str) -> Result<(), AllocError>
         ensures { OnOk result (self.new ≡ record self.old {
           path = after_segments self.old.path (with_trailing_slash

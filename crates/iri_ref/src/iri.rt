@@ -14,7 +14,7 @@ ghost use Rattle.iri_ref.specs.declared.iri.IriFault.TheVariants.{NoMemory};
 
 use crate::characters::all_allowed;
 use crate::components::{is_absolute, parse_components};
-use crate::target::transform;
+use crate::target_components::transform;
 use std::alloc::{AllocError, Global};
 use std::cmp::Ordering;
 use std::marker::Model;
@@ -74,7 +74,7 @@ impl Iri {
         Ok(Iri { text })
     }
 
-    /// The text as it was written.
+    /// The text of the IRI, as it was written.
     pub fn as_str(&self) -> &str
         ensures text { result.now ≡ self.now }
         ensures absolute { IsAbsolute self.now }
@@ -106,7 +106,7 @@ impl Iri {
     }
 }
 
-/// Two texts as one, in one piece of memory of their length.
+/// The text of an IRI and an end after it, in one piece of memory of their length.
 fn concatenate(alloc: Global, prefix: &str, end: &str) -> Result<ArcStr, AllocError>
     ensures { IfOk result (λ text. arc_str_bytes text ≡ prefix.now ++ end.now) }
 {
@@ -164,7 +164,7 @@ impl Ord for Iri {
     }
 }
 
-/// The text of a reference that is resolved against a base.
+/// The text of the IRI to which a reference is resolved against a base.
 fn resolve_text(alloc: Global, base: &str, reference: &str) -> Result<ArcStr, AllocError>
     ensures { IfOk result (λ text. IsResolved base.now reference.now (arc_str_bytes text)) }
 {
@@ -173,7 +173,7 @@ fn resolve_text(alloc: Global, base: &str, reference: &str) -> Result<ArcStr, Al
     ArcStr::from_string(text)
 }
 
-/// Resolves a reference against a base (RFC 3986, section 5.2, strict). It fails with
+/// Resolves a reference to an IRI against a base (RFC 3986, section 5.2, strict). It fails with
 /// `BadReference` exactly where the reference has a forbidden character.
 pub fn resolve(alloc: Global, base: &Iri, reference: &str) -> Result<Iri, IriFault>
     ensures resolved { IfOk result (λ iri. IsResolved base.now reference.now iri) }

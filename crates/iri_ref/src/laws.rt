@@ -5,7 +5,7 @@ ghost use Rattle.iri_ref.specs.Components.{Components, HasComponents, IsAbsolute
 ghost use Rattle.iri_ref.specs.Resolution.{IsResolved, StaysResolved};
 ghost use Rattle.iri_ref.specs.Written.{IsIriOfReference};
 
-/// Every text has its five components, in exactly one way.
+/// Every reference has its five components, in exactly one way.
 pub fn texts_split_uniquely()
     ensures exists { (text : List ℕ) → (parts : Components) × HasComponents text parts }
     ensures unique { (text : List ℕ) (parts others : Components) → HasComponents text parts

@@ -20,7 +20,7 @@ mod components;
 mod dot_segments;
 mod iri;
 pub mod laws;
-mod target;
+mod target_components;
 
 pub use dot_segments::is_dot_segment;
 pub use iri::{Iri, IriFault, iri_of_reference, resolve};

@@ -10,8 +10,8 @@ use Rattle.journal_log.specs.Gates.{IsFirstGateClosed}
 use Rattle.journal_log.specs.Classes.{HasClass}
 use Rattle.journal_log.specs.JournalState.{JournalState}
 use Rattle.journal_log.specs.Laws.{OneClass, HasSomeClass, NewIsClosedOrOpen}
-use Rattle.journal_log.specs.declared.class.DiskClass.{DiskClass}
-use Rattle.journal_log.specs.declared.class.DiskClass.TheVariants.{Empty, Short, Torn, Closed, Wrong, Open}
+use Rattle.journal_log.specs.declared.disk_class.DiskClass.{DiskClass}
+use Rattle.journal_log.specs.declared.disk_class.DiskClass.TheVariants.{Empty, Short, Torn, Closed, Wrong, Open}
 use Rattle.journal_log.proofs.Splits.{first_is, heads_are, length_head}
 use Rattle.journal_log.proofs.HeadBytes.{head_parts, head_whole, head_prefix, no_head_mark, no_head_epoch, no_head_prefix}
 use Rattle.journal_log.proofs.Records.{length_closed, stands_gated}

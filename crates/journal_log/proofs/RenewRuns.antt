@@ -13,7 +13,7 @@ use Rattle.journal_log.specs.JournalState.{JournalState}
 use Rattle.journal_log.specs.Reading.{OnlyReads}
 use Rattle.journal_log.specs.Renewing.{IsGateChanged, IsBeforeOpening}
 use Rattle.journal_log.specs.FirstGates.{IsFirstGate}
-use Rattle.journal_log.specs.declared.renewal.FirstGate.TheVariants.{Open}
+use Rattle.journal_log.specs.declared.new_journal.FirstGate.TheVariants.{Open}
 use Rattle.journal_log.specs.CleanJournal.{IsShort, IsJournalPrefix, IsClean}
 use Rattle.journal_log.specs.Writes.{IsTornFrom, IsOverwritten}
 use Rattle.journal_log.proofs.Splits.{length_head}

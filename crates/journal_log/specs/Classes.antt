@@ -2,9 +2,9 @@
 use Rattle.std.specs.Prelude.{◌≡◌, ◌≢◌, ◌<◌, ◌≤◌, ℕ, List, [], ◌∷◌, ◌++◌, length}
 use Rattle.journal_log.specs.Heads.{encoded_head, IsKnownHead, NoHead}
 use Rattle.journal_log.specs.Gates.{IsClosed, IsFirstGateClosed}
-use Rattle.journal_log.specs.declared.class.DiskClass.{DiskClass}
-use Rattle.journal_log.specs.declared.class.DiskClass.TheVariants.{Empty, Short, Torn, Closed}
-use Rattle.journal_log.specs.declared.class.DiskClass.TheVariants.{Wrong, Open}
+use Rattle.journal_log.specs.declared.disk_class.DiskClass.{DiskClass}
+use Rattle.journal_log.specs.declared.disk_class.DiskClass.TheVariants.{Empty, Short, Torn, Closed}
+use Rattle.journal_log.specs.declared.disk_class.DiskClass.TheVariants.{Wrong, Open}
 
 -- a right head with this epoch, and a first gate that isn't 0
 pub record IsOpenImage (epoch : ℕ) (image : List ℕ) : Type 0 where

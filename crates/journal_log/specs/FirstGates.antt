@@ -1,8 +1,8 @@
 -- What a read of the first gate finds.
 use Rattle.std.specs.Prelude.{◌<◌, ◌≤◌, ℕ, List, length}
 use Rattle.journal_log.specs.Gates.{IsFirstGateClosed}
-use Rattle.journal_log.specs.declared.renewal.FirstGate.{FirstGate}
-use Rattle.journal_log.specs.declared.renewal.FirstGate.TheVariants.{Missing, Closed, Open}
+use Rattle.journal_log.specs.declared.new_journal.FirstGate.{FirstGate}
+use Rattle.journal_log.specs.declared.new_journal.FirstGate.TheVariants.{Missing, Closed, Open}
 
 -- what was read of the first gate
 abbrev pub IsFirstGate : FirstGate → List ℕ → Type 0

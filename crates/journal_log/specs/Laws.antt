@@ -3,8 +3,8 @@ use Rattle.std.specs.Prelude.{◌≡◌, ◌⊎◌, ◌<◌, ◌≤◌, ◌^◌,
 use Rattle.journal_log.specs.Classes.{HasClass}
 use Rattle.journal_log.specs.Opening.{IsWhileOpened}
 use Rattle.journal_log.specs.Renewing.{IsNewJournal}
-use Rattle.journal_log.specs.declared.class.DiskClass.{DiskClass}
-use Rattle.journal_log.specs.declared.class.DiskClass.TheVariants.{Closed, Open}
+use Rattle.journal_log.specs.declared.disk_class.DiskClass.{DiskClass}
+use Rattle.journal_log.specs.declared.disk_class.DiskClass.TheVariants.{Closed, Open}
 use Rattle.journal_log.specs.Images.{Stands, IsDamaged}
 
 -- an image stands for one list of records at most, of one format and epoch

@@ -36,7 +36,7 @@ pub enum Start {
     Broken,
 }
 
-// The byte at this offset.
+/// Reads one byte of a record's frame, at this offset.
 fn byte_at<D: Disk>(window: &mut Window, disk: &mut D, at: u64) -> Result<u8, Failed>
     requires within { at < window.old.size }
     requires shown { IfVisible (D.content disk.old) (WindowShows window.old) }
@@ -51,7 +51,7 @@ fn byte_at<D: Disk>(window: &mut Window, disk: &mut D, at: u64) -> Result<u8, Fa
     Ok(byte[0])
 }
 
-// The number that the eight bytes from this offset on spell.
+/// Reads the length in a record's frame, which the eight bytes from this offset on spell.
 fn number_at<D: Disk>(window: &mut Window, disk: &mut D, at: u64) -> Result<u64, Failed>
     requires within { at + 8 ≤ window.old.size }
     requires shown { IfVisible (D.content disk.old) (WindowShows window.old) }
@@ -68,7 +68,7 @@ fn number_at<D: Disk>(window: &mut Window, disk: &mut D, at: u64) -> Result<u64,
     Ok(number(&bytes))
 }
 
-// What the gate at this offset says, and the length after it.
+/// Reads how a record's frame starts: what the gate at this offset says, and the length after it.
 fn start_at<D: Disk>(window: &mut Window, disk: &mut D, at: u64) -> Result<Start, Failed>
     requires within { at ≤ window.old.size }
     requires small { window.old.size < 2 ^ 63 }
@@ -98,7 +98,7 @@ fn start_at<D: Disk>(window: &mut Window, disk: &mut D, at: u64) -> Result<Start
     Ok(Start::Open { gate, len })
 }
 
-// The bytes of a body, read to memory of their own.
+/// Reads the body in a record's frame, to memory of its own.
 fn body_at<D: Disk>(
     alloc: Global,
     window: &mut Window,
@@ -125,7 +125,7 @@ fn body_at<D: Disk>(
     }
 }
 
-// The record after an open gate, whose length was read.
+/// Reads the record in a frame whose gate is open and whose length was read.
 fn record_at<D: Disk>(
     alloc: Global,
     window: &mut Window,
@@ -160,7 +160,7 @@ fn record_at<D: Disk>(
     Ok(Frame::Record { gate, body })
 }
 
-/// What follows from the gate at this offset on.
+/// Reads the frame of a record from the gate at this offset on.
 pub fn frame_at<D: Disk>(
     alloc: Global,
     window: &mut Window,

@@ -16,7 +16,7 @@ pub struct Head {
 pub const EPOCH_LIMIT: u64 = 1 << 63;
 
 impl Head {
-    /// The right head that the bytes begin with.
+    /// Reads the right head of a journal that the bytes begin with.
     pub fn read(bytes: &[u8]) -> Option<Head>
         ensures found { IfSome result (λ head. (rest : List ℕ)
             × (bytes.now ≡ encoded_head head.format head.epoch ++ rest)) }
@@ -35,7 +35,7 @@ impl Head {
     }
 }
 
-// The format that the first eight bytes name.
+/// The format that the first eight bytes of a journal's head name.
 fn format_of(mark: &[u8]) -> Option<u8>
     ensures some { IfSome result (λ format. mark.now ≡ mark_of format) }
     ensures either { IfSome result (λ format. (format ≡ 1) ⊎ (format ≡ 2)) }
@@ -50,7 +50,7 @@ fn format_of(mark: &[u8]) -> Option<u8>
     }
 }
 
-// Whether a right head has them.
+/// Whether a right head of a journal has this format and this epoch.
 fn is_known(format: u8, epoch: u64) -> bool
     requires { (format ≡ 1) ⊎ (format ≡ 2) }
     ensures yes { IsTrue result → IsKnownHead format epoch }
@@ -63,7 +63,7 @@ fn is_known(format: u8, epoch: u64) -> bool
     }
 }
 
-/// The number that eight bytes spell, the greatest first.
+/// The number that eight bytes spell, as a journal's head has its epoch, the greatest first.
 pub fn number(bytes: &[u8]) -> u64
     requires { length bytes.now ≡ 8 }
     ensures { to_be_bytes w64 result ≡ bytes.now }
@@ -73,7 +73,7 @@ pub fn number(bytes: &[u8]) -> u64
     ])
 }
 
-/// The head of a journal of format 2 and this epoch.
+/// The bytes of a journal's head, of format 2 and this epoch.
 pub fn head_bytes(epoch: u64) -> [u8; 16]
     ensures { result ≡ encoded_head 2 epoch }
 {
@@ -84,7 +84,7 @@ pub fn head_bytes(epoch: u64) -> [u8; 16]
     ]
 }
 
-/// The same head, and this first gate.
+/// The bytes of a journal's head, of format 2 and this epoch, and of this first gate.
 pub fn head_and_gate(epoch: u64, gate: u8) -> [u8; 17]
     ensures { result ≡ encoded_head 2 epoch ++ gate ∷ [] }
 {

@@ -13,7 +13,7 @@ ghost use Rattle.journal_log.specs.Frames.{framed_of, opened};
 ghost use Rattle.journal_log.specs.Gates.{IsOpening};
 
 use crate::fault::DiskFault;
-use crate::framed::Framed;
+use crate::framed_record::Framed;
 use crate::head::Head;
 use crate::writes::write_through;
 use pod_disk::Disk;
@@ -46,7 +46,7 @@ impl Model for Journal {
 }
 
 impl Journal {
-    // The journal with this head whose last gate, at this offset, is closed.
+    /// The clean journal with this head whose last gate is at this offset.
     pub(crate) fn new_clean(head: Head, end: u64) -> Journal
         requires known { IsKnownHead head.format head.epoch }
         requires room { end < 2 ^ 63 }
@@ -85,7 +85,7 @@ impl Journal {
         self.end + 1
     }
 
-    /// Whether the last gate may be open though its record isn't to count. Then
+    /// Whether the journal's last gate may be open though its record isn't to count. Then
     /// [`repair`](Journal::repair) has to close it before anything else.
     pub fn needs_repair(&self) -> bool
         ensures { result ≡ self.now.doubt }
@@ -94,11 +94,12 @@ impl Journal {
         *doubt
     }
 
-    /// Adds a record, by four calls of the disk: the record with a closed gate after it, a sync, a
-    /// 1 at the gate before it, a sync. At each moment every crash image of the disk stands for the
-    /// records from before the call, with the new one or without, and at `Ok` for those with the
-    /// new one. After an `Err` the journal is clean as before, or its last gate is in doubt;
-    /// [`needs_repair`](Journal::needs_repair) says which. The journal is clean before the call.
+    /// Adds a record to the journal, by four calls of the disk: the record with a closed gate after
+    /// it, a sync, a 1 at the gate before it, a sync. At each moment every crash image of the disk
+    /// stands for the records from before the call, with the new one or without, and at `Ok` for
+    /// those with the new one. After an `Err` the journal is clean as before, or its last gate is
+    /// in doubt; [`needs_repair`](Journal::needs_repair) says which. The journal is clean before
+    /// the call.
     pub fn append<D: Disk>(&mut self, disk: &mut D, framed: &Framed) -> Result<(), DiskFault>
         requires { (bodies : List (List ℕ)) × IsClean (D.image disk.old) self.old bodies }
         ensures moments { (bodies : List (List ℕ)) → IsClean (D.image disk.old) self.old bodies
@@ -124,9 +125,9 @@ impl Journal {
         Ok(())
     }
 
-    /// Closes the gate that is in doubt: writes 0 there, and syncs. At each moment every crash
-    /// image of the disk stands for the records of the journal, with the one after that gate or
-    /// without, and at `Ok` for those without.
+    /// Closes the journal's gate that is in doubt: writes 0 there, and syncs. At each moment every
+    /// crash image of the disk stands for the records of the journal, with the one after that gate
+    /// or without, and at `Ok` for those without.
     pub fn repair<D: Disk>(&mut self, disk: &mut D) -> Result<(), DiskFault>
         requires { (bodies : List (List ℕ)) × (body : List ℕ)
             × IsInDoubt (D.image disk.old) self.old bodies body }

@@ -10,39 +10,39 @@ ghost use Rattle.journal_log.specs.Laws.{HasSomeClass, NewIsClosedOrOpen, Opened
 use crate::journal::Journal;
 use pod_disk::Disk;
 
-/// A crash image stands for one list of records at most.
+/// A crash image of a journal's disk stands for one list of records at most.
 pub fn stands_once()
     ensures { StandsOnce }
 {}
 
-/// A crash image is damaged at one place at most.
+/// A crash image of a journal's disk is damaged at one place at most.
 pub fn damaged_once()
     ensures { DamagedOnce }
 {}
 
-/// A crash image that stands for records isn't damaged.
+/// A crash image of a journal's disk that stands for records isn't damaged.
 pub fn stands_or_damaged()
     ensures { StandsOrDamaged }
 {}
 
-/// A crash image has at most one class.
+/// A crash image of a journal's disk has at most one class.
 pub fn one_class()
     ensures { OneClass }
 {}
 
-/// A crash image has a class.
+/// A crash image of a journal's disk has a class.
 pub fn some_class()
     ensures { HasSomeClass }
 {}
 
-/// A new head and the new record after any first gate: the disk is closed, or open with that epoch
-/// and that record alone.
+/// A crash image with a new head and the new record after any first gate is closed, or open with
+/// that epoch and that record alone.
 pub fn new_is_closed_or_open()
     ensures { NewIsClosedOrOpen }
 {}
 
-/// An image that a crash left while a journal was opened is opened again: whatever a crash leaves
-/// then, one might have left the first time.
+/// A crash image that was left while a journal was opened may be opened again: whatever a crash
+/// leaves then, one might have left the first time.
 pub fn opened_again()
     ensures { OpenedAgain }
 {}

@@ -10,28 +10,28 @@
 //! faults increased, and for another fault nothing (`told`).
 #![tactic(auto)]
 
-mod class;
+mod disk_class;
 mod fault;
 mod frame_scan;
-mod framed;
+mod framed_record;
 mod head;
 mod journal;
 mod laws;
+mod new_journal;
 mod opening;
+mod opening_refusals;
 mod record_walk;
-mod refusals;
-mod renewal;
 mod window;
 mod window_reads;
 mod writes;
 
-pub use class::DiskClass;
+pub use disk_class::DiskClass;
 pub use fault::{DiskFault, OpenFault, RenewFault, Side};
-pub use framed::{Framed, frame};
+pub use framed_record::{Framed, frame};
 pub use head::EPOCH_LIMIT;
 pub use journal::Journal;
 pub use laws::{
     damaged_once, new_is_closed_or_open, one_class, opened_again, some_class, stands_once,
     stands_or_damaged,
 };
-pub use refusals::{open_status, report_refusal};
+pub use opening_refusals::{open_status, report_refusal};

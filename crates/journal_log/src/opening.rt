@@ -54,7 +54,7 @@ impl Journal {
     }
 }
 
-/// Waits until all is on the disk, and gives its length.
+/// Waits until all is on a journal's disk, as an opening begins, and returns the disk's length.
 pub fn synced_len<D: Disk>(disk: &mut D) -> Result<u64, Failed>
     ensures only_reads { OnlyReads D.image D.moment D.left_since disk.old disk.new }
     ensures durable { OnOk result
@@ -68,7 +68,7 @@ pub fn synced_len<D: Disk>(disk: &mut D) -> Result<u64, Failed>
     disk.len()
 }
 
-// The right head at the prefix of a disk.
+/// Reads the head of the journal to be opened, where the disk begins with a right one.
 fn head_at<D: Disk>(window: &mut Window, disk: &mut D) -> Result<Option<Head>, Failed>
     requires { IfVisible (D.content disk.old) (WindowShows window.old) }
     ensures only_reads { OnlyReads D.image D.moment D.left_since disk.old disk.new }
@@ -92,7 +92,7 @@ fn head_at<D: Disk>(window: &mut Window, disk: &mut D) -> Result<Option<Head>, F
     Ok(Head::read(&bytes))
 }
 
-// Reads a disk of this length, all of which is on it.
+/// Reads the journal to be opened from a disk of this length, all of which is on it.
 fn read_from<D: Disk>(
     alloc: Global,
     disk: &mut D,
@@ -121,7 +121,7 @@ fn read_from<D: Disk>(
     }
 }
 
-// Reads the records of a disk.
+/// Reads the records of the journal to be opened.
 fn read_all<D: Disk>(alloc: Global, disk: &mut D, side: Side) -> Result<Found, OpenFault>
     ensures only_reads { OnlyReads D.image D.moment D.left_since disk.old disk.new }
     ensures durable { OnOk result
@@ -136,7 +136,7 @@ fn read_all<D: Disk>(alloc: Global, disk: &mut D, side: Side) -> Result<Found, O
     read_from(alloc, disk, size, side)
 }
 
-// Writes 1 to the last record's gate where it is torn.
+/// Mends the last gate of the journal that is opened: writes 1 there where it is torn.
 fn normalize_gate<D: Disk>(disk: &mut D, found: &Found) -> Result<(), Failed>
     requires durable { EachImage (D.image disk.old) (λ c. D.content disk.old ≡ Some c) }
     requires found { IsFound (D.content disk.old) found.now }

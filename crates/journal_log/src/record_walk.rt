@@ -35,7 +35,7 @@ pub enum Walk {
     Broken(u64),
 }
 
-// ReadKeeps a record.
+/// Keeps a record that a walk over a journal has read.
 fn keep(alloc: Global, records: &mut List<Bytes>, body: Bytes) -> Result<(), OpenFault>
     ensures kept { OnOk result (records.new.items ≡ records.old.items ++ body ∷ []) }
     ensures cause { IfErr result (λ fault. fault ≡ OpenFault.NoMemory) }
@@ -46,7 +46,7 @@ fn keep(alloc: Global, records: &mut List<Bytes>, body: Bytes) -> Result<(), Ope
     }
 }
 
-/// Reads the records after a head.
+/// Walks from gate to gate after a journal's head, and reads the records.
 pub fn read_records<D: Disk>(
     alloc: Global,
     window: &mut Window,

@@ -17,7 +17,7 @@ use std::alloc::Global;
 const WINDOW: usize = 65_536;
 
 impl Window {
-    /// An empty window on a disk of this length.
+    /// An empty window, through which a disk of this length is read.
     pub fn new(alloc: Global, size: u64) -> Mem<Window>
         ensures size { IfOk result (λ window. window.size ≡ size) }
         ensures shown { IfOk result (λ window. (disk : List ℕ) → length disk ≡ size
@@ -32,7 +32,7 @@ impl Window {
         })
     }
 
-    // Fills the window from this offset on.
+    /// Reads the window anew, from this offset of the disk on.
     fn fill<D: Disk>(&mut self, disk: &mut D, at: u64) -> Result<(), Failed>
         requires within { at ≤ self.old.size }
         requires size { IfVisible (D.content disk.old) (λ b. length b ≡ self.old.size) }
@@ -51,7 +51,7 @@ impl Window {
         Ok(())
     }
 
-    // Has this range in the window.
+    /// Reads the window anew, unless it has this range of the disk.
     fn keep_in_window<D: Disk>(&mut self, disk: &mut D, at: u64, len: usize) -> Result<(), Failed>
         requires small { len ≤ 65536 }
         requires within { at + len ≤ self.old.size }
@@ -69,7 +69,7 @@ impl Window {
         self.fill(disk, at)
     }
 
-    // Copies a range out of the window.
+    /// Copies a range of the disk that was read out of the window.
     fn copy_from_window(&self, at: u64, into: &mut [u8])
         requires from { self.now.at ≤ at }
         requires to { at + length into.old ≤ self.now.at + self.now.filled }
@@ -80,7 +80,7 @@ impl Window {
         into.copy_from_slice(&self.buffer[start..start + into.len()]);
     }
 
-    /// Reads as many bytes as `into` has, from the offset `at` on.
+    /// Reads as many bytes of the disk as `into` has through the window, from the offset `at` on.
     pub fn read<D: Disk>(&mut self, disk: &mut D, at: u64, into: &mut [u8]) -> Result<(), Failed>
         requires within { at + length into.old ≤ self.old.size }
         requires shown { IfVisible (D.content disk.old) (WindowShows self.old) }
@@ -100,7 +100,7 @@ impl Window {
     }
 }
 
-// Reads that many bytes to the prefix of the buffer.
+/// Reads that many bytes of the disk to the prefix of a window's buffer.
 fn read_prefix<D: Disk>(disk: &mut D, at: u64, buffer: &mut [u8], len: usize) -> Result<(), Failed>
     requires room { len ≤ length buffer.old }
     requires within { IfVisible (D.content disk.old) (λ b. at + len ≤ length b) }

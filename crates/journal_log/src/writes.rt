@@ -10,7 +10,7 @@ ghost use Rattle.journal_log.specs.Writes.{IsTornFrom, IsOverwritten};
 use pod_disk::Disk;
 use pod_io::Failed;
 
-/// Writes bytes. They may not be on the disk yet.
+/// Writes bytes to the disk of a journal, and doesn't wait until they are on it.
 pub fn write<D: Disk>(disk: &mut D, at: u64, bytes: &[u8]) -> Result<(), Failed>
     requires { IfVisible (D.content disk.old) (λ b. at ≤ length b) }
     ensures torn { LeavesOnly D.moment D.left_since disk.old disk.new
@@ -23,7 +23,7 @@ pub fn write<D: Disk>(disk: &mut D, at: u64, bytes: &[u8]) -> Result<(), Failed>
     disk.write_at(at, bytes)
 }
 
-/// Writes bytes, and waits until all is on the disk.
+/// Writes bytes to the disk of a journal, and waits until all is on it.
 pub fn write_through<D: Disk>(disk: &mut D, at: u64, bytes: &[u8]) -> Result<(), Failed>
     requires { IfVisible (D.content disk.old) (λ b. at ≤ length b) }
     ensures torn { LeavesOnly D.moment D.left_since disk.old disk.new

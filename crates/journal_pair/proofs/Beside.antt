@@ -8,8 +8,8 @@ use Rattle.journal_log.specs.Images.{Stands, IsEither}
 use Rattle.journal_log.specs.Classes.{HasClass}
 use Rattle.journal_log.specs.CleanJournal.{IsShort}
 use Rattle.journal_log.specs.Renewing.{IsGateChanged, IsBeforeOpening, IsNewJournal, IsWhileRenewed}
-use Rattle.journal_log.specs.declared.class.DiskClass.{DiskClass}
-use Rattle.journal_log.specs.declared.class.DiskClass.TheVariants.{Empty, Short, Torn, Closed, Wrong, Open}
+use Rattle.journal_log.specs.declared.disk_class.DiskClass.{DiskClass}
+use Rattle.journal_log.specs.declared.disk_class.DiskClass.TheVariants.{Empty, Short, Torn, Closed, Wrong, Open}
 use Rattle.journal_log.specs.declared.fault.Side.{Side}
 use Rattle.journal_log.specs.declared.fault.Side.TheVariants.{First, Second}
 use Rattle.journal_log.proofs.Splits.{first_is, parts_are, length_head, heads_are}

@@ -7,7 +7,7 @@ use Rattle.journal_log.specs.Classes.{HasClass}
 use Rattle.journal_log.specs.CleanJournal.{IsClean}
 use Rattle.journal_log.specs.JournalState.{JournalState}
 use Rattle.journal_log.specs.Renewing.{IsBeforeOpening, IsWhileRenewed}
-use Rattle.journal_log.specs.declared.class.DiskClass.TheVariants.{Open}
+use Rattle.journal_log.specs.declared.disk_class.DiskClass.TheVariants.{Open}
 use Rattle.journal_log.specs.declared.fault.Side.{Side}
 use Rattle.journal_pair.specs.Sides.{active_of, other_of, opposite_of}
 use Rattle.journal_pair.specs.Stores.{IsPassedOver, StoreStandsBoth}

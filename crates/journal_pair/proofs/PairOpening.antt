@@ -8,7 +8,7 @@ use Rattle.journal_log.specs.Images.{Stands}
 use Rattle.journal_log.specs.Opening.{IsWhileOpened}
 use Rattle.journal_log.specs.Causes.{HasCause}
 use Rattle.journal_log.specs.JournalState.{JournalState}
-use Rattle.journal_log.specs.declared.class.DiskClass.TheVariants as class
+use Rattle.journal_log.specs.declared.disk_class.DiskClass.TheVariants as class
 use Rattle.journal_log.specs.declared.fault.Side.{Side}
 use Rattle.journal_log.specs.declared.fault.Side.TheVariants.{First, Second}
 use Rattle.journal_log.specs.declared.fault.OpenFault.{OpenFault}

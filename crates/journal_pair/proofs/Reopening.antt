@@ -11,7 +11,7 @@ use Rattle.journal_log.specs.Images.{Stands, IsEither}
 use Rattle.journal_log.specs.JournalState.{JournalState}
 use Rattle.journal_log.specs.Opening.{IsWhileOpened}
 use Rattle.journal_log.specs.Renewing.{IsNewJournal}
-use Rattle.journal_log.specs.declared.class.DiskClass.TheVariants.{Wrong, Open}
+use Rattle.journal_log.specs.declared.disk_class.DiskClass.TheVariants.{Wrong, Open}
 use Rattle.journal_log.specs.declared.fault.Side.{Side}
 use Rattle.journal_log.specs.declared.fault.Side.TheVariants.{First, Second}
 use Rattle.journal_log.proofs.Mending.{MendsTo, stood, not_torn, doubt_mended, opened_again_lem}

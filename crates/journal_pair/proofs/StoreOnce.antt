@@ -2,8 +2,8 @@
 use Rattle.std.proofs.Common.{◌≡◌, ◌⊎◌, inl, inr, ⊎_elim, ℕ, ◌≤◌, List, refl, sym, ◌∙◌, subst, arith}
 use Rattle.journal_log.specs.Classes.{HasClass}
 use Rattle.journal_log.specs.Images.{Stands, IsDamaged}
-use Rattle.journal_log.specs.declared.class.DiskClass.{DiskClass}
-use Rattle.journal_log.specs.declared.class.DiskClass.TheVariants.{Empty, Short, Torn, Closed, Wrong, Open}
+use Rattle.journal_log.specs.declared.disk_class.DiskClass.{DiskClass}
+use Rattle.journal_log.specs.declared.disk_class.DiskClass.TheVariants.{Empty, Short, Torn, Closed, Wrong, Open}
 use Rattle.journal_log.specs.declared.fault.Side.{Side}
 use Rattle.journal_log.specs.declared.fault.Side.TheVariants.{First, Second}
 use Rattle.journal_log.proofs.Once.{stands_once_lem, damaged_once_lem, stands_or_damaged_lem}

@@ -2,7 +2,7 @@
 use Rattle.std.proofs.Common.{inl, inr, ◌+◌, ℕ, List, [], ◌∷◌, ◌++◌, subst, arith}
 use Rattle.journal_log.specs.Classes.{HasClass}
 use Rattle.journal_log.specs.Images.{Stands}
-use Rattle.journal_log.specs.declared.class.DiskClass.TheVariants.{Open}
+use Rattle.journal_log.specs.declared.disk_class.DiskClass.TheVariants.{Open}
 use Rattle.journal_log.specs.declared.fault.Side.{Side}
 use Rattle.journal_pair.specs.PairJournal.{HasSnapshot}
 use Rattle.journal_pair.specs.Sides.{active_of, other_of, opposite_of}

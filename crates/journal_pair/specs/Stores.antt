@@ -2,8 +2,8 @@
 use Rattle.std.specs.Prelude.{◌≡◌, ◌⊎◌, ◌<◌, ◌≤◌, ◌+◌, ℕ, List, [], ◌∷◌, ◌++◌}
 use Rattle.journal_log.specs.Classes.{HasClass}
 use Rattle.journal_log.specs.Images.{Stands, IsDamaged}
-use Rattle.journal_log.specs.declared.class.DiskClass.TheVariants.{Empty, Short, Torn, Closed}
-use Rattle.journal_log.specs.declared.class.DiskClass.TheVariants.{Wrong, Open}
+use Rattle.journal_log.specs.declared.disk_class.DiskClass.TheVariants.{Empty, Short, Torn, Closed}
+use Rattle.journal_log.specs.declared.disk_class.DiskClass.TheVariants.{Wrong, Open}
 use Rattle.journal_log.specs.declared.fault.Side.{Side}
 use Rattle.journal_log.specs.declared.fault.Side.TheVariants.{First, Second}
 use Rattle.journal_pair.specs.Sides.{active_of, other_of, opposite_of}

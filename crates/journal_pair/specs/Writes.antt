@@ -5,7 +5,7 @@ use Rattle.std.specs.Prelude.{Result, OnOk, OnErr}
 use Rattle.pod_disk.specs.Disk.{LeavesOnly}
 use Rattle.journal_log.specs.Classes.{HasClass}
 use Rattle.journal_log.specs.Images.{Stands}
-use Rattle.journal_log.specs.declared.class.DiskClass.TheVariants.{Open}
+use Rattle.journal_log.specs.declared.disk_class.DiskClass.TheVariants.{Open}
 use Rattle.journal_log.specs.declared.fault.Side.{Side}
 use Rattle.journal_pair.specs.PairJournal.{IsPairClean}
 use Rattle.journal_pair.specs.PairMoments.{ThroughMending, ThroughOpenings}

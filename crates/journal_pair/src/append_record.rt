@@ -9,8 +9,8 @@ use crate::before_append::make_ready;
 use journal_log::{DiskFault, Framed};
 use pod_disk::{Disk, Disks};
 
-/// Adds a record to the active journal, after the gate in doubt is closed, where there is one, and
-/// after a checkpoint, where there is a snapshot. It takes no memory.
+/// Appends one more record to the active journal of a pair, after the gate in doubt is closed,
+/// where there is one, and after a checkpoint, where there is a snapshot. It takes no memory.
 pub fn write<D: Disk>(
     pair: &mut Pair,
     disks: &mut Disks<D>,

@@ -8,7 +8,7 @@ use crate::Pair;
 use journal_log::{DiskFault, Framed};
 use pod_disk::{Disk, Disks};
 
-/// Closes the gate that is in doubt, where there is one.
+/// Closes the pair's gate that is in doubt before a record is appended, where there is one.
 pub fn repair<D: Disk>(pair: &mut Pair, disks: &mut Disks<D>) -> Result<(), DiskFault>
     requires { (bodies : List (List ℕ)) × (doubt : RecordDoubt)
         × HasRecords D.image disks.old.first disks.old.second pair.old bodies doubt }
@@ -23,7 +23,8 @@ pub fn repair<D: Disk>(pair: &mut Pair, disks: &mut Disks<D>) -> Result<(), Disk
     pair.repair(&mut disks.first, &mut disks.second)
 }
 
-/// Makes a checkpoint with this snapshot, after the gate in doubt is closed, where there is one.
+/// Makes a checkpoint of the pair with this snapshot before a record is appended, after the gate in
+/// doubt is closed, where there is one.
 pub fn checkpoint<D: Disk>(
     pair: &mut Pair,
     disks: &mut Disks<D>,
@@ -46,8 +47,8 @@ pub fn checkpoint<D: Disk>(
     }
 }
 
-/// Makes the journal ready for a record: closes the gate in doubt, where there is one, and makes a
-/// checkpoint, where there is a snapshot.
+/// Makes the pair ready before a record is appended: closes the gate in doubt, where there is one,
+/// and makes a checkpoint, where there is a snapshot.
 pub fn make_ready<D: Disk>(
     pair: &mut Pair,
     disks: &mut Disks<D>,

@@ -17,9 +17,9 @@ use journal_log::{DiskFault, EPOCH_LIMIT, Framed, RenewFault};
 use pod_disk::Disk;
 
 impl Pair {
-    /// Makes a journal of format 2 and the next epoch with this snapshot alone on the other disk,
-    /// which is the active one from then on. At epoch 2^63 there is no next one, and nothing
-    /// changes. The pair is clean before the call.
+    /// Makes a checkpoint of a pair: a journal of format 2 and the next epoch with this snapshot
+    /// alone on the other disk, which is the active one from then on. At epoch 2^63 there is no
+    /// next one, and nothing changes. The pair is clean before the call.
     ///
     /// Where the other disk has at least 17 bytes, every pair of crash images at each moment stands
     /// for the records from before the call or for this snapshot alone. On a shorter one a crash

@@ -22,7 +22,7 @@ pub enum Choice {
     Empty,
 }
 
-/// Classifies both disks, and chooses one.
+/// Chooses which of two disks is opened, by their classes, which it reads.
 pub fn choose_disk<D: Disk>(first: &mut D, second: &mut D) -> Result<Choice, DiskFault>
     ensures first { LeavesOnly D.moment D.left_since first.old first.new (D.image first.old) }
     ensures second { LeavesOnly D.moment D.left_since second.old second.new (D.image second.old) }
@@ -41,7 +41,7 @@ pub fn choose_disk<D: Disk>(first: &mut D, second: &mut D) -> Result<Choice, Dis
     Ok(choose(one, other))
 }
 
-// Chooses by the classes of two disks.
+/// Chooses one of two disks by their classes.
 fn choose(first: DiskClass, second: DiskClass) -> Choice
     ensures { IsChosen result first second }
 {
@@ -57,7 +57,7 @@ fn choose(first: DiskClass, second: DiskClass) -> Choice
     }
 }
 
-// Chooses beside a first disk that is open, with this epoch.
+/// Chooses a disk beside a first one that is open, with this epoch.
 fn beside_open(epoch: u64, second: DiskClass) -> Choice
     ensures { IsChosen result (DiskClass.Open epoch) second }
 {
@@ -74,7 +74,7 @@ fn beside_open(epoch: u64, second: DiskClass) -> Choice
     }
 }
 
-// Chooses between two open disks of these epochs.
+/// Chooses between two open disks of these epochs.
 fn greater(epoch: u64, other: u64) -> Choice
     ensures { IsChosen result (DiskClass.Open epoch) (DiskClass.Open other) }
 {
@@ -90,8 +90,8 @@ fn greater(epoch: u64, other: u64) -> Choice
     }
 }
 
-// Chooses beside a first disk that holds bytes and no journal, and is damaged at this offset where
-// there is no journal at all.
+/// Chooses a disk beside a first one that holds bytes and no journal, and is damaged at this offset
+/// where there is no journal at all.
 fn beside_unopened(at: u64, second: DiskClass) -> Choice
     ensures { (first : DiskClass) → IsUnopenedClass at first → IsChosen result first second }
 {
@@ -113,7 +113,7 @@ fn beside_unopened(at: u64, second: DiskClass) -> Choice
     }
 }
 
-// Chooses beside an empty first disk.
+/// Chooses a disk beside an empty first one.
 fn beside_empty(second: DiskClass) -> Choice
     ensures { IsChosen result DiskClass.Empty second }
 {

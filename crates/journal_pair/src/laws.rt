@@ -11,22 +11,22 @@ ghost use Rattle.journal_pair.specs.PairLaws.{StoreStandsOrDamaged, StoreEmptyOn
 use crate::pair::Pair;
 use pod_disk::Disk;
 
-/// Two crash images stand for one list of records at most.
+/// Two crash images of a store's disks stand for one list of records at most.
 pub fn store_stands_once()
     ensures { StoreStandsOnce }
 {}
 
-/// They are damaged at one place at most.
+/// Two crash images of a store's disks are damaged at one place at most.
 pub fn store_damaged_once()
     ensures { StoreDamagedOnce }
 {}
 
-/// Where they stand for records they aren't damaged.
+/// Two crash images of a store's disks that stand for records aren't damaged.
 pub fn store_stands_or_damaged()
     ensures { StoreStandsOrDamaged }
 {}
 
-/// Where both are empty they stand for nothing and aren't damaged.
+/// Two crash images of a store's disks that are both empty stand for nothing and aren't damaged.
 pub fn store_empty_only()
     ensures { StoreEmptyOnly }
 {}
@@ -41,8 +41,8 @@ impl Pair {
             (StoreStands self.now.active self.now.journal.format self.now.journal.epoch bodies) }
     {}
 
-    /// With the last gate in doubt, every pair of them stands for the records, with the one in
-    /// doubt or without.
+    /// With the last gate in doubt, every pair of crash images of a pair's disks stands for its
+    /// records, with the one in doubt or without.
     pub fn append_in_doubt_stands<D: Disk>(&self, _first: &D, _second: &D)
         ensures { (bodies : List (List ℕ)) (body : List ℕ)
             → IsAppendInDoubt D.image _first.now _second.now self.now bodies body
@@ -52,8 +52,8 @@ impl Pair {
             bodies body) }
     {}
 
-    /// With the first gate of a checkpoint in doubt, every pair of them stands for the records, or
-    /// for the snapshot of the checkpoint alone.
+    /// With the first gate of a checkpoint in doubt, every pair of crash images of a pair's disks
+    /// stands for its records, or for the snapshot of the checkpoint alone.
     pub fn checkpoint_in_doubt_stands<D: Disk>(&self, _first: &D, _second: &D)
         ensures { (bodies : List (List ℕ)) (body : List ℕ)
             → IsCheckpointInDoubt D.image _first.now _second.now self.now bodies body

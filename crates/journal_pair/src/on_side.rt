@@ -17,7 +17,7 @@ ghost use Rattle.journal_pair.specs.Causes.{PairCounts};
 use journal_log::{DiskFault, Framed, Journal, RenewFault, Side};
 use pod_disk::Disk;
 
-/// The other side.
+/// The side of a pair that is opposite to this one.
 pub fn opposite(side: Side) -> Side
     ensures { result ≡ opposite_of side }
 {
@@ -27,7 +27,7 @@ pub fn opposite(side: Side) -> Side
     }
 }
 
-/// Appends to the journal on this side.
+/// Appends a record to the journal on this side of a pair.
 pub fn append_on<D: Disk>(
     side: Side,
     journal: &mut Journal,
@@ -67,7 +67,7 @@ pub fn append_on<D: Disk>(
     }
 }
 
-/// Closes the gate that is in doubt in the journal on this side.
+/// Closes the gate that is in doubt in the journal on this side of a pair.
 pub fn repair_on<D: Disk>(
     side: Side,
     journal: &mut Journal,
@@ -105,7 +105,7 @@ pub fn repair_on<D: Disk>(
     }
 }
 
-/// Begins a journal anew on the disk beside this side.
+/// Begins a journal anew on the disk beside this side of a pair.
 pub fn renew_beside<D: Disk>(
     side: Side,
     first: &mut D,
@@ -141,7 +141,7 @@ pub fn renew_beside<D: Disk>(
     }
 }
 
-/// Closes the first gate of the disk beside this side.
+/// Closes the first gate of the disk beside this side of a pair.
 pub fn shut_beside<D: Disk>(side: Side, first: &mut D, second: &mut D) -> Result<(), DiskFault>
     requires { IfVisible (D.content (other_of side first.old second.old)) (λ b. 17 ≤ length b) }
     ensures in_doubt { (epoch : ℕ) (body : List ℕ)

@@ -26,10 +26,10 @@ use std::alloc::Global;
 const FRAME_LEN: u64 = 9;
 
 impl Pair {
-    /// Opens a store, and gives the records of its active journal, the snapshot first. It
-    /// classifies each disk, takes the open one with the greatest epoch, the first of equals, and
-    /// opens its journal, which mends a torn last gate there. The other disk is synced and stays as
-    /// it is.
+    /// Opens the pair of a store's disks, and returns the records of its active journal, the
+    /// snapshot first. It classifies each disk, takes the open one with the greatest epoch, the
+    /// first of equals, and opens its journal, which mends a torn last gate there. The other disk
+    /// is synced and stays as it is.
     ///
     /// `Empty` comes where both disks are empty. `Damaged` comes at 0 where a disk is wrong, the
     /// first before the second; at the damage of the journal that was taken; and where no disk is
@@ -74,7 +74,8 @@ impl Pair {
     }
 }
 
-// Opens the journal on this side, where the classes of the disks say that it has this epoch.
+/// Opens the pair whose journal on this side was chosen, where the classes of the disks say that it
+/// has this epoch.
 fn open_on<D: Disk>(
     alloc: Global,
     side: Side,
@@ -112,7 +113,7 @@ fn open_on<D: Disk>(
     }
 }
 
-// Opens the journal on this side.
+/// Opens the journal of the pair to be opened, which is on this side.
 fn open_journal<D: Disk>(
     alloc: Global,
     side: Side,
@@ -140,8 +141,8 @@ fn open_journal<D: Disk>(
     }
 }
 
-// The pair of a clean journal with these records. None where they have no snapshot or the journal
-// is of another epoch: the disk then gave other bytes than when it was classified.
+/// The opened pair of a clean journal with these records. None where they have no snapshot or the
+/// journal is of another epoch: the disk then gave other bytes than when it was classified.
 fn pair_of(side: Side, epoch: u64, journal: Journal, records: &List<Bytes>) -> Option<Pair>
     ensures some { IfSome result (λ pair. (pair.active ≡ side) × (pair.journal ≡ journal)
         × HasSnapshot pair.snapshot records.now.items × (pair.checkpoint ≡ false)
@@ -162,7 +163,7 @@ fn pair_of(side: Side, epoch: u64, journal: Journal, records: &List<Bytes>) -> O
     }
 }
 
-// How many bytes a record has as it is written.
+/// How many bytes a record of an opened pair has as it is written.
 fn record_len(body: &[u8]) -> u64
     ensures { result ≡ length (framed_of body.now) }
 {

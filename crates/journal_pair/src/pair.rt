@@ -57,9 +57,9 @@ impl Model for Pair {
 }
 
 impl Pair {
-    /// Begins a store on two empty disks: a journal of format 2 and epoch 1 with this snapshot on
-    /// the first, and on the second a head of format 2 and epoch 0 with a closed gate, and nothing
-    /// else. A crash inside this call may leave anything.
+    /// Begins the pair of a new store on two empty disks: a journal of format 2 and epoch 1 with
+    /// this snapshot on the first, and on the second a head of format 2 and epoch 0 with a closed
+    /// gate, and nothing else. A crash inside this call may leave anything.
     pub fn init<D: Disk>(
         first: &mut D,
         second: &mut D,
@@ -88,7 +88,7 @@ impl Pair {
         })
     }
 
-    /// The side of the active journal: the disk that was taken, or the one on which the last
+    /// The side of the pair's active journal: the disk that was taken, or the one on which the last
     /// checkpoint was made since.
     pub fn active(&self) -> Side
         ensures { result ≡ self.now.active }
@@ -96,7 +96,7 @@ impl Pair {
         self.active
     }
 
-    /// The format of the active journal: 1 or 2.
+    /// The format of the pair's active journal: 1 or 2.
     pub fn format(&self) -> u8
         ensures format { result ≡ self.now.journal.format }
         ensures known { (result ≡ 1) ⊎ (result ≡ 2) }
@@ -104,7 +104,7 @@ impl Pair {
         self.journal.format()
     }
 
-    /// The epoch of the active journal, which is at most 2^63. A checkpoint adds one.
+    /// The epoch of the pair's active journal, which is at most 2^63. A checkpoint adds one.
     pub fn epoch(&self) -> u64
         ensures epoch { result ≡ self.now.journal.epoch }
         ensures most { result ≤ 2 ^ 63 }
@@ -112,31 +112,31 @@ impl Pair {
         self.journal.epoch()
     }
 
-    /// How many bytes the active journal has, from its first byte to its last gate.
+    /// How many bytes the pair's active journal has, from its first byte to its last gate.
     pub fn len(&self) -> u64
         ensures { result ≡ len_of self.now }
     {
         self.journal.len()
     }
 
-    /// How many bytes the record of the active journal's snapshot has.
+    /// How many bytes the record of the pair's snapshot has, with which its active journal begins.
     pub fn snapshot_len(&self) -> u64
         ensures { result ≡ self.now.snapshot }
     {
         self.snapshot
     }
 
-    /// Whether a gate may be open though what follows it isn't to count: the last gate of the
-    /// active journal, or the first gate of a checkpoint. Then [`repair`](Pair::repair) closes it
-    /// before anything else.
+    /// Whether a gate of the pair may be open though what follows it isn't to count: the last gate
+    /// of the active journal, or the first gate of a checkpoint. Then [`repair`](Pair::repair)
+    /// closes it before anything else.
     pub fn needs_repair(&self) -> bool
         ensures { result ≡ (self.now.checkpoint || self.now.journal.doubt) }
     {
         self.checkpoint || self.journal.needs_repair()
     }
 
-    /// Whether the active journal is long enough for a checkpoint: longer than [`SIZE_LIMIT`] bytes
-    /// and than twice the record of its snapshot.
+    /// Whether the pair's active journal is long enough for a checkpoint: longer than
+    /// [`SIZE_LIMIT`] bytes and than twice the record of its snapshot.
     pub fn due(&self) -> bool
         ensures yes { IsTrue result → IsDue self.now }
         ensures no { IsDue self.now → IsTrue result }
@@ -145,11 +145,11 @@ impl Pair {
         len > SIZE_LIMIT && len > self.snapshot.saturating_mul(2)
     }
 
-    /// Adds a record to the active journal, as [`Journal::append`] does. At each moment every pair
-    /// of crash images stands for the records from before the call, with the new one or without,
-    /// and at `Ok` for those with the new one. After an `Err` the pair is clean as before, or its
-    /// last gate is in doubt; [`needs_repair`](Pair::needs_repair) says which. The pair is clean
-    /// before the call.
+    /// Adds a record to the pair's active journal, as [`Journal::append`] does. At each moment
+    /// every pair of crash images stands for the records from before the call, with the new one or
+    /// without, and at `Ok` for those with the new one. After an `Err` the pair is clean as before,
+    /// or its last gate is in doubt; [`needs_repair`](Pair::needs_repair) says which. The pair is
+    /// clean before the call.
     pub fn append<D: Disk>(
         &mut self,
         first: &mut D,
@@ -198,10 +198,10 @@ impl Pair {
         append_on(self.active, &mut self.journal, first, second, framed)
     }
 
-    /// Closes the gate that is in doubt: writes 0 there, and syncs. That is the last gate of the
-    /// active journal, or the first gate of a checkpoint on the other disk. At each moment every
-    /// pair of crash images stands for what it stood for before, with the record after that gate or
-    /// without, and at `Ok` for the records without it.
+    /// Closes the pair's gate that is in doubt: writes 0 there, and syncs. That is the last gate of
+    /// the active journal, or the first gate of a checkpoint on the other disk. At each moment
+    /// every pair of crash images stands for what it stood for before, with the record after that
+    /// gate or without, and at `Ok` for the records without it.
     pub fn repair<D: Disk>(&mut self, first: &mut D, second: &mut D) -> Result<(), DiskFault>
         requires { HasGateInDoubt D.image first.old second.old self.old }
         ensures append_moments { AppendLeaves D.image D.moment D.left_since first.old second.old

@@ -7,7 +7,7 @@ use Rattle.rdf_graph.specs.Size.{saturated, triple_size, triples_size}
 use Rattle.rdf_graph.specs.Triple.{IsRdf}
 use Rattle.rdf_graph.specs.declared.triple.Triple.{Triple}
 use Rattle.rdf_graph.specs.declared.size.TheConstants.{TRIPLES_LIMIT}
-use Rattle.jsonld_expanded.specs.declared.walk.Walk.{Walk}
+use Rattle.jsonld_expanded.specs.declared.walk_state.Walk.{Walk}
 use Rattle.jsonld_expanded.specs.Expands.{State}
 use Rattle.jsonld_expanded.specs.Walks.{Stands}
 

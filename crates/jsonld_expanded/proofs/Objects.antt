@@ -9,7 +9,7 @@ use Rattle.serde_json.specs.Events.{members_len}
 use Rattle.serde_json.specs.Find.{get, get_member}
 use Rattle.serde_json.specs.View.{view, members_view}
 use Rattle.serde_json.proofs.Views.{Entry, members_len-members_view}
-use Rattle.jsonld_expanded.specs.declared.walk.Walk.{Walk}
+use Rattle.jsonld_expanded.specs.declared.walk_state.Walk.{Walk}
 use Rattle.jsonld_expanded.specs.Expands.{State, Scope, Choose, Then, Says, has, IsNodeBy, IsNodeOf, IsUnnamed, saying, WalksArray, WalksCells, WalksList, WalksLiteral, WalksMember, WalksMembers, WalksNode, WalksTypes, WalksValue, WalksValues}
 use Rattle.jsonld_expanded.specs.Vocabulary.{rdf_first, rdf_rest}
 use Rattle.jsonld_expanded.specs.Walks.{Advances, Refuses}

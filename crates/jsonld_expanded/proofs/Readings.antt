@@ -6,7 +6,7 @@ use Rattle.rdf_graph.specs.Size.{saturated, triples_size}
 use Rattle.rdf_graph.specs.declared.triple.Triple.{Triple}
 use Rattle.serde_json.specs.Data.{Data}
 use Rattle.rdf_graph.specs.declared.size.TheConstants.{TRIPLES_LIMIT}
-use Rattle.jsonld_expanded.specs.declared.walk.Walk.{Walk}
+use Rattle.jsonld_expanded.specs.declared.walk_state.Walk.{Walk}
 use Rattle.jsonld_expanded.specs.Outcomes.{IsDocumentOf, IsJson, IsTooLarge}
 use Rattle.jsonld_expanded.specs.Walks.{IsWalkOf}
 

@@ -2,7 +2,7 @@
 use Rattle.std.proofs.Common.{◌≡◌, Bool, true, false, Result, Ok, Err, refl, sym, ap, ◌∙◌, subst}
 use Rattle.std.specs.Result.{IsErrAnd, IsErrOf}
 use Rattle.rdf_graph.specs.declared.term.Term.{Term}
-use Rattle.jsonld_expanded.specs.declared.walk.Walk.{Walk}
+use Rattle.jsonld_expanded.specs.declared.walk_state.Walk.{Walk}
 use Rattle.jsonld_expanded.specs.Expands.{Choose, State, Then}
 use Rattle.jsonld_expanded.specs.Walks.{Advances, Refuses, Stands}
 use Rattle.jsonld_expanded.proofs.Once.{Once, PicksOnce}

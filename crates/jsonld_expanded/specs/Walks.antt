@@ -6,8 +6,8 @@ use Rattle.rdf_graph.specs.Triple.{IsRdf}
 use Rattle.rdf_graph.specs.declared.triple.Triple.{Triple}
 use Rattle.serde_json.specs.Data.{Data}
 use Rattle.rdf_graph.specs.declared.size.TheConstants.{TRIPLES_LIMIT}
-use Rattle.jsonld_expanded.specs.declared.scope.Scope.{Scope as Kept}
-use Rattle.jsonld_expanded.specs.declared.walk.Walk.{Walk}
+use Rattle.jsonld_expanded.specs.declared.walk_scope.Scope.{Scope as Kept}
+use Rattle.jsonld_expanded.specs.declared.walk_state.Walk.{Walk}
 use Rattle.jsonld_expanded.specs.Expands.{ExpandsTo, State, Scope}
 use Rattle.jsonld_expanded.specs.Nodes.{has_label, labels_in}
 

@@ -50,7 +50,7 @@ impl From<AllocError> for Refusal {
     }
 }
 
-/// The refusal where an IRI was wanted and there is none.
+/// The refusal of a document where an IRI was wanted and there is none.
 pub(crate) fn refusal_of(fault: IriFault) -> Refusal
     ensures { result ≡ Refusal.OutOfProfile → fault ≡ IriFault.BadReference }
 {

@@ -16,14 +16,14 @@ use rdf_graph::Triple;
 use std::alloc::Global;
 use std::cmp::Ordering;
 
-/// The byte order of the keys of two triples.
+/// The byte order of the keys that two triples have in a node object.
 fn cmp_keys(first: &Triple, second: &Triple) -> Ordering
     ensures { result ≡ bytes_cmp (key_of first.now) (key_of second.now) }
 {
     key_of(first).cmp(key_of(second))
 }
 
-/// The triples by their keys; those under one key keep their order.
+/// A subject's triples in the order of their keys; those under one key keep their order.
 pub(crate) fn by_key<'a>(alloc: Global, triples: &'a [Triple]) -> Mem<Vec<&'a Triple>>
     ensures { IfOk result (λ refs. map (λ r. r.now) refs.items ≡ sorted key_below triples.now) }
 {
@@ -32,7 +32,7 @@ pub(crate) fn by_key<'a>(alloc: Global, triples: &'a [Triple]) -> Mem<Vec<&'a Tr
     Ok(refs)
 }
 
-/// Whether the triple at this position has the key of the one before it.
+/// Whether in the order of keys the triple at this position has the key of the one before it.
 fn has_same_key(triples: &[&Triple], at: usize) -> bool
     requires some { 0 < at }
     requires within { at < length triples.now }
@@ -42,7 +42,7 @@ fn has_same_key(triples: &[&Triple], at: usize) -> bool
     key_of(triples[at - 1]) == key_of(triples[at])
 }
 
-/// How many of the triples, from the first on, have the key of the first.
+/// How many triples in the order of their keys, from the first on, have the key of the first.
 pub(crate) fn key_run(triples: &[&Triple]) -> usize
     requires { 0 < length triples.now }
     ensures some { 0 < result }

@@ -4,13 +4,14 @@ ghost use Rattle.jsonld_expanded.specs.Laws.{ExpandsOnce, SubjectsHaveOneNode, W
 
 use rdf_graph::subject_law;
 
-/// A JSON value stands for one graph at most, and for one list of triples.
+/// The law that a JSON value stands for one graph at most, and for one list of triples.
 pub fn expands_once()
     ensures triples { WalksOnce }
     ensures graph { ExpandsOnce }
 {}
 
-/// Each subject of a graph has one node object, where no label and no language tag has a space.
+/// The law that each subject of a graph has one node object, where no label and no language tag has
+/// a space.
 pub fn one_node_each()
     ensures { SubjectsHaveOneNode }
 {

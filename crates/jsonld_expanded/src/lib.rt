@@ -22,28 +22,28 @@
 //! `iri_ref`.
 #![tactic(auto)]
 
-mod ahead;
-mod documents;
+mod document_reading;
+mod document_walk;
+mod document_writing;
 mod fault;
 mod key_order;
-mod labels;
 pub mod laws;
-mod literals;
+mod node_names;
 mod node_writing;
-mod nodes;
-mod reader;
-mod scope;
-mod text_len;
-mod tokens;
+mod term_prefetch;
+mod token_writing;
+mod used_labels;
 mod value_count;
+mod value_literals;
+mod value_walk;
 mod value_writing;
-mod values;
-mod walk;
-mod words;
-mod writer;
+mod vocabulary_iris;
+mod walk_scope;
+mod walk_state;
+mod written_len;
 
+pub use document_reading::read;
+pub use document_writing::write;
 pub use fault::JsonLdFault;
-pub use reader::read;
 pub use value_count::VALUES_LIMIT;
-pub use walk::MADE_LIMIT;
-pub use writer::write;
+pub use walk_state::MADE_LIMIT;

@@ -11,16 +11,16 @@ ghost use Rattle.jsonld_expanded.specs.Sorted.{sorted};
 ghost use Rattle.jsonld_expanded.specs.Written.{Adds, nodes_tokens, object_tokens, properties_tokens};
 ghost use Rattle.jsonld_expanded.specs.Written.{property_tokens, tokens_of};
 
-use crate::ahead::read_ahead;
 use crate::key_order::{by_key, key_run};
-use crate::tokens::{begin_array, begin_object, end_array, end_object, put_key};
+use crate::term_prefetch::read_ahead;
+use crate::token_writing::{begin_array, begin_object, end_array, end_object, put_key};
 use crate::value_writing::{key_of, put_name, put_object};
 use json::Writer;
 use pod_base::Mem;
 use rdf_graph::{Term, Triple};
 use std::alloc::Global;
 
-/// The objects of the triples.
+/// Writes the objects of a node object's triples under one key.
 fn put_objects(alloc: Global, writer: &mut Writer, triples: &[&Triple]) -> Mem<()>
     ensures { OnOk result
         (Adds writer.old writer.new (object_tokens (map (λ r. r.now) triples.now))) }
@@ -31,7 +31,7 @@ fn put_objects(alloc: Global, writer: &mut Writer, triples: &[&Triple]) -> Mem<(
     Ok(())
 }
 
-/// The key of the triples, with their objects.
+/// Writes a key of a node object, with the objects of its triples.
 fn put_property(alloc: Global, writer: &mut Writer, triples: &[&Triple]) -> Mem<()>
     requires { 0 < length triples.now }
     ensures { OnOk result
@@ -43,7 +43,7 @@ fn put_property(alloc: Global, writer: &mut Writer, triples: &[&Triple]) -> Mem<
     end_array(writer)
 }
 
-/// The keys of the triples, with their objects.
+/// Writes the keys of a node object, with the objects of their triples.
 fn put_properties(alloc: Global, writer: &mut Writer, triples: &[&Triple]) -> Mem<()>
     ensures { OnOk result (Adds writer.old writer.new
         (properties_tokens (runs same_key (map (λ r. r.now) triples.now)))) }
@@ -58,7 +58,7 @@ fn put_properties(alloc: Global, writer: &mut Writer, triples: &[&Triple]) -> Me
     Ok(())
 }
 
-/// The keys of a subject's triples, with their objects.
+/// Writes the keys of a subject's node object in their order, with the objects of its triples.
 fn put_sorted(alloc: Global, writer: &mut Writer, triples: &[Triple]) -> Mem<()>
     ensures { OnOk result (Adds writer.old writer.new
         (properties_tokens (runs same_key (sorted key_below triples.now)))) }
@@ -67,7 +67,7 @@ fn put_sorted(alloc: Global, writer: &mut Writer, triples: &[Triple]) -> Mem<()>
     put_properties(alloc, writer, refs.as_slice())
 }
 
-/// The beginning of a node object, up to its name.
+/// Writes the beginning of a node object, up to its name.
 fn begin_node(alloc: Global, writer: &mut Writer, subject: &Term) -> Mem<()>
     ensures { OnOk result (Adds writer.old writer.new (token.begin_object
         ∷ token.key (codes "@id") ∷ token.string (name_of subject.now) ∷ [])) }
@@ -77,7 +77,7 @@ fn begin_node(alloc: Global, writer: &mut Writer, subject: &Term) -> Mem<()>
     put_name(alloc, writer, subject)
 }
 
-/// The node object of a subject.
+/// Writes the node object of a subject.
 fn put_node(alloc: Global, writer: &mut Writer, triples: &[Triple]) -> Mem<()>
     requires { 0 < length triples.now }
     ensures { OnOk result (Adds writer.old writer.new (tokens_of (node_object triples.now))) }
@@ -87,7 +87,8 @@ fn put_node(alloc: Global, writer: &mut Writer, triples: &[Triple]) -> Mem<()>
     end_object(writer)
 }
 
-/// Whether the triple at this position has the subject of the one before it.
+/// Whether the triple at this position is of the same node object as the one before it, by its
+/// subject.
 fn has_same_subject(triples: &[Triple], at: usize) -> bool
     requires some { 0 < at }
     requires within { at < length triples.now }
@@ -97,7 +98,8 @@ fn has_same_subject(triples: &[Triple], at: usize) -> bool
     triples[at - 1].s == triples[at].s
 }
 
-/// How many of the triples, from the first on, have the subject of the first.
+/// How many of the triples, from the first on, are of the first one's node object, by their
+/// subject.
 pub(crate) fn subject_run(triples: &[Triple]) -> usize
     requires { 0 < length triples.now }
     ensures some { 0 < result }
@@ -115,7 +117,7 @@ pub(crate) fn subject_run(triples: &[Triple]) -> usize
     len
 }
 
-/// The node objects of the triples.
+/// Writes the node objects of the triples.
 fn put_nodes(alloc: Global, writer: &mut Writer, triples: &[Triple]) -> Mem<()>
     ensures { OnOk result
         (Adds writer.old writer.new (nodes_tokens (runs same_subject triples.now))) }
@@ -132,7 +134,7 @@ fn put_nodes(alloc: Global, writer: &mut Writer, triples: &[Triple]) -> Mem<()>
     Ok(())
 }
 
-/// The array of node objects.
+/// Writes the document, which is the array of node objects.
 pub(crate) fn put_document(alloc: Global, writer: &mut Writer, triples: &[Triple]) -> Mem<()>
     ensures { OnOk result (Adds writer.old writer.new (tokens_of (document triples.now))) }
 {

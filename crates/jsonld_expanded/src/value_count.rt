@@ -24,17 +24,17 @@ fn is_blank(byte: u8) -> bool {
     matches!(byte, b' ' | b'\t' | b'\n' | b'\r')
 }
 
-/// Whether a byte opens an array or an object.
+/// Whether a byte of JSON opens an array or an object.
 fn opens(byte: u8) -> bool {
     byte == b'[' || byte == b'{'
 }
 
-/// Whether a byte stands by itself, outside of strings.
+/// Whether a byte of JSON is a token by itself, outside of strings.
 fn is_structural(byte: u8) -> bool {
     opens(byte) || matches!(byte, b']' | b'}' | b',' | b':')
 }
 
-/// The place of what follows a byte outside of strings.
+/// The place of what follows a byte of JSON outside of strings, for the count of values.
 fn place_outside(place: Place, byte: u8) -> Place {
     if byte == b'"' {
         Place::Quoted
@@ -49,7 +49,7 @@ fn place_outside(place: Place, byte: u8) -> Place {
     }
 }
 
-/// The place of what follows a byte in a string.
+/// The place of what follows a byte of JSON in a string, for the count of values.
 fn place_inside(byte: u8) -> Place {
     match byte {
         b'"' => Place::Closed,
@@ -58,7 +58,7 @@ fn place_inside(byte: u8) -> Place {
     }
 }
 
-/// The place of what follows a byte.
+/// The place of what follows a byte of JSON, for the count of values.
 fn next_place(place: Place, byte: u8) -> Place {
     match place {
         Place::Escaped => Place::Quoted,
@@ -67,7 +67,8 @@ fn next_place(place: Place, byte: u8) -> Place {
     }
 }
 
-/// Whether a byte shows one value more: it begins one, or the string before it was no key.
+/// Whether a byte of JSON counts for one value more: it begins one, or the string before it was no
+/// key.
 fn shows_value(place: Place, byte: u8) -> bool {
     match place {
         Place::Escaped | Place::Quoted => false,
@@ -77,8 +78,8 @@ fn shows_value(place: Place, byte: u8) -> bool {
     }
 }
 
-/// Whether a JSON text has at most [`VALUES_LIMIT`] values. Of a malformed text the parts that look
-/// like values count.
+/// Whether a JSON text has at most [`VALUES_LIMIT`] values, counted before they are made. Of a
+/// malformed text the parts that look like values count.
 pub(crate) fn has_few_values(text: &[u8]) -> bool {
     let mut left = VALUES_LIMIT;
     let mut place = Place::Between;

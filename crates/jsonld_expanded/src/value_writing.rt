@@ -9,14 +9,14 @@ ghost use Rattle.jsonld_expanded.specs.Document.{named_value, object_of, string_
 ghost use Rattle.jsonld_expanded.specs.Document.{typed_value, value_of};
 ghost use Rattle.jsonld_expanded.specs.Written.{Adds, tokens_of};
 
-use crate::tokens::{begin_object, end_object, put_key, put_member, put_string};
+use crate::token_writing::{begin_object, end_object, put_key, put_member, put_string};
 use json::Writer;
 use pod_base::Mem;
 use rdf_graph::vocabulary::{RDF_TYPE, XSD_STRING};
 use rdf_graph::{Term, Triple};
 use std::alloc::Global;
 
-/// `_:` and the label.
+/// The name of a blank node as a value is written with it: `_:` and the label.
 fn blank_name(alloc: Global, label: &str) -> Mem<String>
     ensures { IfOk result (λ name. string_bytes name ≡ codes "_:" ++ label.now) }
 {
@@ -26,7 +26,7 @@ fn blank_name(alloc: Global, label: &str) -> Mem<String>
     Ok(name)
 }
 
-/// The name of a blank node as a string.
+/// Writes the name of a blank node as a string.
 fn put_blank(alloc: Global, writer: &mut Writer, label: &str) -> Mem<()>
     ensures { OnOk result
         (Adds writer.old writer.new (token.string (codes "_:" ++ label.now) ∷ [])) }
@@ -35,7 +35,7 @@ fn put_blank(alloc: Global, writer: &mut Writer, label: &str) -> Mem<()>
     put_string(writer, name.as_str())
 }
 
-/// The name of a node as a string.
+/// Writes the name of a node as a string.
 pub(crate) fn put_name(alloc: Global, writer: &mut Writer, term: &Term) -> Mem<()>
     ensures { OnOk result (Adds writer.old writer.new (token.string (name_of term.now) ∷ [])) }
 {
@@ -47,7 +47,7 @@ pub(crate) fn put_name(alloc: Global, writer: &mut Writer, term: &Term) -> Mem<(
     }
 }
 
-/// A node object with nothing but its name.
+/// Writes a value that is a node object with nothing but its name.
 fn put_named(alloc: Global, writer: &mut Writer, term: &Term) -> Mem<()>
     ensures { OnOk result
         (Adds writer.old writer.new (tokens_of (named_value (name_of term.now)))) }
@@ -58,7 +58,7 @@ fn put_named(alloc: Global, writer: &mut Writer, term: &Term) -> Mem<()>
     end_object(writer)
 }
 
-/// A plain string.
+/// Writes the value of a literal that is a plain string.
 fn put_plain(writer: &mut Writer, lexical: &str) -> Mem<()>
     ensures { OnOk result (Adds writer.old writer.new (tokens_of (string_value lexical.now))) }
 {
@@ -67,7 +67,7 @@ fn put_plain(writer: &mut Writer, lexical: &str) -> Mem<()>
     end_object(writer)
 }
 
-/// A string with a datatype.
+/// Writes the value of a literal with a datatype.
 fn put_typed(writer: &mut Writer, lexical: &str, datatype: &str) -> Mem<()>
     ensures { OnOk result
         (Adds writer.old writer.new (tokens_of (typed_value lexical.now datatype.now))) }
@@ -78,7 +78,7 @@ fn put_typed(writer: &mut Writer, lexical: &str, datatype: &str) -> Mem<()>
     end_object(writer)
 }
 
-/// A string with a language tag.
+/// Writes the value of a literal with a language tag.
 fn put_tagged(writer: &mut Writer, lexical: &str, lang: &str) -> Mem<()>
     ensures { OnOk result
         (Adds writer.old writer.new (tokens_of (tagged_value lexical.now lang.now))) }
@@ -89,7 +89,7 @@ fn put_tagged(writer: &mut Writer, lexical: &str, lang: &str) -> Mem<()>
     end_object(writer)
 }
 
-/// Whether a literal of this datatype is written without it.
+/// Whether a literal of this datatype is written as a value without it.
 #[tactic(auto, unfolding(crate::specs::Vocabulary::xsd_string))]
 pub(crate) fn is_string(datatype: &str) -> bool
     ensures { result ≡ bytes_eq datatype.now xsd_string }
@@ -97,7 +97,7 @@ pub(crate) fn is_string(datatype: &str) -> bool
     datatype == XSD_STRING
 }
 
-/// A term as a value.
+/// Writes a term as a value.
 fn put_value(alloc: Global, writer: &mut Writer, term: &Term) -> Mem<()>
     ensures { OnOk result (Adds writer.old writer.new (tokens_of (value_of term.now))) }
 {
@@ -115,7 +115,7 @@ fn put_value(alloc: Global, writer: &mut Writer, term: &Term) -> Mem<()>
     }
 }
 
-/// The IRI of a predicate.
+/// The IRI of a predicate, as values are written under it.
 fn iri_of(term: &Term) -> &str
     ensures { result.now ≡ iri_of term.now }
 {
@@ -127,7 +127,7 @@ fn iri_of(term: &Term) -> &str
     }
 }
 
-/// Whether the term is an IRI or a blank node.
+/// Whether a term is written with a name, as an IRI or a blank node.
 fn is_named(term: &Term) -> bool
     ensures { result ≡ is_named term.now }
 {
@@ -139,7 +139,7 @@ fn is_named(term: &Term) -> bool
     }
 }
 
-/// Whether the predicate of this IRI says types.
+/// Whether the predicate of this IRI says types, so that its values are written in `@type`.
 #[tactic(auto, unfolding(crate::specs::Vocabulary::rdf_type))]
 fn says_types(predicate: &str) -> bool
     ensures { result ≡ bytes_eq predicate.now rdf_type }
@@ -147,14 +147,14 @@ fn says_types(predicate: &str) -> bool
     predicate == RDF_TYPE
 }
 
-/// Whether the object of the triple is written in `@type`.
+/// Whether the triple's object is a value that is written in `@type`.
 pub(crate) fn is_type(triple: &Triple) -> bool
     ensures { result ≡ is_type triple.now }
 {
     says_types(iri_of(&triple.p)) && is_named(&triple.o)
 }
 
-/// The key that the object of the triple is under.
+/// The key under which the triple's object is written as a value.
 pub(crate) fn key_of(triple: &Triple) -> &str
     ensures { result.now ≡ key_of triple.now }
 {
@@ -165,7 +165,7 @@ pub(crate) fn key_of(triple: &Triple) -> &str
     }
 }
 
-/// The object of the triple, as it is written under its key.
+/// Writes the triple's object as a value, as it is under its key.
 pub(crate) fn put_object(alloc: Global, writer: &mut Writer, triple: &Triple) -> Mem<()>
     ensures { OnOk result (Adds writer.old writer.new (tokens_of (object_of triple.now))) }
 {

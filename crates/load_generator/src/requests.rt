@@ -14,7 +14,7 @@ pub const LOAD_MOMENT: u64 = 784_111_777;
 /// The owner of the pod of a run.
 const OWNER: &str = "https://alice.example/#me";
 
-/// The owner of the pod of a run, as whom each request is made.
+/// The owner of the pod that takes the load generator's requests, as whom each is made.
 pub fn owner(alloc: Global) -> Mem<Iri>
     ensures { IfOk result (λ owner. owner ≡ spec.load_owner) }
 {
@@ -24,7 +24,7 @@ pub fn owner(alloc: Global) -> Mem<Iri>
     }
 }
 
-/// Appends pieces one after another.
+/// Appends pieces of the load's requests, one after another.
 fn append_all(text: &mut Vec<u8>, pieces: &[&[u8]]) -> Mem<()>
     ensures { IfOk result (λ _. text.new.items
         ≡ text.old.items ++ flat_map (λ p. p.now) pieces.now) }
@@ -35,7 +35,7 @@ fn append_all(text: &mut Vec<u8>, pieces: &[&[u8]]) -> Mem<()>
     Ok(())
 }
 
-/// Appends the document that request k writes.
+/// Appends the document that request k of the load writes.
 fn append_body(text: &mut Vec<u8>, k: u16) -> Mem<()>
     ensures { IfOk result (λ _. text.new.items ≡ text.old.items ++ spec.document_body k) }
 {
@@ -50,7 +50,7 @@ fn append_body(text: &mut Vec<u8>, k: u16) -> Mem<()>
     )
 }
 
-/// Appends a request that writes document k with this body.
+/// Appends a request of the load that writes document k with this body.
 fn append_put(text: &mut Vec<u8>, k: u16, body: &[u8]) -> Mem<()>
     requires { body.now ≡ spec.document_body k }
     ensures { IfOk result (λ _. text.new.items ≡ text.old.items ++ spec.put_document k) }
@@ -74,7 +74,7 @@ fn append_put(text: &mut Vec<u8>, k: u16, body: &[u8]) -> Mem<()>
     )
 }
 
-/// Appends the request k that writes a document.
+/// Appends the request k of the load that writes a document.
 fn append_put_document(alloc: Global, text: &mut Vec<u8>, k: u16) -> Mem<()>
     ensures { IfOk result (λ _. text.new.items ≡ text.old.items ++ spec.put_document k) }
 {
@@ -83,7 +83,7 @@ fn append_put_document(alloc: Global, text: &mut Vec<u8>, k: u16) -> Mem<()>
     append_put(text, k, body.as_slice())
 }
 
-/// Appends the request k that reads a document.
+/// Appends the request k of the load that reads a document.
 fn append_get_document(text: &mut Vec<u8>, k: u16) -> Mem<()>
     ensures { IfOk result (λ _. text.new.items ≡ text.old.items ++ spec.get_document k) }
 {
@@ -101,7 +101,7 @@ fn append_get_document(text: &mut Vec<u8>, k: u16) -> Mem<()>
     )
 }
 
-/// Appends the request k that adds a member whose body are these digits.
+/// Appends the request k of the load that adds a member whose body are these digits.
 fn append_post(text: &mut Vec<u8>, k: u16, digits: &[u8]) -> Mem<()>
     requires { digits.now ≡ decimal k }
     ensures { IfOk result (λ _. text.new.items ≡ text.old.items ++ spec.post_member k) }
@@ -122,7 +122,7 @@ fn append_post(text: &mut Vec<u8>, k: u16, digits: &[u8]) -> Mem<()>
     )
 }
 
-/// Appends the request k that adds a member.
+/// Appends the request k of the load that adds a member.
 fn append_post_member(text: &mut Vec<u8>, k: u16) -> Mem<()>
     ensures { IfOk result (λ _. text.new.items ≡ text.old.items ++ spec.post_member k) }
 {
@@ -130,7 +130,7 @@ fn append_post_member(text: &mut Vec<u8>, k: u16) -> Mem<()>
     append_post(text, k, digits.format(k).as_bytes())
 }
 
-/// Appends the request k that reads a folder.
+/// Appends the request k of the load that reads a folder.
 fn append_get_folder(text: &mut Vec<u8>, k: u16) -> Mem<()>
     ensures { IfOk result (λ _. text.new.items ≡ text.old.items ++ spec.get_folder k) }
 {
@@ -145,7 +145,7 @@ fn append_get_folder(text: &mut Vec<u8>, k: u16) -> Mem<()>
     )
 }
 
-/// Appends request k.
+/// Appends request k of the load.
 #[tactic(auto, unfolding(crate::specs::Streams::request_text))]
 fn append_request(alloc: Global, text: &mut Vec<u8>, k: u16) -> Mem<()>
     ensures { IfOk result (λ _. text.new.items ≡ text.old.items ++ spec.request_text k) }
@@ -158,7 +158,7 @@ fn append_request(alloc: Global, text: &mut Vec<u8>, k: u16) -> Mem<()>
     }
 }
 
-/// The stream of so many requests, as the bytes of one connection.
+/// The stream of so many requests of the load, as the bytes of one connection.
 pub fn stream(alloc: Global, requests: u16) -> Mem<Vec<u8>>
     ensures { IfOk result (λ bytes. bytes.items ≡ spec.stream requests) }
 {

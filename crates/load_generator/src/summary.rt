@@ -11,7 +11,7 @@ use pod_base::Mem;
 use sha2::{Digest, Sha256};
 use std::alloc::Global;
 
-/// The SHA-256 of bytes in lower-case hexadecimal digits.
+/// The SHA-256 in the summary line of a load, in lower-case hexadecimal digits.
 fn digest_text(alloc: Global, bytes: &[u8]) -> Mem<String>
     ensures { IfOk result (λ text. string_bytes text ≡ encode_lower (sha256 bytes.now)) }
 {
@@ -22,7 +22,7 @@ fn digest_text(alloc: Global, bytes: &[u8]) -> Mem<String>
     Ok(text)
 }
 
-/// Appends pieces one after another.
+/// Appends pieces of the summary line, one after another.
 fn push_all(text: &mut String, pieces: &[&str]) -> Mem<()>
     ensures { IfOk result (λ _. string_bytes text.new
         ≡ string_bytes text.old ++ flat_map (λ p. p.now) pieces.now) }
@@ -33,8 +33,8 @@ fn push_all(text: &mut String, pieces: &[&str]) -> Mem<()>
     Ok(())
 }
 
-/// The line that a run prints: of how many requests it was, how many bytes they had, what was
-/// written, and how many rows the pod has at the end.
+/// The summary line that a run of the load generator prints: of how many requests it was, how many
+/// bytes they had, what was written, and how many rows the pod has at the end.
 #[tactic(auto, unfolding(crate::specs::Summaries::summary_line))]
 pub fn summary_line(
     alloc: Global,

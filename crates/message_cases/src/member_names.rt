@@ -3,7 +3,7 @@
 ghost use Rattle.std.specs.Prelude.{◌≡◌, ◌≤◌, All, IfOk, IfSome, OnOk, true, length};
 ghost use Rattle.pod_path.specs.Hierarchy.{is_container};
 ghost use Rattle.message_cases.specs.Rows.{is_row_of};
-ghost use Rattle.slug_naming.specs.declared.names.TheConstants.{ROW_LIMIT};
+ghost use Rattle.slug_naming.specs.declared.name_candidates.TheConstants.{ROW_LIMIT};
 
 use case_words::bytes;
 use pod_base::{List, Mem, NoMemory};

@@ -25,7 +25,7 @@ pub(crate) struct Made {
     left: u64,
 }
 
-/// An equal name, which shares its memory with the ones before.
+/// An equal name of a patch document's variable, which shares its memory with the ones before.
 fn shared(alloc: Global, names: &mut BTreeSet<Text>, name: Text) -> Mem<Text>
     ensures { IfOk result (λ one. one ≡ name) }
 {
@@ -39,7 +39,7 @@ fn shared(alloc: Global, names: &mut BTreeSet<Text>, name: Text) -> Mem<Text>
     }
 }
 
-/// The node of a patch document that a node refers to.
+/// The node of a patch document that a collected triple's node refers to.
 fn node_of(
     alloc: Global,
     bytes: &[u8],
@@ -62,7 +62,7 @@ fn node_of(
     }
 }
 
-/// The formula that a triple is part of.
+/// The formula of a patch document that a collected triple is part of.
 fn within_formula(within: Within) -> Option<usize>
     ensures { result ≡ within_formula within }
 {
@@ -72,7 +72,7 @@ fn within_formula(within: Within) -> Option<usize>
     }
 }
 
-/// The triple over the nodes.
+/// The triple of a patch document that is collected, over its nodes.
 fn triple_of(
     alloc: Global,
     bytes: &[u8],
@@ -97,6 +97,7 @@ fn triple_of(
 }
 
 impl Made {
+    /// The triples of a patch document of which none are collected yet.
     pub(crate) fn new(alloc: Global) -> Made
         ensures list { result.list.items ≡ [] }
         ensures labels { (bytes : ListOf ℕ) → AreLazyLabelsOf bytes result.labels }
@@ -109,7 +110,7 @@ impl Made {
         }
     }
 
-    /// Appends a triple.
+    /// Appends a triple of a patch document to those that are collected.
     fn push(&mut self, alloc: Global, triple: PatchTriple) -> Mem<()>
         ensures list { OnOk result (self.new.list.items ≡ self.old.list.items ++ triple ∷ []) }
         ensures labels { self.new.labels ≡ self.old.labels }

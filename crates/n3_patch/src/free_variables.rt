@@ -14,7 +14,7 @@ use pod_base::{Mem, Text};
 use std::alloc::Global;
 use std::collections::BTreeSet;
 
-/// Inserts a name.
+/// Inserts a name into those of a patch document's conditions.
 fn insert_name(alloc: Global, names: &mut BTreeSet<Text>, name: &Text) -> Mem<()>
     ensures { OnOk result (AddsName names.old name.now names.new) }
 {
@@ -23,7 +23,8 @@ fn insert_name(alloc: Global, names: &mut BTreeSet<Text>, name: &Text) -> Mem<()
     Ok(())
 }
 
-/// Inserts the name of the slot's variable, if it has one.
+/// Inserts the name of the slot's variable, if it has one, into those of a patch document's
+/// conditions.
 fn insert_variable(alloc: Global, names: &mut BTreeSet<Text>, slot: &Slot) -> Mem<()>
     ensures { OnOk result (AddsSlot names.old slot.now names.new) }
 {
@@ -33,7 +34,7 @@ fn insert_variable(alloc: Global, names: &mut BTreeSet<Text>, slot: &Slot) -> Me
     }
 }
 
-/// Inserts the names of the pattern's variables.
+/// Inserts the names of the pattern's variables into those of a patch document's conditions.
 fn insert_variables(alloc: Global, names: &mut BTreeSet<Text>, pattern: &Pattern) -> Mem<()>
     ensures { OnOk result (AddsVariables names.old pattern.now names.new) }
 {
@@ -42,7 +43,7 @@ fn insert_variables(alloc: Global, names: &mut BTreeSet<Text>, pattern: &Pattern
     insert_variable(alloc, names, &pattern.o)
 }
 
-/// The names of the variables of the patterns.
+/// The names of the variables of a patch document's conditions, collected once.
 fn names_of(alloc: Global, patterns: &[Pattern]) -> Mem<BTreeSet<Text>>
     ensures { IfOk result (λ names. AreNamesOf names patterns.now) }
 {
@@ -53,7 +54,8 @@ fn names_of(alloc: Global, patterns: &[Pattern]) -> Mem<BTreeSet<Text>>
     Ok(names)
 }
 
-/// Whether the slot has no variable, or one of these.
+/// Whether the slot in a patch document has no free variable, since it has none or one with these
+/// names.
 fn has_slot(names: &BTreeSet<Text>, slot: &Slot) -> bool
     ensures { IsTrue result ↔ HasSlot names.now slot.now }
 {
@@ -63,14 +65,16 @@ fn has_slot(names: &BTreeSet<Text>, slot: &Slot) -> bool
     }
 }
 
-/// Whether each variable of the pattern is one of these.
+/// Whether the pattern in a patch document has no free variable, since each is one with these
+/// names.
 fn has_variables(names: &BTreeSet<Text>, pattern: &Pattern) -> bool
     ensures { IsTrue result ↔ HasNames names.now (HasVariable pattern.now) }
 {
     has_slot(names, &pattern.s) && has_slot(names, &pattern.p) && has_slot(names, &pattern.o)
 }
 
-/// Whether each variable of the patterns is one of these.
+/// Whether the patterns in a patch document have no free variable, since each is one with these
+/// names.
 fn has_all(names: &BTreeSet<Text>, patterns: &[Pattern]) -> bool
     ensures { IsTrue result ↔ HasNames names.now (IsVariableOf patterns.now) }
 {
@@ -82,7 +86,8 @@ fn has_all(names: &BTreeSet<Text>, patterns: &[Pattern]) -> bool
     true
 }
 
-/// Whether the names have each variable of the deletions and insertions.
+/// Whether a patch document's deletions and insertions have no free variable, since each is one
+/// with these names.
 fn has_rest(names: &BTreeSet<Text>, patch: &Patch) -> bool
     requires { AreNamesOf names.now patch.now.conditions.items }
     ensures { IsTrue result ↔ IsBound patch.now }
@@ -90,7 +95,8 @@ fn has_rest(names: &BTreeSet<Text>, patch: &Patch) -> bool
     has_all(names, patch.deletions.as_slice()) && has_all(names, patch.insertions.as_slice())
 }
 
-/// Whether each variable of the deletions and insertions is one of the conditions.
+/// Whether no variable of a patch document is free, so that each of its deletions and insertions is
+/// one of the conditions.
 pub(crate) fn is_bound(alloc: Global, patch: &Patch) -> Mem<bool>
     ensures { IfOk result (λ bound. IsTrue bound ↔ IsBound patch.now) }
 {

@@ -18,7 +18,7 @@ use graph_patch::Patch;
 use pod_base::{Mem, NoMemory};
 use std::alloc::Global;
 
-/// The patch of a resource.
+/// The patch of a resource in a patch document, as it is judged.
 fn patch_of(alloc: Global, resource: &PatchNode, triples: &[PatchTriple]) -> Mem<Patch>
     ensures { IfOk result (IsPatchOf resource.now triples.now) }
 {
@@ -48,7 +48,7 @@ fn broken_last(bound: bool, patch: &Patch) -> Option<PatchRule>
     }
 }
 
-/// The patch of a resource that keeps the rules that are tests.
+/// Judges the patterns of a resource that keeps the rules that are tests, and returns its patch.
 fn judge_patterns(
     alloc: Global,
     resource: &PatchNode,
@@ -71,7 +71,7 @@ fn judge_patterns(
     }
 }
 
-/// The patch of a resource, or the first rule that is broken.
+/// Judges a resource, and returns its patch or the first rule that is broken.
 fn judge_resource(
     alloc: Global,
     resource: &PatchNode,
@@ -87,7 +87,7 @@ fn judge_resource(
     }
 }
 
-/// The patch of the triples, or the first rule that they break.
+/// Judges the triples by the rules, and returns their patch or the first rule that they break.
 fn judge_rules(alloc: Global, triples: &[PatchTriple]) -> Result<Patch, Judgement>
     ensures patch { IfOk result (IsPatch triples.now) }
     ensures bound { IfOk result IsBound }
@@ -99,8 +99,9 @@ fn judge_rules(alloc: Global, triples: &[PatchTriple]) -> Result<Patch, Judgemen
     }
 }
 
-/// The patch of the triples of a document, else the first rule that they break, in the order of
-/// [`PatchRule`], else `TooLarge`, where their size is over `rdf_graph::TRIPLES_LIMIT`.
+/// Judges the triples of a document, and returns their patch, else the first rule that they break,
+/// in the order of [`PatchRule`], else `TooLarge`, where their size is over
+/// `rdf_graph::TRIPLES_LIMIT`.
 pub fn judge(alloc: Global, triples: &[PatchTriple]) -> Result<Patch, Judgement>
     ensures patch { IfOk result (IsJudged triples.now) }
     ensures bound { IfOk result IsBound }

@@ -8,25 +8,26 @@ ghost use Rattle.turtle_reader.specs.LanguageFaults.{HasOneFirstFault, PlacesAsc
 ghost use Rattle.n3_patch.specs.Laws.{HasOnePatch, HasOneRule, PatchBreaksNone, HasOneSpelledPatch};
 ghost use Rattle.n3_patch.specs.Answers.{HasOneAnswer};
 
-/// Triples have at most one patch, or at most one rule that they break first.
+/// The law that a patch document's triples have at most one patch, or at most one rule that they
+/// break first.
 pub fn one_judgement()
     ensures patch { HasOnePatch }
     ensures rule { HasOneRule }
     ensures either { PatchBreaksNone }
 {}
 
-/// A text parses to at most one patch.
+/// The law that a patch document parses to at most one patch.
 pub fn one_spelled_patch()
     ensures { HasOneSpelledPatch }
 {}
 
-/// A patch document has at most one first fault of syntax: that at the least position.
+/// The law that a patch document has at most one first fault of syntax: that at the least position.
 pub fn first_fault()
     ensures one { HasOneFirstFault (λ base bytes. NeverLarge) Patch }
     ensures least { PlacesAscend (λ base bytes. NeverLarge) Patch }
 {}
 
-/// A text is read as one patch, or has one fault beside out of memory.
+/// The law that a patch document is read as one patch, or has one fault beside out of memory.
 pub fn one_answer()
     ensures { HasOneAnswer }
 {}

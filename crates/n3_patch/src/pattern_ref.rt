@@ -78,7 +78,7 @@ impl<'a> Ord for PatternRef<'a> {
     }
 }
 
-/// Compares nodes by their slots.
+/// Compares the nodes of two pattern references by their slots.
 fn cmp_nodes(node: &PatchNode, other: &PatchNode) -> Ordering
     ensures { result ≡ slot_cmp (slot_like node.now) (slot_like other.now) }
 {
@@ -89,6 +89,7 @@ fn cmp_nodes(node: &PatchNode, other: &PatchNode) -> Ordering
     }
 }
 
+/// Compares a term with a node of a pattern reference by their slots.
 #[tactic(auto, unfolding(graph_patch::specs::PatternOrder::slot_cmp, rdf_graph::specs::TermOrder::term_cmp))]
 fn cmp_term(term: &Term, other: &PatchNode) -> Ordering
     ensures { result ≡ slot_cmp (Fixed term.now) (slot_like other.now) }
@@ -99,6 +100,7 @@ fn cmp_term(term: &Term, other: &PatchNode) -> Ordering
     }
 }
 
+/// Compares a variable with a node of a pattern reference by their slots.
 #[tactic(auto, unfolding(graph_patch::specs::PatternOrder::slot_cmp))]
 fn cmp_variable(name: &str, other: &PatchNode) -> Ordering
     ensures { result ≡ slot_cmp (Var name.now) (slot_like other.now) }
@@ -110,7 +112,7 @@ fn cmp_variable(name: &str, other: &PatchNode) -> Ordering
     }
 }
 
-/// How each text that begins with `?` compares with a term's.
+/// How a variable's text in a pattern reference, which begins with `?`, compares with a term's.
 #[tactic(auto, unfolding(rdf_graph::specs::Term::text))]
 fn cmp_with_variable(term: &Term) -> Ordering
     ensures { (name : List ℕ) → result ≡ bytes_cmp (63 ∷ name) (text term.now) }
@@ -121,7 +123,7 @@ fn cmp_with_variable(term: &Term) -> Ordering
     }
 }
 
-/// How a term's text compares with each text that begins with `?`.
+/// How a term's text in a pattern reference compares with a variable's, which begins with `?`.
 #[tactic(auto, unfolding(rdf_graph::specs::Term::text))]
 fn cmp_to_variable(term: &Term) -> Ordering
     ensures { (name : List ℕ) → result ≡ bytes_cmp (text term.now) (63 ∷ name) }

@@ -19,6 +19,7 @@ use pod_base::{List, Mem, NoMemory};
 use std::alloc::Global;
 use std::collections::BTreeSet;
 
+/// Appends a pattern to those of a part.
 fn push_pattern(alloc: Global, patterns: &mut List<Pattern>, pattern: Pattern) -> Mem<()>
     ensures { OnOk result (patterns.new.items ≡ patterns.old.items ++ pattern ∷ []) }
 {
@@ -28,7 +29,7 @@ fn push_pattern(alloc: Global, patterns: &mut List<Pattern>, pattern: Pattern) -
     }
 }
 
-/// Puts the pattern of a triple in, and returns whether it is new.
+/// Puts the pattern of a triple into those of a part, and returns whether it is new.
 fn insert_new<'a>(seen: &mut BTreeSet<PatternRef<'a>>, triple: &'a PatchTriple) -> Mem<bool>
     ensures new { IfOk result (λ new. new
         ≡ not (contains pattern_cmp seen.old (pattern_like triple.now))) }
@@ -38,7 +39,7 @@ fn insert_new<'a>(seen: &mut BTreeSet<PatternRef<'a>>, triple: &'a PatchTriple) 
     Ok(seen.insert(PatternRef { triple })?)
 }
 
-/// Appends the pattern of a triple, if it is new.
+/// Appends the pattern of a triple to those of a part, if it is new.
 fn add_pattern<'a>(
     alloc: Global,
     seen: &mut BTreeSet<PatternRef<'a>>,
@@ -59,7 +60,7 @@ fn add_pattern<'a>(
     }
 }
 
-/// Whether the triple is in the formula of this index.
+/// Whether the triple is in the formula of this index, and so one of a part's patterns.
 fn stands_in(index: usize, triple: &PatchTriple) -> bool
     ensures { result ≡ is_this_formula index triple.now.formula }
 {
@@ -69,7 +70,7 @@ fn stands_in(index: usize, triple: &PatchTriple) -> bool
     }
 }
 
-/// Appends the pattern of a triple, if it is in the formula and is new.
+/// Appends the pattern of a triple to those of a part, if it is in the formula and is new.
 fn add_if_inside<'a>(
     alloc: Global,
     seen: &mut BTreeSet<PatternRef<'a>>,
@@ -87,7 +88,7 @@ fn add_if_inside<'a>(
     }
 }
 
-/// The patterns of a formula, each once, in the order of their first occurrence.
+/// The patterns of a part's formula, each once, in the order of their first occurrence.
 fn formula_patterns(alloc: Global, index: usize, triples: &[PatchTriple]) -> Mem<List<Pattern>>
     ensures { IfOk result (λ patterns. patterns.items ≡ with_formula index triples.now []) }
 {
@@ -99,7 +100,7 @@ fn formula_patterns(alloc: Global, index: usize, triples: &[PatchTriple]) -> Mem
     Ok(patterns)
 }
 
-/// The formula that is the object of a triple.
+/// The formula with a part's patterns, which is the object of a triple.
 fn object_formula(triple: Option<&PatchTriple>) -> Option<usize>
     ensures { result ≡ object_formula (option_copied triple.entry) }
 {

@@ -19,7 +19,7 @@ use std::alloc::Global;
 use turtle_reader::walk;
 use turtle_terms::TurtleFault;
 
-/// The triples of a document, in order of production.
+/// Reads the triples of a patch document, in order of production.
 fn read_triples(alloc: Global, base: &Iri, bytes: &[u8]) -> Result<List<PatchTriple>, TurtleFault>
     ensures spells { IfOk result (λ list. SpellsTriples base.now bytes.now list.items) }
     ensures sound { OnOk result (HasNoFault base.now bytes.now) }
@@ -33,7 +33,7 @@ fn read_triples(alloc: Global, base: &Iri, bytes: &[u8]) -> Result<List<PatchTri
     }
 }
 
-/// A fault of syntax as it is reported: by its position alone.
+/// A fault of syntax in a patch document as it is reported: by its position alone.
 fn syntax(fault: TurtleFault) -> N3Fault
     ensures { result ≡ told_as fault }
 {
@@ -44,7 +44,7 @@ fn syntax(fault: TurtleFault) -> N3Fault
     }
 }
 
-/// The patch that the bytes parse to, or their first fault.
+/// Reads the patch that the bytes of a patch document parse to, or their first fault.
 fn read_patch(alloc: Global, base: &Iri, bytes: &[u8]) -> Result<Patch, N3Fault>
     ensures spells { IfOk result (PatchSpells base.now bytes.now) }
     ensures sound { OnOk result (HasNoFault base.now bytes.now) }
@@ -62,7 +62,7 @@ fn read_patch(alloc: Global, base: &Iri, bytes: &[u8]) -> Result<Patch, N3Fault>
     }
 }
 
-/// The patch that the bytes parse to under a base IRI.
+/// Reads the patch that the bytes of an N3 Patch document parse to under a base IRI.
 ///
 /// # Errors
 ///

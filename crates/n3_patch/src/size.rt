@@ -20,7 +20,7 @@ pub const KEPT_BYTES_LIMIT: u64 = 67_108_864;
 /// object is a formula, and for patterns of which almost all are of variables alone.
 const TRIPLE_BYTES: u64 = 224;
 
-/// The number as a size.
+/// The number as a size of a patch document.
 #[tactic(auto, unfolding(rdf_graph::specs::Size::saturated))]
 fn size_of(number: usize) -> u64
     ensures { result ≡ saturated number }
@@ -28,7 +28,7 @@ fn size_of(number: usize) -> u64
     number as u64
 }
 
-/// The size of a node.
+/// The size of a node of a patch document.
 fn node_bytes(node: &PatchNode) -> u64
     ensures { result ≡ saturated (node_size node.now) }
 {
@@ -42,7 +42,7 @@ fn node_bytes(node: &PatchNode) -> u64
     }
 }
 
-/// The size of a triple's nodes.
+/// The size of the nodes of a patch document's triple.
 fn nodes_bytes(triple: &PatchTriple) -> u64
     ensures { result ≡ saturated (nodes_size triple.now) }
 {
@@ -50,12 +50,12 @@ fn nodes_bytes(triple: &PatchTriple) -> u64
     saturating_sum(node_bytes(&triple.subject), rest)
 }
 
-/// The bytes that a triple counts while the document is read.
+/// The size that a triple counts while a patch document is read.
 pub(crate) fn kept_bytes(triple: &PatchTriple) -> u64 {
     TRIPLE_BYTES.saturating_add(nodes_bytes(triple))
 }
 
-/// What a triple counts for the size of the document.
+/// The size that a triple counts for that of the patch document.
 fn counted_bytes(triple: &PatchTriple) -> u64
     ensures { result ≡ saturated (counted_size triple.now) }
 {
@@ -66,7 +66,7 @@ fn counted_bytes(triple: &PatchTriple) -> u64
     }
 }
 
-/// The size of the document.
+/// The size of a patch document.
 fn document_bytes(triples: &[PatchTriple]) -> u64
     ensures { result ≡ saturated (patch_size triples.now) }
 {
@@ -77,7 +77,7 @@ fn document_bytes(triples: &[PatchTriple]) -> u64
     size
 }
 
-/// Whether the document is larger than the limit of a graph's.
+/// Whether the size of a patch document is larger than the limit of a graph's.
 #[tactic(auto, unfolding(rdf_graph::specs::Size::saturated))]
 pub(crate) fn is_too_large(triples: &[PatchTriple]) -> bool
     ensures large { OnTrue result (TRIPLES_LIMIT < patch_size triples.now) }

@@ -30,6 +30,7 @@ pub struct PatchTriple {
     pub formula: Option<usize>,
 }
 
+/// Whether the term of a patch document's triple is this IRI.
 fn is_iri_term(term: &Term, iri: &str) -> bool
     ensures { result ≡ is_iri_term iri.now term.now }
 {
@@ -39,6 +40,7 @@ fn is_iri_term(term: &Term, iri: &str) -> bool
     }
 }
 
+/// Whether the term of a patch document's triple is a blank node.
 fn is_blank_term(term: &Term) -> bool
     ensures { result ≡ is_blank_term term.now }
 {
@@ -46,7 +48,7 @@ fn is_blank_term(term: &Term) -> bool
 }
 
 impl PatchNode {
-    /// Whether it is this IRI.
+    /// Whether the node of a patch document's triple is this IRI.
     pub(crate) fn is_iri(&self, iri: &str) -> bool
         ensures { result ≡ is_iri iri.now self.now }
     {
@@ -56,12 +58,14 @@ impl PatchNode {
         }
     }
 
+    /// Whether the node of a patch document's triple is a formula.
     pub(crate) fn is_formula(&self) -> bool
         ensures { result ≡ is_formula self.now }
     {
         matches!(self, PatchNode::Formula(_))
     }
 
+    /// Whether the node of a patch document's triple is a blank node.
     pub(crate) fn is_blank(&self) -> bool
         ensures { result ≡ is_blank self.now }
     {
@@ -71,7 +75,7 @@ impl PatchNode {
         }
     }
 
-    /// Whether it is the same node.
+    /// Whether the other node of a patch document's triples is the same.
     pub(crate) fn is(&self, other: &PatchNode) -> bool
         ensures { result ≡ node_eq self.now other.now }
     {
@@ -91,6 +95,7 @@ impl PatchNode {
         }
     }
 
+    /// The slot that the node of a patch document's triple has in a pattern, if it is no formula.
     fn slot(&self, alloc: Global) -> Mem<Option<Slot>>
         ensures { IfOk result (λ slot. slot ≡ slot_of self.now) }
     {
@@ -102,7 +107,7 @@ impl PatchNode {
     }
 }
 
-/// The pattern of these slots.
+/// The pattern of these slots, which the nodes of a triple have.
 fn pattern_from(s: Option<Slot>, p: Option<Slot>, o: Option<Slot>) -> Option<Pattern>
     ensures { result ≡ pattern_from s p o }
 {
@@ -113,21 +118,21 @@ fn pattern_from(s: Option<Slot>, p: Option<Slot>, o: Option<Slot>) -> Option<Pat
 }
 
 impl PatchTriple {
-    /// Whether it is in a formula.
+    /// Whether the triple is in a formula.
     pub(crate) fn is_inside(&self) -> bool
         ensures { result ≡ is_inside self.now }
     {
         self.formula.is_some()
     }
 
-    /// Whether it is outside formulas.
+    /// Whether the triple is outside formulas.
     pub(crate) fn is_outside(&self) -> bool
         ensures { result ≡ is_outside self.now }
     {
         !self.is_inside()
     }
 
-    /// Its pattern, if no node is a formula.
+    /// The triple's pattern, if no node is a formula.
     pub(crate) fn pattern(&self, alloc: Global) -> Mem<Option<Pattern>>
         ensures { IfOk result (λ pattern. pattern ≡ pattern_of self.now) }
     {

@@ -24,7 +24,7 @@ pub enum Part {
 }
 
 impl Part {
-    /// Its property.
+    /// The IRI of the part's property.
     pub(crate) fn iri(self) -> &'static str
         ensures { result.now ≡ part_iri self }
     {

@@ -15,8 +15,8 @@ use Rattle.rdf_graph.specs.declared.triple.Triple.{Triple}
 use Rattle.graph_patch.proofs.Patching.{the_solution}
 use Rattle.patch_outcome.specs.Outcomes.{NamesContainment, HasFixedContainment, HasSolvedContainment, TouchesContainment}
 use Rattle.patch_outcome.specs.Outcomes.{KeepsContainment, IsRefusal, IsRefusedBy, fault_of}
-use Rattle.patch_outcome.specs.declared.refusal.PatchRefusal.{PatchRefusal}
-use Rattle.patch_outcome.specs.declared.refusal.PatchRefusal.TheVariants as refusals
+use Rattle.patch_outcome.specs.declared.patch_refusals.PatchRefusal.{PatchRefusal}
+use Rattle.patch_outcome.specs.declared.patch_refusals.PatchRefusal.TheVariants as refusals
 
 slot_moved : (m n : Binding) → SameBinding m n → (slot : Slot) → slot_term m slot ≡ slot_term n slot
 slot_moved m n same (Fixed term) = refl

@@ -19,8 +19,8 @@ use Rattle.patch_outcome.specs.Laws.{HasOneOutcome, HasOneUpdateOutcome}
 use Rattle.patch_outcome.specs.Outcomes.{NamesContainment, TouchesContainment}
 use Rattle.patch_outcome.specs.Outcomes.{HasGraphs, KeepsContainment, IsRefusal, IsOutcome}
 use Rattle.patch_outcome.specs.Updates.{IsContainsRefusal, IsSpelledOutcome}
-use Rattle.patch_outcome.specs.declared.refusal.PatchRefusal.{PatchRefusal}
-use Rattle.patch_outcome.specs.declared.refusal.PatchRefusal.TheVariants.{Contains as Children, NoMatch, ManyMatches, MissingDeletion, NotTriple}
+use Rattle.patch_outcome.specs.declared.patch_refusals.PatchRefusal.{PatchRefusal}
+use Rattle.patch_outcome.specs.declared.patch_refusals.PatchRefusal.TheVariants.{Contains as Children, NoMatch, ManyMatches, MissingDeletion, NotTriple}
 
 -- ---- equal mappings
 

@@ -6,7 +6,7 @@ use Rattle.rdf_graph.specs.declared.triple.Triple.{Triple}
 use Rattle.sparql_patch.specs.declared.named.Named.{Named}
 use Rattle.patch_outcome.specs.Outcomes.{HasGraphs, IsOutcome}
 use Rattle.patch_outcome.specs.Updates.{IsUpdateOutcome}
-use Rattle.patch_outcome.specs.declared.refusal.PatchRefusal.{PatchRefusal}
+use Rattle.patch_outcome.specs.declared.patch_refusals.PatchRefusal.{PatchRefusal}
 
 -- A patch has at most one outcome at a graph. It depends on the items of the patch's lists alone.
 abbrev pub HasOneOutcome : Type 0

@@ -11,10 +11,10 @@ use Rattle.graph_patch.specs.declared.patch.Patch.{Patch}
 use Rattle.graph_patch.specs.declared.patch.PatchFault.{PatchFault}
 use Rattle.graph_patch.specs.declared.patch.PatchFault.TheVariants as faults
 use Rattle.rdf_graph.specs.declared.triple.Triple.{Triple}
-use Rattle.patch_outcome.specs.declared.refusal.PatchRefusal.{PatchRefusal}
-use Rattle.patch_outcome.specs.declared.refusal.PatchRefusal.TheVariants.{Contains, NoMatch}
-use Rattle.patch_outcome.specs.declared.refusal.PatchRefusal.TheVariants.{ManyMatches, NotTriple}
-use Rattle.patch_outcome.specs.declared.refusal.PatchRefusal.TheVariants.{MissingDeletion}
+use Rattle.patch_outcome.specs.declared.patch_refusals.PatchRefusal.{PatchRefusal}
+use Rattle.patch_outcome.specs.declared.patch_refusals.PatchRefusal.TheVariants.{Contains, NoMatch}
+use Rattle.patch_outcome.specs.declared.patch_refusals.PatchRefusal.TheVariants.{ManyMatches, NotTriple}
+use Rattle.patch_outcome.specs.declared.patch_refusals.PatchRefusal.TheVariants.{MissingDeletion}
 
 -- under the mapping a deletion or an insertion has `ldp:contains` as its predicate
 abbrev pub NamesContainment : Binding → Patch → Type 0

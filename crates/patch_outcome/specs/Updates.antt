@@ -11,8 +11,8 @@ use Rattle.rdf_graph.specs.declared.triple.Triple.{Triple}
 use Rattle.sparql_patch.specs.NamedUpdate.{IsSpelledAt}
 use Rattle.sparql_patch.specs.declared.named.Named.{Named}
 use Rattle.patch_outcome.specs.Outcomes.{IsOutcome}
-use Rattle.patch_outcome.specs.declared.refusal.PatchRefusal.{PatchRefusal}
-use Rattle.patch_outcome.specs.declared.refusal.PatchRefusal.TheVariants.{Contains}
+use Rattle.patch_outcome.specs.declared.patch_refusals.PatchRefusal.{PatchRefusal}
+use Rattle.patch_outcome.specs.declared.patch_refusals.PatchRefusal.TheVariants.{Contains}
 
 abbrev pub is_containment : Named → Bool
 is_containment naming = term_eq naming.triple.p (Iri ldp_contains)

@@ -2,9 +2,9 @@
 
 ghost use Rattle.patch_outcome.specs.Laws.{HasOneOutcome, HasOneUpdateOutcome};
 
-/// A patch, and an update, has at most one outcome at a graph: one change, whose triples are in the
-/// order of graphs, or one refusal. Of a patch the items of its lists count, and not their
-/// capacity.
+/// The law that a patch, and an update, has at most one outcome at a graph: one change, whose
+/// triples are in the order of graphs, or one refusal. Of a patch the items of its lists count, and
+/// not their capacity.
 pub fn one_outcome()
     ensures patch { HasOneOutcome }
     ensures update { HasOneUpdateOutcome }

@@ -18,10 +18,10 @@
 #![tactic(auto)]
 
 pub mod laws;
-mod outcomes;
-mod refusal;
-mod update;
+mod patch_outcomes;
+mod patch_refusals;
+mod update_outcomes;
 
-pub use outcomes::outcome;
-pub use refusal::PatchRefusal;
-pub use update::update_outcome;
+pub use patch_outcomes::outcome;
+pub use patch_refusals::PatchRefusal;
+pub use update_outcomes::update_outcome;

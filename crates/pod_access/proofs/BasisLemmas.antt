@@ -8,7 +8,7 @@ use Rattle.acl_rules.specs.declared.rule.Subject.{Subject}
 use Rattle.pod_base.specs.declared.agent.Agent.{Agent}
 use Rattle.pod_command.specs.declared.basis.Basis.{Basis}
 use Rattle.pod_access.specs.Decision.{basis_at, basis_in, subjects_at, subjects_of}
-use Rattle.pod_access.specs.declared.decision.Ground.{Ground}
+use Rattle.pod_access.specs.declared.granting_rules.Ground.{Ground}
 use Rattle.pod_access.specs.declared.request_needs.Need.{Need}
 use Rattle.pod_rows.specs.Access.{Governs, governed, effective_of, list_path, rules_at}
 use Rattle.pod_rows.specs.Pod.{Pod}

@@ -11,7 +11,7 @@ use Rattle.pod_base.specs.declared.agent.Mode.{Mode}
 use Rattle.acl_rules.specs.declared.rule.How.{How}
 use Rattle.acl_rules.specs.declared.rule.Rule.{Rule}
 use Rattle.acl_rules.specs.declared.rule.Subject.{Subject}
-use Rattle.pod_access.specs.declared.decision.Ground.{Ground}
+use Rattle.pod_access.specs.declared.granting_rules.Ground.{Ground}
 use Rattle.pod_access.specs.Decision.{covers, is_about, has_mode, has_subject, rule_grants, subjects_of, subjects_at, ground_in, first_ground, IsFirstGround}
 use Rattle.pod_access.specs.Grants.{Membership}
 use Rattle.pod_access.proofs.Positions.{IsFirst, position_fails, first_of, some_position, passes_any, slice_get_member}

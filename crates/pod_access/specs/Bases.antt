@@ -5,7 +5,7 @@ use Rattle.pod_base.specs.declared.agent.Agent.{Agent}
 use Rattle.pod_base.specs.declared.agent.Mode.{Mode}
 use Rattle.pod_command.specs.declared.basis.Basis.{Basis}
 use Rattle.pod_access.specs.Decision.{first_ground, basis_at}
-use Rattle.pod_access.specs.declared.decision.Ground.{Ground}
+use Rattle.pod_access.specs.declared.granting_rules.Ground.{Ground}
 use Rattle.pod_access.specs.declared.request_needs.Need.{Need}
 use Rattle.pod_rows.specs.Access.{Governs, effective_of, list_path, rules_at}
 use Rattle.pod_rows.specs.Pod.{Pod}

@@ -19,7 +19,7 @@ use Rattle.acl_rules.specs.declared.rule.Rule.{Rule}
 use Rattle.acl_rules.specs.declared.rule.Subject.{Subject}
 use Rattle.acl_rules.specs.declared.rule.Subject.TheVariants.{Agent as AgentSubject}
 use Rattle.acl_rules.specs.declared.rule.Subject.TheVariants.{Everyone, Authenticated, Group}
-use Rattle.pod_access.specs.declared.decision.Ground.{Ground}
+use Rattle.pod_access.specs.declared.granting_rules.Ground.{Ground}
 use Rattle.pod_access.specs.Grants.{Membership}
 use Rattle.pod_access.specs.Modes.{includes}
 

@@ -12,7 +12,7 @@ ghost use Rattle.acl_rules.specs.declared.rule.How.{How};
 ghost use Rattle.pod_access.specs.Decision.{rule_grants};
 ghost use Rattle.pod_access.specs.Grants.{Membership, NodeGrants};
 
-/// The rule of a node grants exactly where the node does.
+/// The rule of a node grants access exactly where the node does by its graph.
 pub fn rule_law()
     ensures { (member : Membership) (base : List ℕ) (g : List Triple) (how : How) (at : List ℕ)
         (agent : Agent) (mode : Mode) (node : Term) → IsUriOf base (uri_of base at) at

@@ -29,17 +29,17 @@
 //! by row.
 #![tactic(auto)]
 
-mod allow;
-mod allow_value;
-mod bases;
-mod basis;
-mod decision;
+mod granted_needs;
+mod granting_rules;
 pub mod laws;
+mod recorded_basis;
 mod request_needs;
+mod wac_allow_field;
+mod wac_allow_words;
 
-pub use allow::wac_allow;
-pub use allow_value::allow_field;
-pub use bases::{decide, is_granted};
-pub use basis::basis_of;
-pub use decision::{Ground, granted, granted_modes};
+pub use granted_needs::{decide, is_granted};
+pub use granting_rules::{Ground, granted, granted_modes};
+pub use recorded_basis::basis_of;
 pub use request_needs::{Need, Shape, needs};
+pub use wac_allow_field::allow_field;
+pub use wac_allow_words::wac_allow;

@@ -36,7 +36,7 @@ pub struct Shape {
     pub tags: bool,
 }
 
-/// What a request needs, each need once, at its first position in the table of
+/// The modes that a request needs, and where: each need once, at its first position in the table of
 /// docs/rules/access.md.
 pub fn needs(alloc: Global, shape: &Shape) -> Mem<List<Need>>
     ensures { IfOk result (λ needs. needs.items ≡ needs_of shape.now) }
@@ -55,7 +55,7 @@ pub fn needs(alloc: Global, shape: &Shape) -> Mem<List<Need>>
     Ok(needs)
 }
 
-/// Adds the needs on the subject of an ACL or a description.
+/// Adds the needs of a request on the subject of an ACL or a description.
 fn add_auxiliary(alloc: Global, needs: &mut List<Need>, shape: &Shape, subject: &Path) -> Mem<()>
     ensures { OnOk result (needs.new.items ≡ fold with_need needs.old.items
         (if is_acl shape.now.path then on subject.now (Control ∷ [])
@@ -121,7 +121,7 @@ fn add_delete(alloc: Global, needs: &mut List<Need>, path: &Path) -> Mem<()>
     }
 }
 
-/// Adds the needs of a new row.
+/// Adds the needs of a request that makes a new row.
 fn add_new_row(alloc: Global, needs: &mut List<Need>, shape: &Shape) -> Mem<()>
     ensures { OnOk result (needs.new.items ≡ fold with_need needs.old.items
         (new_row_needs shape.now)) }
@@ -145,7 +145,7 @@ fn add_description(alloc: Global, needs: &mut List<Need>, shape: &Shape, subject
     }
 }
 
-/// Adds what the patch of a request needs on a path.
+/// Adds the needs of a PATCH on a path, by what its patch does.
 fn add_patch_modes(alloc: Global, needs: &mut List<Need>, shape: &Shape, path: &Path) -> Mem<()>
     ensures { OnOk result (needs.new.items ≡ fold with_need needs.old.items
         (on path.now (patch_modes shape.now))) }
@@ -162,7 +162,7 @@ fn add_patch_modes(alloc: Global, needs: &mut List<Need>, shape: &Shape, path: &
     Ok(())
 }
 
-/// Adds what the preconditions of a request need on a path.
+/// Adds the needs of a request's preconditions on a path.
 fn add_tags(alloc: Global, needs: &mut List<Need>, shape: &Shape, path: &Path) -> Mem<()>
     ensures { OnOk result (needs.new.items ≡ fold with_need needs.old.items
         (on path.now (tag_modes shape.now))) }
@@ -173,7 +173,7 @@ fn add_tags(alloc: Global, needs: &mut List<Need>, shape: &Shape, path: &Path) -
     Ok(())
 }
 
-/// Adds modes on a path, but for those that are among the needs.
+/// Adds modes on a path to the needs of a request, but for those that are among them.
 fn add(alloc: Global, needs: &mut List<Need>, path: &Path, modes: &[Mode]) -> Mem<()>
     ensures { OnOk result (needs.new.items ≡ fold with_need needs.old.items
         (on path.now modes.now)) }
@@ -184,7 +184,7 @@ fn add(alloc: Global, needs: &mut List<Need>, path: &Path, modes: &[Mode]) -> Me
     Ok(())
 }
 
-/// Adds a mode on a path, unless it is among the needs.
+/// Adds a mode on a path to the needs of a request, unless it is among them.
 fn add_one(alloc: Global, needs: &mut List<Need>, path: &Path, mode: Mode) -> Mem<()>
     ensures { OnOk result (needs.new.items
         ≡ with_need needs.old.items (record { path = path.now; mode = mode })) }
@@ -195,7 +195,7 @@ fn add_one(alloc: Global, needs: &mut List<Need>, path: &Path, mode: Mode) -> Me
     push(alloc, needs, path, mode)
 }
 
-/// Adds a mode on a path.
+/// Appends a mode on a path to the needs of a request.
 fn push(alloc: Global, needs: &mut List<Need>, path: &Path, mode: Mode) -> Mem<()>
     ensures { OnOk result (needs.new.items
         ≡ needs.old.items ++ (record { path = path.now; mode = mode }) ∷ []) }
@@ -207,7 +207,7 @@ fn push(alloc: Global, needs: &mut List<Need>, path: &Path, mode: Mode) -> Mem<(
     }
 }
 
-/// Whether the mode on the path is among the needs.
+/// Whether a mode on a path is among the needs of a request.
 fn has_need(needs: &[Need], path: &Path, mode: Mode) -> bool
     ensures { result ≡ list_any (need_eq (record { path = path.now; mode = mode })) needs.now }
 {
@@ -216,7 +216,7 @@ fn has_need(needs: &[Need], path: &Path, mode: Mode) -> bool
         .any(|need| is_mode(mode, need.mode) && *path == need.path)
 }
 
-/// Whether these are one mode.
+/// Whether the modes of two needs of a request are the same.
 fn is_mode(a: Mode, b: Mode) -> bool
     ensures { result ≡ mode_eq a b }
 {

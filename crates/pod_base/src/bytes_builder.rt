@@ -22,7 +22,7 @@ impl Model for BytesBuilder {
 }
 
 impl BytesBuilder {
-    /// No bytes; they grow by `alloc`. It takes no memory.
+    /// A builder without bytes, which grow by `alloc`. It takes no memory.
     pub fn new(alloc: Global) -> BytesBuilder
         ensures { result ≡ [] }
     {
@@ -48,14 +48,14 @@ impl BytesBuilder {
         Ok(())
     }
 
-    /// How many there are.
+    /// How many bytes have been appended.
     pub fn len(&self) -> usize
         ensures { result ≡ length self.now }
     {
         self.bytes.len()
     }
 
-    /// Whether there are none.
+    /// Whether no byte has been appended.
     pub fn is_empty(&self) -> bool
         ensures { result ≡ (length self.now == 0) }
     {

@@ -18,15 +18,15 @@ pub struct Field {
 }
 
 impl Field {
-    /// Whether that is the field's name. Letters of ASCII are compared in any case (RFC 9110
-    /// section 5.1).
+    /// Whether that is the name of a message's field. Letters of ASCII are compared in any case
+    /// (RFC 9110 section 5.1).
     pub fn is_named(&self, name: &str) -> bool
         ensures { result ≡ is_named name.now self.now }
     {
         self.name.as_str().eq_ignore_ascii_case(name)
     }
 
-    /// An equal field, which shares the name and the value.
+    /// An equal field of a message, which shares the name and the value.
     pub fn copy(&self, alloc: Global) -> Mem<Field>
         ensures { IfOk result (λ copy. copy ≡ self.now) }
     {
@@ -53,7 +53,7 @@ impl Model for Fields {
 }
 
 impl Fields {
-    /// No fields.
+    /// The fields of a message that has none.
     pub fn new(alloc: Global) -> Fields
         ensures { result ≡ [] }
     {
@@ -62,7 +62,7 @@ impl Fields {
         }
     }
 
-    /// Appends a field. Out of memory, nothing changes.
+    /// Appends a field to those of a message. Out of memory, nothing changes.
     pub fn add(&mut self, alloc: Global, field: Field) -> Mem<()>
         ensures added { OnOk result (self.new ≡ self.old ++ field ∷ []) }
         ensures unchanged { OnErr result (self.new ≡ self.old) }
@@ -73,7 +73,7 @@ impl Fields {
         }
     }
 
-    /// The value of the first field of that name.
+    /// The value of the first field of a message with that name.
     pub fn first(&self, name: &str) -> Option<&Bytes>
         ensures { option_copied result ≡ option_map (λ f. f.value) (find (is_named name.now) self.now) }
     {
@@ -85,7 +85,7 @@ impl Fields {
         Some(&field.value)
     }
 
-    /// How many fields have that name.
+    /// How many fields of a message have that name.
     pub fn count(&self, name: &str) -> usize
         ensures { result ≡ count_by (is_named name.now) self.now }
     {
@@ -96,7 +96,8 @@ impl Fields {
             .count()
     }
 
-    /// Equal fields, which share their names and values. It takes memory for the list alone.
+    /// Equal fields of a message, which share their names and values. It takes memory for the list
+    /// alone.
     pub fn copy(&self, alloc: Global) -> Mem<Fields>
         ensures { IfOk result (λ copy. copy ≡ self.now) }
     {

@@ -60,22 +60,22 @@ impl<T> List<T> {
         self.items
     }
 
-    /// How many items it has.
+    /// How many items the list has.
     pub fn len(&self) -> usize
         ensures { result ≡ length self.now.items }
     {
         self.items.len()
     }
 
-    /// Whether it has none.
+    /// Whether the list has no item.
     pub fn is_empty(&self) -> bool
         ensures { result ≡ (length self.now.items == 0) }
     {
         self.items.is_empty()
     }
 
-    /// Appends an item. It hands the item back only when out of memory; where there is room it
-    /// takes no memory and succeeds.
+    /// Appends an item to the list. It hands the item back only when out of memory; where there is
+    /// room it takes no memory and succeeds.
     pub fn push(&mut self, _alloc: Global, item: T) -> Result<(), T>
         ensures items { self.new.items ≡ (if is_ok result then self.old.items ++ item ∷ [] else self.old.items) }
         ensures back { IfErr result (λ back. back ≡ item) }
@@ -89,7 +89,7 @@ impl<T> List<T> {
         }
     }
 
-    /// Makes room for that many more items.
+    /// Makes room in the list for that many more items.
     pub fn reserve(&mut self, _alloc: Global, more: usize) -> Mem<()>
         ensures items { self.new.items ≡ self.old.items }
         ensures room { OnOk result (more ≤ self.new.room) }
@@ -101,7 +101,7 @@ impl<T> List<T> {
         Ok(())
     }
 
-    /// Takes the last item, which leaves room for one more.
+    /// Takes the last item of the list, which leaves room for one more.
     pub fn pop(&mut self) -> Option<T>
         ensures items { self.old.items ≡ self.new.items ++ option_to_list result }
         ensures some { IsSome result ↔ (0 < length self.old.items) }
@@ -114,14 +114,14 @@ impl<T> List<T> {
         last
     }
 
-    /// Lends the items.
+    /// Lends the items of the list.
     pub fn as_slice(&self) -> &[T]
         ensures { result.now ≡ self.now.items }
     {
         self.items.as_slice()
     }
 
-    /// Lends the items to be changed.
+    /// Lends the items of the list to be changed.
     pub fn as_mut_slice(&mut self) -> &mut [T]
         ensures* writes_back { sem 𝓛 (LendsItems T.row self.entry result) }
         ensures items { result.now ≡ self.old.items }

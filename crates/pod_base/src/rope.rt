@@ -31,7 +31,8 @@ impl Model for Rope {
     ghost invariant = { λ r. r.size ≡ length (r.first ++ concat r.more.items) };
 }
 
-/// Copies a text from a byte on, as far as both slices go: returns how many bytes.
+/// Copies the bytes of a rope's piece from an offset on, as far as both slices go: returns how many
+/// bytes.
 pub fn copy_bytes(text: &[u8], offset: usize, into: &mut [u8]) -> usize
     ensures count { result ≡ min (length text.now - offset) (length into.old) }
     ensures copied { into.new ≡ take result (drop offset text.now) ++ drop result into.old }
@@ -43,7 +44,7 @@ pub fn copy_bytes(text: &[u8], offset: usize, into: &mut [u8]) -> usize
     count
 }
 
-/// Copies pieces one after another from a byte on, where the bytes before them were copied.
+/// Copies the pieces of a rope one after another from an offset on, and returns how many bytes.
 fn copy_pieces(pieces: &[Bytes], offset: usize, into: &mut [u8]) -> usize
     ensures count { result ≡ min (length (concat pieces.now) - offset) (length into.old) }
     ensures copied { into.new ≡ take result (drop offset (concat pieces.now)) ++ drop result into.old }
@@ -57,8 +58,8 @@ fn copy_pieces(pieces: &[Bytes], offset: usize, into: &mut [u8]) -> usize
     count
 }
 
-/// A piece and those after it in one block, that of the first where no other follows.
-fn joined(alloc: Global, first: &Bytes, more: &[Bytes]) -> Mem<Bytes>
+/// The pieces of a rope in one block: that of the first piece, where no other follows.
+fn join_pieces(alloc: Global, first: &Bytes, more: &[Bytes]) -> Mem<Bytes>
     ensures { IfOk result (λ bytes. bytes ≡ first.now ++ concat more.now) }
 {
     if more.is_empty() {
@@ -128,6 +129,6 @@ impl Rope {
     pub fn to_bytes(&self, alloc: Global) -> Mem<Bytes>
         ensures { IfOk result (λ bytes. bytes ≡ self.now) }
     {
-        joined(alloc, &self.first, self.more.as_slice())
+        join_pieces(alloc, &self.first, self.more.as_slice())
     }
 }

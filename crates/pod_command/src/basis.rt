@@ -29,7 +29,7 @@ pub struct Basis {
 }
 
 impl Who {
-    /// An equal value.
+    /// A copy of whom a basis's rule covers.
     pub fn copy(&self, alloc: Global) -> Mem<Who>
         ensures { IfOk result (λ copy. copy ≡ self.now) }
     {
@@ -46,7 +46,7 @@ impl Who {
 }
 
 impl Basis {
-    /// An equal basis.
+    /// A copy of the basis.
     pub fn copy(&self, alloc: Global) -> Mem<Basis>
         ensures { IfOk result (λ copy. copy ≡ self.now) }
     {

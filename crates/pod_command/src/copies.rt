@@ -9,7 +9,7 @@ use std::alloc::Global;
 
 /// A value that is copied in lists.
 pub(crate) trait Copies: Sized {
-    /// An equal value.
+    /// A copy of the value, for the copy of a list of them.
     fn copied(&self, alloc: Global) -> Mem<Self>
         ensures { IfOk result (λ copy. copy ≡ self.now) };
 }
@@ -32,7 +32,7 @@ impl Copies for Row {
     }
 }
 
-/// Copies of the items.
+/// Copies of a list's items, which are rows, edits or bases.
 pub(crate) fn copy_list<T: Copies + Drop>(alloc: Global, items: &[T]) -> Mem<Vec<T>>
     ensures { IfOk result (λ copies. copies.items ≡ items.now) }
 {

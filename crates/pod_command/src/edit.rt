@@ -30,7 +30,7 @@ pub enum Edit {
 }
 
 impl Edit {
-    /// An equal edit.
+    /// A copy of the edit.
     pub fn copy(&self, alloc: Global) -> Mem<Edit>
         ensures { IfOk result (λ copy. copy ≡ self.now) }
     {

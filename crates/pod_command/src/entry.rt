@@ -29,7 +29,7 @@ pub struct Entry {
 }
 
 impl Entry {
-    /// An equal entry. Its lists have no spare room.
+    /// A copy of the entry. Its lists have no spare room.
     pub fn copy(&self, alloc: Global) -> Mem<Entry>
         ensures { IfOk result (λ copy. copy ≡ bare_entry self.now) }
     {

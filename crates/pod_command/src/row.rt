@@ -39,7 +39,7 @@ pub struct Row {
 }
 
 impl Content {
-    /// Equal content. Bytes and texts share their memory.
+    /// A copy of a row's content. Bytes and texts share their memory.
     pub fn copy(&self, alloc: Global) -> Mem<Content>
         ensures { IfOk result (λ copy. copy ≡ self.now) }
     {
@@ -58,7 +58,7 @@ impl Content {
 }
 
 impl Row {
-    /// An equal row.
+    /// A copy of the row.
     pub fn copy(&self, alloc: Global) -> Mem<Row>
         ensures { IfOk result (λ copy. copy ≡ self.now) }
     {

@@ -19,7 +19,7 @@ pub struct Snapshot {
 }
 
 impl Snapshot {
-    /// An equal snapshot. Its list has no spare room.
+    /// A copy of the snapshot. Its list has no spare room.
     pub fn copy(&self, alloc: Global) -> Mem<Snapshot>
         ensures { IfOk result (λ copy. copy ≡ bare_snapshot self.now) }
     {

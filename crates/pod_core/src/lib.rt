@@ -20,13 +20,13 @@
 #![tactic(auto)]
 
 mod answering;
+mod connection_closing;
 pub mod laws;
-mod refused;
 mod request_answer;
 
 pub use answering::answer;
+pub use connection_closing::{closes_after, refusal_of};
 pub use pod_reply::Replied;
-pub use refused::{closes_after, refusal_of};
 pub use reply_laws::is_change;
 pub use request_answer::Answer;
 pub use request_target::target_path;

@@ -10,8 +10,8 @@ use Rattle.pod_disk.specs.Laws.{whole_is_torn, same_is_torn, whole_is_cut, betwe
 use Rattle.pod_disk.specs.declared.call.Call.{Call}
 use Rattle.pod_disk.specs.declared.call.NotedCall.{NotedCall}
 use Rattle.pod_disk.specs.declared.call.Call.TheVariants.{Length, Read, Write, Cut as Shorten, Sync}
-use Rattle.pod_disk.specs.declared.tear.Tear.{Tear}
-use Rattle.pod_disk.specs.declared.tear.Tear.TheVariants.{Prefix, Filled}
+use Rattle.pod_disk.specs.declared.torn_call.Tear.{Tear}
+use Rattle.pod_disk.specs.declared.torn_call.Tear.TheVariants.{Prefix, Filled}
 
 never : {A : Type 0} → false ≡ true → A
 never is = absurd (search rules)

@@ -6,8 +6,8 @@ use Rattle.pod_disk.specs.NotedCalls.{content_after, synced}
 use Rattle.pod_disk.specs.declared.call.Call.{Call}
 use Rattle.pod_disk.specs.declared.call.NotedCall.{NotedCall}
 use Rattle.pod_disk.specs.declared.call.Call.TheVariants.{Length, Read, Write, Cut as Shorten, Sync}
-use Rattle.pod_disk.specs.declared.tear.Tear.{Tear}
-use Rattle.pod_disk.specs.declared.tear.Tear.TheVariants.{Prefix, Filled}
+use Rattle.pod_disk.specs.declared.torn_call.Tear.{Tear}
+use Rattle.pod_disk.specs.declared.torn_call.Tear.TheVariants.{Prefix, Filled}
 
 -- the file, with this byte at each place from its end up to that length
 abbrev pub lengthened : ℕ → ℕ → List ℕ → List ℕ

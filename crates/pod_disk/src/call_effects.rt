@@ -7,7 +7,8 @@ ghost use Rattle.pod_disk.specs.NotedCalls.{done_by};
 use crate::call::Call;
 use pod_base::Mem;
 
-// Writes the bytes over those of the file from that offset on, or after them where it has fewer.
+/// Has the effect of a write on the bytes of a disk in memory: they are put over those from that
+/// offset on, or after them where there are fewer.
 pub fn put(file: &mut Vec<u8>, at: usize, bytes: &[u8]) -> Mem<()>
     ensures done { OnOk result (file.new.items ≡ overwritten at bytes.now file.old.items) }
     ensures kept { OnErr result (file.new.items ≡ file.old.items) }
@@ -19,7 +20,7 @@ pub fn put(file: &mut Vec<u8>, at: usize, bytes: &[u8]) -> Mem<()>
     Ok(())
 }
 
-/// Does to a file what the call does.
+/// Has the effect of a call on the bytes of a disk in memory.
 pub fn perform(file: &mut Vec<u8>, call: &Call) -> Mem<()>
     ensures done { OnOk result (file.new.items ≡ done_by call.now file.old.items) }
     ensures kept { OnErr result (file.new.items ≡ file.old.items) }

@@ -55,7 +55,8 @@ pub trait Disk: Drop {
         ensures passes { Passes image moment left_since Unchanged self.old self.new }
         ensures faults { CountsFaults result (faults self.old) (faults self.new) };
 
-    /// Reads as many bytes as `into` has from the offset `at` on. They lie within the length.
+    /// Reads as many bytes of the disk as `into` has, from the offset `at` on. They lie within the
+    /// length.
     fn read(&mut self, at: u64, into: &mut [u8]) -> Result<(), Failed>
         requires { IfVisible (content self.old) (λ b. at + length into.old ≤ length b) }
         ensures bytes { OnOk result
@@ -65,9 +66,9 @@ pub trait Disk: Drop {
         ensures passes { Passes image moment left_since Unchanged self.old self.new }
         ensures faults { CountsFaults result (faults self.old) (faults self.new) };
 
-    /// Writes the bytes over those from the offset `at` on, which is no greater than the length. A
-    /// write that would reach 2^63 bytes fails. Until a sync succeeds a crash may leave any bytes
-    /// in the range and past the old end.
+    /// Writes the bytes over those of the disk from the offset `at` on, which is no greater than
+    /// the length. A write that would reach 2^63 bytes fails. Until a sync succeeds a crash may
+    /// leave any bytes in the range and past the old end.
     fn write_at(&mut self, at: u64, bytes: &[u8]) -> Result<(), Failed>
         requires { IfVisible (content self.old) (λ b. at ≤ length b) }
         ensures content { OnOk result

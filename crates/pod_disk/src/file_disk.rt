@@ -32,7 +32,7 @@ impl<R: Files<File = File> + Drop> Model for FileDisk<R> {
 }
 
 impl<R: Files<File = File> + Drop> FileDisk<R> {
-    /// The disk in the file of that path.
+    /// A disk over the host's file of that path.
     pub fn new(host: R, path: Text) -> FileDisk<R>
         ensures { result ≡ 0 }
     {
@@ -42,14 +42,14 @@ impl<R: Files<File = File> + Drop> FileDisk<R> {
         }
     }
 
-    /// How many of its calls failed.
+    /// How many calls of this disk over a file failed.
     pub fn faults(&self) -> u64
         ensures { result ≡ self.now }
     {
         self.faults
     }
 
-    // Counts an error.
+    /// Counts a failed call of a disk over a file.
     fn fault(&mut self) -> Failed
         ensures no_fewer { self.old ≤ self.new }
         ensures increased { CountIncreased self.old self.new }

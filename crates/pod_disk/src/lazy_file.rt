@@ -26,7 +26,8 @@ pub struct LazyFile<R: Files<File = File> + Drop> {
     is_entered: bool,
 }
 
-/// Opens a file and locks it, so that no other open of it succeeds here until this one is dropped.
+/// Opens a file of the host and locks it, so that no other open of it succeeds here until this one
+/// is dropped.
 fn open_locked<R: Files<File = File>>(
     host: &R,
     path: &str,
@@ -37,8 +38,8 @@ fn open_locked<R: Files<File = File>>(
     Ok(file)
 }
 
-/// Opens the file, if there is one.
-fn found<R: Files<File = File>>(host: &R, path: &str) -> io::Result<Option<File>> {
+/// Opens the host's file, if there is one.
+fn open_existing<R: Files<File = File>>(host: &R, path: &str) -> io::Result<Option<File>> {
     let mut options = OpenOptions::new();
     options.read(true).write(true);
     match open_locked(host, path, &options) {
@@ -48,15 +49,15 @@ fn found<R: Files<File = File>>(host: &R, path: &str) -> io::Result<Option<File>
     }
 }
 
-/// Makes the file. One that is there already is refused.
-fn made<R: Files<File = File>>(host: &R, path: &str) -> io::Result<File> {
+/// Makes the host's file. One that is there already is refused.
+fn create_new<R: Files<File = File>>(host: &R, path: &str) -> io::Result<File> {
     let mut options = OpenOptions::new();
     options.read(true).write(true).create_new(true).mode(MODE);
     open_locked(host, path, &options)
 }
 
-/// Waits until the file is on the disk, and drops the system's copies of its pages, which a failed
-/// sync may have left other than the disk has them.
+/// Settles a file of the host before it is read: waits until it is on the disk, and drops the
+/// system's copies of its pages, which a failed sync may have left other than the disk has them.
 fn settle(file: &File) -> io::Result<()> {
     file.sync_all()?;
     match libc::posix_fadvise(file.as_raw_fd(), 0, 0, libc::POSIX_FADV_DONTNEED) {
@@ -65,7 +66,7 @@ fn settle(file: &File) -> io::Result<()> {
     }
 }
 
-/// The folder that the path leads to the file through.
+/// The folder of a host's file, by the file's path.
 fn folder_of(path: &str) -> &str {
     match path.rsplit_once('/') {
         Some(("", _name)) => "/",
@@ -74,6 +75,7 @@ fn folder_of(path: &str) -> &str {
     }
 }
 
+/// Waits until the folder of a file has the file's entry on the disk.
 fn sync_folder<R: Files<File = File>>(host: &R, path: &str) -> io::Result<()> {
     OpenOptions::new()
         .read(true)
@@ -82,6 +84,7 @@ fn sync_folder<R: Files<File = File>>(host: &R, path: &str) -> io::Result<()> {
 }
 
 impl<R: Files<File = File> + Drop> LazyFile<R> {
+    /// A file of the host at this path, which isn't opened yet.
     pub fn new(host: R, path: Text) -> LazyFile<R> {
         LazyFile {
             host,
@@ -93,10 +96,10 @@ impl<R: Files<File = File> + Drop> LazyFile<R> {
         }
     }
 
-    /// Opens the file where it was not, and settles it where that is still to be done.
+    /// Opens the file at its first use, and settles it where that is still to be done.
     fn prepare(&mut self) -> io::Result<()> {
         if self.file.is_none() && !self.is_missing {
-            self.file = found(&self.host, self.path.as_str())?;
+            self.file = open_existing(&self.host, self.path.as_str())?;
             self.is_missing = self.file.is_none();
         }
         if let Some(file) = &self.file {
@@ -108,18 +111,18 @@ impl<R: Files<File = File> + Drop> LazyFile<R> {
         Ok(())
     }
 
-    /// Makes the file where it is missing.
+    /// Opens the file, or makes it where it is missing at its first write.
     fn prepare_write(&mut self) -> io::Result<()> {
         self.prepare()?;
         if self.is_missing {
-            self.file = Some(made(&self.host, self.path.as_str())?);
+            self.file = Some(create_new(&self.host, self.path.as_str())?);
             self.is_missing = false;
             self.is_settled = true;
         }
         Ok(())
     }
 
-    /// How many bytes the file has: 0 where it is missing.
+    /// How many bytes the host's file has: 0 where it is missing.
     pub fn len(&mut self) -> io::Result<u64> {
         self.prepare()?;
         match &self.file {
@@ -128,6 +131,7 @@ impl<R: Files<File = File> + Drop> LazyFile<R> {
         }
     }
 
+    /// Reads as many bytes of the host's file as `into` has, from the offset `at` on.
     pub fn read(&mut self, at: u64, into: &mut [u8]) -> io::Result<()> {
         self.prepare()?;
         match &self.file {
@@ -137,6 +141,7 @@ impl<R: Files<File = File> + Drop> LazyFile<R> {
         }
     }
 
+    /// Writes bytes to the host's file, which is made where it is missing.
     pub fn write(&mut self, at: u64, bytes: &[u8]) -> io::Result<()> {
         self.prepare_write()?;
         match &self.file {
@@ -145,6 +150,7 @@ impl<R: Files<File = File> + Drop> LazyFile<R> {
         }
     }
 
+    /// Cuts the host's file to `len` bytes.
     pub fn cut(&mut self, len: u64) -> io::Result<()> {
         self.prepare()?;
         match &self.file {
@@ -154,9 +160,9 @@ impl<R: Files<File = File> + Drop> LazyFile<R> {
         }
     }
 
-    /// Waits until the file's bytes and length are on the disk. The first time it waits for its
-    /// entry in the folder too, without which a new file would be lost. Where it fails, the next
-    /// call settles the file first.
+    /// Waits until the host's file has its bytes and its length on the disk. The first time it
+    /// waits for its entry in the folder too, without which a new file would be lost. Where it
+    /// fails, the next call settles the file first.
     pub fn sync(&mut self) -> io::Result<()> {
         self.prepare()?;
         if let Some(file) = &self.file {

@@ -6,20 +6,20 @@
 
 mod call;
 mod call_effects;
-mod crash;
+mod crash_image;
 mod disk;
 mod file_disk;
 mod lazy_file;
 mod mem_disk;
 mod place;
-mod tear;
+mod torn_call;
 
 pub use call::{Call, NotedCall};
 pub use disk::{Disk, LENGTH_LIMIT};
 pub use file_disk::FileDisk;
 pub use mem_disk::MemDisk;
 pub use place::{Disks, Place};
-pub use tear::Tear;
+pub use torn_call::Tear;
 
 #[cfg(test)]
 mod tests;

@@ -16,9 +16,9 @@ ghost use Rattle.pod_disk.specs.Tears.{crash_of};
 
 use crate::call::{Call, NotedCall};
 use crate::call_effects::perform;
-use crate::crash::crashed;
+use crate::crash_image::crashed;
 use crate::disk::{Disk, LENGTH_LIMIT};
-use crate::tear::Tear;
+use crate::torn_call::Tear;
 use pod_base::{Bytes, Mem};
 use pod_io::{Calls, Failed};
 use std::alloc::Global;
@@ -46,7 +46,7 @@ impl Model for MemDisk {
     ghost invariant = { λ m. m.bytes.items ≡ content_at m.first.items m.noted.items };
 }
 
-// Does the call, and notes it. Out of memory, nothing changes.
+/// Makes a call of a disk in memory, and notes it. Out of memory, nothing changes.
 fn make(noted: &mut Vec<NotedCall>, bytes: &mut Vec<u8>, call: Call) -> Mem<()>
     ensures noted { OnOk result (noted.new.items ≡ noted.old.items ++ noted_as call true ∷ []) }
     ensures done { OnOk result (bytes.new.items ≡ done_by call bytes.old.items) }
@@ -59,7 +59,7 @@ fn make(noted: &mut Vec<NotedCall>, bytes: &mut Vec<u8>, call: Call) -> Mem<()>
     Ok(())
 }
 
-// Notes a call that failed, where there is memory for that.
+/// Notes a call of a disk in memory that failed, where there is memory for that.
 fn note_failed(noted: &mut Vec<NotedCall>, call: Call)
     ensures { (noted.new.items ≡ noted.old.items ++ noted_as call false ∷ [])
         ⊎ (noted.new.items ≡ noted.old.items) }
@@ -68,8 +68,8 @@ fn note_failed(noted: &mut Vec<NotedCall>, call: Call)
 }
 
 impl MemDisk {
-    /// A disk that holds these bytes, all of them durable. The calls of these numbers, from 1,
-    /// fail. Another one fails only when out of memory.
+    /// A disk in memory that holds these bytes, all of them durable. The calls of these numbers,
+    /// from 1, fail. Another one fails only when out of memory.
     pub fn new(alloc: Global, bytes: Vec<u8>, failing: Vec<u64>) -> Mem<MemDisk>
         ensures first { IfOk result (λ disk. disk.first ≡ bytes.items) }
         ensures noted { IfOk result (λ disk. disk.noted ≡ []) }
@@ -89,23 +89,24 @@ impl MemDisk {
         })
     }
 
-    /// What reads give.
+    /// The bytes that reads of a disk in memory give.
     pub fn bytes(&self) -> &[u8]
         ensures { result.now ≡ content_of self.now }
     {
         self.bytes.as_slice()
     }
 
-    /// The calls that it has noted, in their order.
+    /// The calls that a disk in memory has noted, in their order.
     pub fn noted(&self) -> &[NotedCall]
         ensures { result.now ≡ self.now.noted }
     {
         self.noted.as_slice()
     }
 
-    /// A crash image: bytes that a crash after the first `count` of the noted calls may leave. The
-    /// tears are those of the writes and cuts since the last sync that succeeded, in their order,
-    /// of those that failed too. The last tear goes on; with no tears all of them are whole.
+    /// A crash image of a disk in memory: bytes that a crash after the first `count` of the noted
+    /// calls may leave. The tears are those of the writes and cuts since the last sync that
+    /// succeeded, in their order, of those that failed too. The last tear goes on; with no tears
+    /// all of them are whole.
     pub fn crash(&self, alloc: Global, count: usize, tears: &[Tear]) -> Mem<Vec<u8>>
         requires { count ≤ length self.now.noted }
         ensures image { IfOk result
@@ -117,7 +118,7 @@ impl MemDisk {
         crashed(alloc, &self.first, &self.noted[..count], tears)
     }
 
-    // Makes a call, unless it is to fail.
+    /// Makes a call of a disk in memory, unless it is to fail.
     fn attempt(&mut self, call: Call) -> Result<(), Failed>
         ensures makes { MakesCall call result self.old self.new }
         ensures faults { CountsFaults result self.old.calls.faults self.new.calls.faults }
@@ -135,7 +136,8 @@ impl MemDisk {
         }
     }
 
-    // The same, with what it makes of the content and of the images.
+    /// Makes a call of a disk in memory, unless it is to fail, with what it makes of the content
+    /// and of the crash images.
     fn make(&mut self, call: Call) -> Result<(), Failed>
         ensures makes { MakesCall call result self.old self.new }
         ensures faults { CountsFaults result self.old.calls.faults self.new.calls.faults }
@@ -147,7 +149,7 @@ impl MemDisk {
         self.attempt(call)
     }
 
-    // A call that can't be made, which fails and is counted.
+    /// Fails a call that a disk in memory can't make, and counts it.
     fn refuse(&mut self) -> Failed
         ensures first { self.new.first ≡ self.old.first }
         ensures noted { self.new.noted ≡ self.old.noted }

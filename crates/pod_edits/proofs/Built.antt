@@ -29,7 +29,7 @@ use Rattle.pod_rows.proofs.Steps.{edits_append}
 use Rattle.pod_edits.specs.Allowed.{HasNumber, IsFitting, CanCreate}
 use Rattle.pod_edits.specs.Edits.{container_row, put_container, touch_if, creation_edits}
 use Rattle.pod_edits.specs.Places.{nearest_of, missing_of, IsPlaceOf}
-use Rattle.pod_edits.specs.declared.place.Place.{Place}
+use Rattle.pod_edits.specs.declared.new_row_place.Place.{Place}
 use Rattle.pod_edits.specs.Refusals.{added_rows, breaks_guard, exceeds_rows, is_root_list, lacks_number, meets_twin, states_containment}
 use Rattle.pod_edits.proofs.FoundRows.{found_path, is_found, found_row, put_found, put_here, put_beside, one_more}
 use Rattle.pod_edits.proofs.Places.{has_twin_row, has_a_parent, no_parent, missing_none, missing_more, nearest_row}

@@ -8,7 +8,7 @@ use Rattle.pod_command.specs.declared.row.Row.{Row}
 use Rattle.pod_path.specs.Hierarchy.{acl_of, meta_of, parent_of}
 use Rattle.pod_edits.specs.Edits.{put_container, touch_if, creation_edits, remove_if, deletion_edits}
 use Rattle.pod_edits.specs.Places.{IsPlaceOf, nearest_of}
-use Rattle.pod_edits.specs.declared.place.Place.{Place}
+use Rattle.pod_edits.specs.declared.new_row_place.Place.{Place}
 
 pub all_mapped : (m : Moment) (items paths : List (List ℕ)) (i : ℕ) (made : List Edit) → made ≡ map (put_container m) (take i items) → items ≡ paths → length items ≤ i → made ≡ map (put_container m) paths
 all_mapped m items paths i made e same all = e ∙ ap (map (put_container m)) (take_all i items all ∙ same)

@@ -21,7 +21,7 @@ use Rattle.pod_command.specs.declared.edit.Edit.TheVariants as edits
 use Rattle.pod_edits.specs.Edits.{creation_edits, put_container, touch_if}
 use Rattle.pod_edits.specs.Places.{nearest_of, missing_of, IsPlaceOf}
 use Rattle.pod_edits.specs.Refusals.{meets_twin, has_children, has_some}
-use Rattle.pod_edits.specs.declared.place.Place.{Place}
+use Rattle.pod_edits.specs.declared.new_row_place.Place.{Place}
 use Rattle.pod_edits.proofs.Transfer.{placed_at, root_row}
 use Rattle.pod_edits.proofs.Trees.{ancestors_step, parent_is_path, parent_shorter, parent_closed, path_of_norm}
 

@@ -4,7 +4,7 @@ use Rattle.std.specs.List.{find}
 use Rattle.pod_command.specs.declared.row.Row.{Row}
 use Rattle.pod_rows.specs.Pod.{is_row}
 use Rattle.pod_rows.specs.Tree.{ancestors}
-use Rattle.pod_edits.specs.declared.place.Place.{Place}
+use Rattle.pod_edits.specs.declared.new_row_place.Place.{Place}
 
 -- The nearest ancestor of a path that is a row.
 unfoldable pub nearest_of : List Row → List ℕ → Option (List ℕ)

@@ -7,7 +7,7 @@ ghost use Rattle.pod_edits.specs.Edits.{deletion_edits, put_edits, removal_edits
 ghost use Rattle.pod_edits.specs.Edits.{touch_if};
 ghost use Rattle.pod_edits.specs.Places.{IsPlaceOf};
 
-use crate::place::Place;
+use crate::new_row_place::Place;
 use pod_base::{List, Mem, Moment};
 use pod_command::{Content, Edit, Kind, Row};
 use pod_path::Path;
@@ -15,7 +15,7 @@ use pod_rows::PodState;
 use rdf_graph::{Change, Graph};
 use std::alloc::Global;
 
-/// An empty container.
+/// An empty container, which an edit of a creation puts.
 fn container_row(alloc: Global, path: &Path, modified: Moment) -> Mem<Row>
     ensures { IfOk result (λ row. row ≡ container_row modified path.now) }
 {
@@ -27,7 +27,7 @@ fn container_row(alloc: Global, path: &Path, modified: Moment) -> Mem<Row>
     })
 }
 
-/// One edit as a list.
+/// One edit as a list of edits.
 fn single_edit(alloc: Global, edit: Edit) -> Mem<List<Edit>>
     ensures { IfOk result (λ edits. edits.items ≡ edit ∷ []) }
 {
@@ -72,7 +72,7 @@ pub fn change(alloc: Global, path: Path, change: Change, modified: Moment) -> Me
     )
 }
 
-/// Appends the removal of a path, where it is a row.
+/// Appends the edit that removes a path, where it is a row.
 fn push_removal<S: PodState>(edits: &mut Vec<Edit>, state: &S, path: Option<Path>) -> Mem<()>
     ensures { OnOk result (edits.new.items
         ≡ edits.old.items ++ remove_if (S.pod state.now).rows path) }
@@ -88,7 +88,7 @@ fn push_removal<S: PodState>(edits: &mut Vec<Edit>, state: &S, path: Option<Path
     }
 }
 
-/// Appends the touch of a path, if there is one.
+/// Appends the edit that touches a path, if there is one.
 fn push_touch(edits: &mut Vec<Edit>, path: Option<Path>, modified: Moment) -> Mem<()>
     ensures { OnOk result (edits.new.items ≡ edits.old.items ++ touch_if path modified) }
 {

@@ -22,7 +22,7 @@ ghost use Rattle.pod_edits.specs.Kinds.{kind_of, may_hold};
 ghost use Rattle.pod_edits.specs.Places.{missing_of, nearest_of};
 ghost use Rattle.pod_edits.specs.Refusals.{added_rows, meets_twin};
 
-/// A new row that is no access list and no description.
+/// The law that the edits of a new row apply which is no access list and no description.
 pub fn creation_law()
     ensures applies { (pod : Pod) (next : ℕ) (entry : Entry) (row : Row) → WellFormed pod
         → CanCreate pod row → HasNumber next entry
@@ -32,7 +32,8 @@ pub fn creation_law()
         → row_at (applied pod entry).rows row.path ≡ Some row }
 {}
 
-/// A new access list or description, and a row in place of another.
+/// The law that the edits of a new access list or description apply, and of a row in place of
+/// another.
 pub fn put_law()
     ensures adds { (pod : Pod) (next : ℕ) (entry : Entry) (row : Row) → WellFormed pod
         → CanAdd pod row → HasNumber next entry → entry.edits.items ≡ put_edits row
@@ -44,7 +45,7 @@ pub fn put_law()
         → row_at (applied pod entry).rows row.path ≡ Some row }
 {}
 
-/// A change of a row.
+/// The law that the edits of a change of a row apply.
 pub fn change_law()
     ensures applies { (pod : Pod) (next : ℕ) (entry : Entry) (path : List ℕ) (change : Change)
         (modified : Moment) (row : Row) → WellFormed pod → CanChange pod path change row
@@ -56,7 +57,8 @@ pub fn change_law()
         → row_at (applied pod entry).rows path ≡ Some (changed_to row change modified) }
 {}
 
-/// The removal of a row. Its access list and its description go with it.
+/// The law that the edits of the removal of a row apply. Its access list and its description go
+/// with it.
 pub fn deletion_law()
     ensures applies { (pod : Pod) (next : ℕ) (entry : Entry) (path : List ℕ) (modified : Moment)
         → WellFormed pod → CanDelete pod path → HasNumber next entry
@@ -81,14 +83,15 @@ pub fn deletion_law()
         → is_row (applied pod entry).rows path ≡ false }
 {}
 
-/// The ancestors of a path are its parent and the ancestors of that one.
+/// The law that the ancestors of a path are its parent and the ancestors of that one, as edits make
+/// them.
 pub fn ancestors_law()
     ensures { (path parent : List ℕ) → IsPath path → parent_of path ≡ Some parent
         → ancestors path ≡ parent ∷ ancestors parent }
 {}
 
-/// Above a member of a container that is a row nothing is missing, and no twin conflicts but its
-/// own: a POST makes one row and touches the container.
+/// The law that above a member of a container that is a row nothing is missing, and no twin
+/// conflicts but its own: a POST makes one row and touches the container.
 pub fn member_law()
     ensures nearest { (pod : Pod) (path container : List ℕ) → WellFormed pod → IsPath path
         → parent_of path ≡ Some container → IsTrue (is_row pod.rows container)
@@ -105,8 +108,8 @@ pub fn member_law()
         → creation_edits pod.rows row ≡ Put row ∷ Touch container row.modified ∷ [] }
 {}
 
-/// A new access list or description adds one row, and so does a new member of a container that is a
-/// row.
+/// The law that the edits of a new access list or description add one row, and so do those of a new
+/// member of a container that is a row.
 pub fn added_law()
     ensures auxiliary { (rows : List Row) (path : List ℕ) → IsTrue (is_auxiliary path)
         → added_rows rows path ≡ 1 }
@@ -115,14 +118,15 @@ pub fn added_law()
         → added_rows pod.rows path ≡ 1 }
 {}
 
-/// The kind of a path and a content is right for them, where the path may hold the content.
+/// The law that the kind of a path and a content is right for them, where the path may hold the
+/// content.
 pub fn kind_law()
     ensures { (path : List ℕ) (content : Content) → IsTrue (may_hold path content)
         → IsTrue (fits_kind path (kind_of path content) content) }
 {}
 
-/// What an entry makes of a path is decided by what was at it: where it applies to two pods, what
-/// was the same at a path is the same there afterwards.
+/// The law that what an entry's edits make of a path is decided by what was at it: where it applies
+/// to two pods, what was the same at a path is the same there afterwards.
 pub fn pointwise_law()
     ensures { (pod other : Pod) (next : ℕ) (entry : Entry) (path : List ℕ)
         → Applies pod next entry → Applies other next entry

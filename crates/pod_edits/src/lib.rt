@@ -18,16 +18,16 @@
 //! `rdf_graph` and `pod_command` for rows, and on `pod_path`, `iri_ref` and `pod_base`.
 #![tactic(auto)]
 
+mod change_refusals;
 mod edit_lists;
 pub mod laws;
-mod place;
-mod refusals;
+mod new_row_place;
 mod row_kind;
 
-pub use edit_lists::{change, creation, deletion, removal, replacement};
-pub use place::{Place, find_place, member_place};
-pub use refusals::{
+pub use change_refusals::{
     breaks_guard, exceeds_rows, has_children, is_bytes, is_root_list, lacks_number, lacks_subject,
     meets_twin, states_containment,
 };
+pub use edit_lists::{change, creation, deletion, removal, replacement};
+pub use new_row_place::{Place, find_place, member_place};
 pub use row_kind::kind_of;

@@ -6,7 +6,7 @@ ghost use Rattle.pod_edits.specs.Kinds.{document_kind, kind_of};
 use pod_command::{Content, Kind};
 use pod_path::Path;
 
-/// The kind of a document with this content.
+/// The kind of a row that is a document with this content.
 fn document_kind(content: &Content) -> Kind
     ensures { result ≡ document_kind content.now }
 {

@@ -15,7 +15,7 @@ use Rattle.pod_rows.specs.Apply.{AllApply, after_edits, applied, edited_if, repl
 use Rattle.pod_rows.specs.Pod.{Pod}
 use Rattle.pod_pages.specs.Effects.{effect_of, effects_if, effects_of, entry_effects, history_effects, kept_effects}
 use Rattle.pod_pages.specs.State.{VersionState, state_after, states_after}
-use Rattle.pod_pages.specs.declared.effects.Effect.{Effect}
+use Rattle.pod_pages.specs.declared.entry_effects.Effect.{Effect}
 use Rattle.pod_pages.proofs.EditSteps.{filter_append}
 use Rattle.pod_pages.proofs.History.{kept_later, next_replayed, oldest_grows, pod_replayed}
 use Rattle.pod_feed.specs.News.{is_news, notices_of}

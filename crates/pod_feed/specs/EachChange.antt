@@ -6,7 +6,7 @@ use Rattle.pod_command.specs.declared.entry.Entry.{Entry}
 use Rattle.pod_rows.specs.Apply.{AllApply}
 use Rattle.pod_pages.specs.Effects.{history_effects}
 use Rattle.pod_pages.specs.State.{VersionState}
-use Rattle.pod_pages.specs.declared.effects.Effect.{Effect}
+use Rattle.pod_pages.specs.declared.entry_effects.Effect.{Effect}
 use Rattle.pod_feed.specs.News.{is_news}
 use Rattle.pod_feed.specs.Notices.{notice_of}
 use Rattle.pod_feed.specs.Feeds.{AllReport, Continues, notices_from}

@@ -8,7 +8,7 @@ use Rattle.pod_path.specs.Hierarchy.{is_acl, subject_of}
 use Rattle.pod_rows.specs.Pod.{Pod}
 use Rattle.pod_access.specs.PodGrants.{PodGrants}
 use Rattle.pod_pages.specs.State.{VersionState}
-use Rattle.pod_pages.specs.declared.effects.Effect.{Effect}
+use Rattle.pod_pages.specs.declared.entry_effects.Effect.{Effect}
 use Rattle.pod_feed.specs.Notices.{notice_of}
 use Rattle.pod_feed.specs.declared.notices_due.News.{News}
 use Rattle.pod_feed.specs.declared.notices_due.News.TheVariants.{Notices, Revoked, Lagged}

@@ -2,9 +2,9 @@
 -- IRI is one that JSON escapes.
 use Rattle.std.specs.Prelude.{ℕ, List, ◌++◌, codes, decimal}
 use Rattle.pod_path.specs.Hierarchy.{uri_of}
-use Rattle.pod_pages.specs.declared.effects.Effect.{Effect}
-use Rattle.pod_pages.specs.declared.effects.EffectKind.{EffectKind}
-use Rattle.pod_pages.specs.declared.effects.EffectKind.TheVariants.{Create, Update, Delete}
+use Rattle.pod_pages.specs.declared.entry_effects.Effect.{Effect}
+use Rattle.pod_pages.specs.declared.entry_effects.EffectKind.{EffectKind}
+use Rattle.pod_pages.specs.declared.entry_effects.EffectKind.TheVariants.{Create, Update, Delete}
 
 -- the type of the activity
 abbrev pub kind_word : EffectKind → List ℕ

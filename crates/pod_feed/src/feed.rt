@@ -14,8 +14,8 @@ use published_view::ViewName;
 use std::alloc::Global;
 use std::sync::Wait;
 
-/// One turn: a look, the notices that it reports, and a poll. Returns the number of the first entry
-/// that is yet to be told, or the end of the feed.
+/// Does one turn of a feed: a look, the notices that it reports, and a poll. Returns the number of
+/// the first entry that is yet to be told, or the end of the feed.
 fn turn<N: ViewName<CommittedEntry> + StoreName, W: Wire>(
     alloc: Global,
     session: &mut Session<N>,
@@ -38,7 +38,8 @@ fn turn<N: ViewName<CommittedEntry> + StoreName, W: Wire>(
     }
 }
 
-/// Tells a peer of the changes to a topic, from the entry `last` on, as an agent.
+/// Serves a feed, which tells a peer of the changes to a topic, from the entry `last` on, as an
+/// agent.
 ///
 /// Turn after turn it looks at the published pod, sends the notices of the changes since, and polls
 /// the wire, for a second or so at most. So a notice waits at most for one poll and one look. It

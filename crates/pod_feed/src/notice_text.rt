@@ -8,7 +8,7 @@ use pod_base::{Mem, Text};
 use pod_pages::{Effect, EffectKind};
 use std::alloc::Global;
 
-/// The name of an effect in ActivityStreams.
+/// The word of a notice for an effect, which is its name in ActivityStreams.
 fn kind_word(kind: EffectKind) -> &'static str
     ensures { result.now ≡ kind_word kind }
 {
@@ -19,7 +19,7 @@ fn kind_word(kind: EffectKind) -> &'static str
     }
 }
 
-/// The text of a notice with these parts. An IRI has no character that JSON escapes.
+/// The text of a notice with these parts, in JSON. An IRI has no character that JSON escapes.
 fn notice_string(alloc: Global, seq: u64, object: &str, kind: &str) -> Mem<String>
     ensures { IfOk result (λ text. string_bytes text ≡ notice_text seq object.now kind.now) }
 {

@@ -24,14 +24,14 @@ pub enum News {
     Lagged { last: u64, oldest: u64 },
 }
 
-/// Whether an effect is on the topic, and of an entry from that number on.
+/// Whether a notice is due of an effect: it is on the topic, and of an entry from that number on.
 fn is_news(last: u64, topic: &Path, effect: &Effect) -> bool
     ensures { result ≡ is_news last topic.now effect.now }
 {
     last <= effect.seq && effect.path == *topic
 }
 
-/// The notices of the effects on a topic, of the entries from a number on.
+/// The notices that are due, of the effects on a topic, of the entries from a number on.
 fn notices(alloc: Global, base: &Iri, effects: &[Effect], last: u64, topic: &Path) -> Mem<Vec<Text>>
     ensures { IfOk result (λ texts. texts.items
         ≡ map (notice_of base.now) (filter (is_news last topic.now) effects.now)) }
@@ -46,7 +46,8 @@ fn notices(alloc: Global, base: &Iri, effects: &[Effect], last: u64, topic: &Pat
     Ok(texts)
 }
 
-/// What a version has to report of a topic to an agent who was told of the entries before `last`.
+/// The notices that a version has due, of a topic, to an agent who was told of the entries before
+/// `last`.
 pub fn notices_after(
     alloc: Global,
     version: &Version,

@@ -9,7 +9,7 @@ use pod_pages::Version;
 use pod_path::Path;
 use std::alloc::Global;
 
-/// The subject of an access list.
+/// The subject of a topic that is an access list, whose access decides who may read it.
 fn subject_of(alloc: Global, topic: &Path) -> Mem<Path>
     ensures { IfOk result (λ path. path ≡ unwrap_or (subject_of topic.now) topic.now) }
 {
@@ -19,7 +19,7 @@ fn subject_of(alloc: Global, topic: &Path) -> Mem<Path>
     }
 }
 
-/// The path on which a topic is granted to be read.
+/// The path on which access to read a topic is granted.
 fn read_path(alloc: Global, topic: &Path) -> Mem<Path>
     ensures { IfOk result (λ path. path ≡ read_path topic.now) }
 {
@@ -30,7 +30,7 @@ fn read_path(alloc: Global, topic: &Path) -> Mem<Path>
     }
 }
 
-/// The mode that is needed there.
+/// The mode of access that reading a topic needs.
 fn read_mode(topic: &Path) -> Mode
     ensures { result ≡ read_mode topic.now }
 {
@@ -41,7 +41,7 @@ fn read_mode(topic: &Path) -> Mode
     }
 }
 
-/// Whether an agent may read a topic.
+/// Whether an agent has access to read a topic.
 pub(crate) fn may_read(alloc: Global, version: &Version, topic: &Path, agent: &Agent) -> Mem<bool>
     ensures { IfOk result
         (λ granted. IsTrue granted ↔ MayRead version.now.pod topic.now agent.now) }

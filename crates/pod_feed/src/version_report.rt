@@ -19,7 +19,7 @@ pub(crate) struct Report {
     pub next: u64,
 }
 
-/// What comes of the news of a version whose next change has that number.
+/// The report of the news of a version whose next change has that number.
 fn reported(news: News, next: u64) -> Result<Report, FeedEnd>
     ensures { ComesOfNews news next result }
 {
@@ -30,7 +30,7 @@ fn reported(news: News, next: u64) -> Result<Report, FeedEnd>
     }
 }
 
-/// What a version reports of a topic from the entry `last` on, or the end of the feed.
+/// The report of a version on a topic from the entry `last` on, or the end of the feed.
 fn report_of(
     alloc: Global,
     version: &Version,
@@ -47,7 +47,7 @@ fn report_of(
     }
 }
 
-/// The end of a feed whose look gave no version.
+/// What a look that gave no version reports, which is the end of the feed.
 fn end_of_fault(fault: ViewFault) -> FeedEnd
     ensures { result ≡ end_of_fault fault }
 {
@@ -57,7 +57,7 @@ fn end_of_fault(fault: ViewFault) -> FeedEnd
     }
 }
 
-/// Makes one look, and returns what it reports. The version that it gave is let go.
+/// Makes one look, and returns the report of the version that it gave, which is let go.
 pub(crate) fn look_for_news<N: ViewName<CommittedEntry> + StoreName>(
     alloc: Global,
     session: &mut Session<N>,

@@ -9,7 +9,7 @@ use crate::version_report::Report;
 use pod_base::Text;
 use pod_io::{Polled, Wire, WireFault};
 
-/// Sends texts in order, or some of the first where a send fails.
+/// Sends the texts of notices by the wire in order, or some of the first where a send fails.
 fn send_texts<W: Wire>(wire: &mut W, texts: &[Text]) -> Result<(), WireFault>
     ensures sent { SendsTexts result texts.now (W.sent wire.old) (W.sent wire.new) }
     ensures polls { W.polls wire.new ≡ W.polls wire.old }
@@ -26,7 +26,7 @@ fn send_texts<W: Wire>(wire: &mut W, texts: &[Text]) -> Result<(), WireFault>
     Ok(())
 }
 
-/// What a poll that found this leads to.
+/// What a poll of the feed's wire that found this leads to.
 fn polled_so(polled: Polled, next: u64) -> Result<u64, FeedEnd>
     ensures { result ≡ polled_so polled next }
 {
@@ -36,7 +36,7 @@ fn polled_so(polled: Polled, next: u64) -> Result<u64, FeedEnd>
     }
 }
 
-/// Polls the wire. Returns this number, or the end of the feed.
+/// Polls the feed's wire. Returns this number, or the end of the feed.
 fn poll_after<W: Wire>(wire: &mut W, next: u64) -> Result<u64, FeedEnd>
     ensures polled { IsPolled next result
         (wire_view_of W.sent W.polls W.faults W.closed wire.old)
@@ -49,8 +49,8 @@ fn poll_after<W: Wire>(wire: &mut W, next: u64) -> Result<u64, FeedEnd>
     }
 }
 
-/// Sends the notices of a report, and polls the wire. Returns the number of the first entry that is
-/// yet to be told, or the end of the feed.
+/// Sends the notices of a report by the wire, and polls it. Returns the number of the first entry
+/// that is yet to be told, or the end of the feed.
 pub(crate) fn send_and_poll<W: Wire>(wire: &mut W, report: &Report) -> Result<u64, FeedEnd>
     ensures turned { IfOk result (IsTold report.now
         (wire_view_of W.sent W.polls W.faults W.closed wire.old)

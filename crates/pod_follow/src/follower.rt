@@ -11,7 +11,7 @@ ghost use Rattle.reply_laws.specs.Granted.{is_change};
 ghost use Rattle.reply_laws.specs.Sent.{IsSent};
 ghost use Rattle.token_table.specs.Credentials.{asked_view};
 
-use crate::decoding::read_entry;
+use crate::entry_decoding::read_entry;
 use pod_base::{Bytes, Mem, Moment, NoMemory, Request, Response, Stamp};
 use pod_command::{Entry, Snapshot};
 use pod_core::{Replied, answer};
@@ -100,7 +100,7 @@ impl Follower {
         }
     }
 
-    /// The number of the entry that it can apply next, at most 2^63.
+    /// The number of the entry that the follower can apply next, at most 2^63.
     pub fn next(&self) -> u64
         ensures next { result ≡ self.now.next }
         ensures most { self.now.next ≤ 2 ^ 63 }
@@ -108,8 +108,9 @@ impl Follower {
         self.version.seq()
     }
 
-    /// Takes an entry, in either format. It is applied exactly where it is the next one and applies
-    /// to the pod; no other changes the follower, and nor does a call that is out of memory.
+    /// Takes an entry that was sent to the follower, in either format. It is applied exactly where
+    /// it is the next one and applies to the pod; no other changes the follower, and nor does a
+    /// call that is out of memory.
     pub fn take(&mut self, alloc: Global, entry: &[u8]) -> Mem<Took>
         ensures took { IfOk result (Takes self.old entry.now self.new) }
         ensures kept { OnErr result (self.new ≡ self.old) }
@@ -120,7 +121,7 @@ impl Follower {
         }
     }
 
-    /// Takes an entry by its number.
+    /// Takes an entry that was sent to the follower, by its number.
     fn take_entry(&mut self, alloc: Global, entry: &Entry) -> Mem<Took>
         ensures took { IfOk result (TakesEntry self.old entry.now self.new) }
         ensures kept { OnErr result (self.new ≡ self.old) }
@@ -136,7 +137,7 @@ impl Follower {
         }
     }
 
-    /// Applies the next entry, where it applies.
+    /// Applies the next entry to the follower's pod, where it applies.
     fn apply(&mut self, alloc: Global, entry: &Entry) -> Mem<Took>
         requires { entry.now.seq ≡ self.old.next }
         ensures took { IfOk result (TakesEntry self.old entry.now self.new) }
@@ -150,8 +151,8 @@ impl Follower {
         }
     }
 
-    /// The text of a snapshot of the pod at its place: another follower starts with it, and so does
-    /// this one where it is stopped and started anew.
+    /// The text of a snapshot of the follower's pod at its place: another follower starts with it,
+    /// and so does this one where it is stopped and started anew.
     pub fn save(&self, alloc: Global) -> Mem<Bytes>
         ensures { IfOk result (IsSnapshotText self.now.pod self.now.next) }
     {
@@ -187,7 +188,7 @@ impl Follower {
         Ok(replied.response)
     }
 
-    /// Its pod is well-formed. It does nothing.
+    /// The pod of a follower is well-formed. It does nothing.
     pub fn is_well_formed(&self)
         ensures { WellFormed self.now.pod }
     {

@@ -5,7 +5,7 @@ ghost use Rattle.stored_forms.specs.Readers.{number_at, piece_at};
 ghost use Rattle.stored_forms.specs.StoredForms.{number_bytes};
 ghost use Rattle.pod_follow.specs.Frames.{HasNoFrame, frame_of};
 
-/// The length of a body, as its frame begins: eight bytes, the greatest first.
+/// The head of a frame, which is the length of its body: eight bytes, the greatest first.
 #[tactic(auto, unfolding(stored_forms::specs::StoredForms::number_bytes))]
 pub fn frame_head(len: u64) -> [u8; 8]
     ensures { result ≡ number_bytes len }
@@ -13,8 +13,8 @@ pub fn frame_head(len: u64) -> [u8; 8]
     len.to_be_bytes()
 }
 
-/// A number with which bytes begin, and what follows it; none where there are fewer than eight
-/// bytes.
+/// Splits a number, as frames have it, from the bytes after it; none where there are fewer than
+/// eight bytes.
 #[tactic(auto, unfolding(stored_forms::specs::Readers::number_at))]
 pub fn split_number(bytes: &[u8]) -> Option<(u64, &[u8])>
     ensures { option_map (λ r. (r.0, r.1.now)) result ≡ number_at bytes.entry.now }
@@ -27,7 +27,8 @@ pub fn split_number(bytes: &[u8]) -> Option<(u64, &[u8])>
     Some((number, rest))
 }
 
-/// So many bytes after their number, and what follows them; none where they aren't all there.
+/// Splits so many bytes after their number, as frames have them, from those that follow; none where
+/// they aren't all there.
 #[tactic(auto, unfolding(stored_forms::specs::Readers::piece_at))]
 pub fn split_piece(bytes: &[u8]) -> Option<(&[u8], &[u8])>
     ensures { option_map (λ r. (r.0.now, r.1.now)) result ≡ piece_at bytes.entry.now }
@@ -39,8 +40,8 @@ pub fn split_piece(bytes: &[u8]) -> Option<(&[u8], &[u8])>
     Some(rest.split_at(len as usize))
 }
 
-/// The body of the frame with which bytes begin, and what follows the frame; none where they don't
-/// begin with a whole frame. It takes no memory, whatever length the frame claims.
+/// Splits the frame with which bytes begin into its body and what follows the frame; none where
+/// they don't begin with a whole frame. It takes no memory, whatever length the frame claims.
 pub fn split_frame(bytes: &[u8]) -> Option<(&[u8], &[u8])>
     ensures some { IfSome result (λ r. bytes.entry.now ≡ frame_of r.0.now ++ r.1.now) }
     ensures none { result ≡ None → HasNoFrame bytes.entry.now }

@@ -22,7 +22,7 @@
 //! `pod_core` for replies.
 #![tactic(auto)]
 
-mod decoding;
+mod entry_decoding;
 mod follower;
 mod frames;
 pub mod laws;

@@ -8,7 +8,7 @@ pub trait Clock {
     /// The numbers that the clock may give.
     ghost may_give: { Self → ℕ → Type 0 };
 
-    /// The seconds since the beginning of 1970, UTC.
+    /// The clock's time, in seconds since the beginning of 1970, UTC.
     fn now(&self) -> u64
         ensures { may_give self.now result };
 }

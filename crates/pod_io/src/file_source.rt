@@ -32,7 +32,7 @@ impl<R: Files<File = File> + Drop> FileSource<R> {
     }
 }
 
-/// Opens the file of a path, where it isn't open.
+/// Opens the file of a source, where it isn't open yet.
 fn open<R: Files<File = File>>(host: &R, path: &str, file: &mut Option<File>) -> io::Result<()> {
     if file.is_none() {
         let found = OpenOptions::new().read(true).open(host, path)?;
@@ -41,7 +41,7 @@ fn open<R: Files<File = File>>(host: &R, path: &str, file: &mut Option<File>) ->
     Ok(())
 }
 
-/// Reads of a file, which is opened first where it isn't open.
+/// Reads bytes of a source's file, which is opened first where it isn't open.
 fn read_file<R: Files<File = File>>(
     host: &R,
     path: &str,

@@ -31,7 +31,8 @@ pub trait Gate: Drop {
     /// How many calls found no more connections.
     ghost ends: { Self → ℕ };
 
-    /// The next connection, or `None` at the end of the connections. It may wait for one.
+    /// The next connection at the gate, or `None` at the end of the connections. It may wait for
+    /// one.
     fn next(&mut self) -> Result<Option<Self::Conn>, Failed>
         ensures rest { GivesFirst result (rest self.old) (rest self.new) }
         ensures back { back self.new ≡ back self.old }
@@ -41,7 +42,7 @@ pub trait Gate: Drop {
         ensures given { CountsGiven result (given self.old) (given self.new) }
         ensures ends { CountsLast result (ends self.old) (ends self.new) };
 
-    /// Takes back a connection that it gave.
+    /// Takes back a connection that the gate gave.
     fn done(&mut self, conn: Self::Conn)
         requires { 0 < room self.old }
         ensures back { TakesBack conn (back self.old) (back self.new) }

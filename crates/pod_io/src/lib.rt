@@ -40,8 +40,8 @@
 //! streams taken.
 #![tactic(auto)]
 
-mod calls;
 mod clock;
+mod failing_calls;
 mod file_source;
 mod gate;
 mod held_streams;
@@ -53,7 +53,7 @@ mod mem_listen;
 mod mem_sink;
 mod mem_source;
 mod mem_wire;
-mod numbers;
+mod number_writing;
 mod sink;
 mod source;
 mod std_sink;
@@ -61,11 +61,11 @@ mod std_source;
 mod tcp_gate;
 mod tcp_link;
 mod tcp_listen;
-mod whole;
+mod text_writing;
 mod wire;
 
-pub use calls::Calls;
 pub use clock::{Clock, HostClock, SetClock};
+pub use failing_calls::Calls;
 pub use file_source::FileSource;
 pub use gate::Gate;
 pub use held_streams::HeldStreams;
@@ -77,7 +77,7 @@ pub use mem_listen::MemListen;
 pub use mem_sink::MemSink;
 pub use mem_source::MemSource;
 pub use mem_wire::MemWire;
-pub use numbers::{write_number, write_number_line};
+pub use number_writing::{write_number, write_number_line};
 pub use sink::Sink;
 pub use source::{Failed, Source};
 pub use std_sink::StdSink;
@@ -85,7 +85,7 @@ pub use std_source::StdSource;
 pub use tcp_gate::TcpGate;
 pub use tcp_link::TcpLink;
 pub use tcp_listen::TcpListen;
-pub use whole::write_all;
+pub use text_writing::write_all;
 pub use wire::{Polled, Wire, WireFault};
 
 #[cfg(test)]

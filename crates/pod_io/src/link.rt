@@ -33,7 +33,7 @@ pub struct LinkCounts {
     pub quiet_row: u64,
 }
 
-/// A count that is one greater.
+/// The count of a link's calls after one more, which stops at the last number.
 fn one_more(count: u64) -> u64
     ensures value { result ≡ next_count count }
     ensures no_fewer { count ≤ result }
@@ -106,9 +106,9 @@ pub trait Link: Drop {
     /// How often its calls ended in each way.
     ghost counts: { Self → LinkCounts };
 
-    /// Reads some bytes to the start of `into`, which is not empty, and returns how many. Where
-    /// there are none, the peer has ended. A read waits for bytes for at most one second or so, and
-    /// then ends with [`LinkFailed::Quiet`].
+    /// Reads some bytes of the link to the start of `into`, which is not empty, and returns how
+    /// many. Where there are none, the peer has ended. A read waits for bytes for at most one
+    /// second or so, and then ends with [`LinkFailed::Quiet`].
     fn read(&mut self, into: &mut [u8]) -> Result<usize, LinkFailed>
         requires { 0 < length into.old }
         ensures len { IfOk result (λ count. count ≤ length into.old) }
@@ -118,8 +118,8 @@ pub trait Link: Drop {
         ensures sent { sent self.new ≡ sent self.old }
         ensures counts { CountsLinkRead result (counts self.old) (counts self.new) };
 
-    /// Writes a prefix of `piece`, which is not empty, and returns its length: at least one byte.
-    /// It never ends with [`LinkFailed::Quiet`].
+    /// Writes a prefix of `piece`, which is not empty, to the link, and returns its length: at
+    /// least one byte. It never ends with [`LinkFailed::Quiet`].
     fn write(&mut self, piece: &[u8]) -> Result<usize, LinkFailed>
         requires { 0 < length piece.now }
         ensures some { IfOk result (λ count. 0 < count) }

@@ -38,8 +38,8 @@ pub trait Listen {
     /// How many calls failed: a number of 64 bits, which never falls and stops at the last number.
     ghost faults: { Self → ℕ };
 
-    /// Opens as many gates as there are workers, 1 to [`GATE_LIMIT`], for the connections to that
-    /// port of this host.
+    /// Opens as many gates of the listener as there are workers, 1 to [`GATE_LIMIT`], for the
+    /// connections to that port of this host.
     fn open(
         &mut self,
         alloc: Global,
@@ -55,7 +55,7 @@ pub trait Listen {
         ensures failed { IsErrOf result ListenFault.Failed
             → CountIncreased (faults self.old) (faults self.new) };
 
-    /// Takes back a gate that it opened.
+    /// Takes back a gate that the listener opened.
     fn close(&mut self, gate: Self::Gate)
         requires { 0 < room self.old }
         ensures back { TakesBack gate (back self.old) (back self.new) }

@@ -6,7 +6,7 @@ ghost use Rattle.pod_io.specs.Counts.{CountsFaults};
 ghost use Rattle.pod_io.specs.Gates.{GivesFirst, TakesBack, CountsGiven, CountsLast};
 ghost use Rattle.pod_io.specs.Memory.{NextFails, IsNextCall};
 
-use crate::calls::Calls;
+use crate::failing_calls::Calls;
 use crate::gate::Gate;
 use crate::link::Link;
 use crate::source::Failed;

@@ -4,7 +4,7 @@ ghost use Rattle.pod_io.specs.Links.{CountsLinkRead, CountsLinkWrite};
 ghost use Rattle.pod_io.specs.Memory.{NextFails, IsNextCall, next_call};
 ghost use Rattle.pod_io.specs.Visible.{IfVisible, IsRead, Consumes, Appends};
 
-use crate::calls::Calls;
+use crate::failing_calls::Calls;
 use crate::link::{Link, LinkCounts, LinkFailed};
 use crate::mem_sink::MemSink;
 use crate::mem_source::MemSource;

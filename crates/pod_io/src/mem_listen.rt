@@ -6,7 +6,7 @@ ghost use Rattle.pod_io.specs.Gates.{TakesBack, OpensFirst};
 ghost use Rattle.pod_io.specs.declared.listen.TheConstants.{GATE_LIMIT};
 ghost use Rattle.pod_io.specs.Memory.{NextFails, next_call};
 
-use crate::calls::Calls;
+use crate::failing_calls::Calls;
 use crate::gate::Gate;
 use crate::link::Link;
 use crate::listen::{Listen, ListenFault};
@@ -51,7 +51,8 @@ impl<L: Drop> MemListen<L> {
     }
 }
 
-/// Takes the first of the gates that are left, or a gate without connections where there are none.
+/// Takes the first gate that is left of a listener in memory, or a gate without connections where
+/// there are none.
 fn next_gate<L: Drop>(alloc: Global, rest: &mut VecDeque<MemGate<L>>) -> MemGate<L>
     ensures first { (more : ListOf _) → OpensFirst rest.new.items more
         → OpensFirst rest.old.items (result ∷ more) }
@@ -63,8 +64,8 @@ fn next_gate<L: Drop>(alloc: Global, rest: &mut VecDeque<MemGate<L>>) -> MemGate
     }
 }
 
-/// Moves that many gates to a list that has room for them: the first of `rest`, and gates without
-/// connections where there are no more.
+/// Moves that many gates of a listener in memory to a list that has room for them: the first of
+/// `rest`, and gates without connections where there are no more.
 fn move_gates<L: Drop>(
     alloc: Global,
     rest: &mut VecDeque<MemGate<L>>,

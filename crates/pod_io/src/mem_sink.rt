@@ -4,7 +4,7 @@ ghost use Rattle.pod_io.specs.Counts.{CountsFaults};
 ghost use Rattle.pod_io.specs.Visible.{Appends};
 ghost use Rattle.pod_io.specs.Memory.{NextFails, IsNextCall};
 
-use crate::calls::Calls;
+use crate::failing_calls::Calls;
 use crate::sink::Sink;
 use crate::source::Failed;
 use std::alloc::Global;

@@ -4,7 +4,7 @@ ghost use Rattle.pod_io.specs.Counts.{CountsFaults, CountsReads, CountsEnds};
 ghost use Rattle.pod_io.specs.Visible.{IfVisible, IsRead, Consumes};
 ghost use Rattle.pod_io.specs.Memory.{NextFails, IsNextCall};
 
-use crate::calls::Calls;
+use crate::failing_calls::Calls;
 use crate::source::{Failed, Source};
 use std::marker::Model;
 

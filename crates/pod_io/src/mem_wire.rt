@@ -4,7 +4,7 @@ ghost use Rattle.std.specs.Prelude.{if◌then◌else◌};
 ghost use Rattle.pod_io.specs.Memory.{NextFails, IsNextCall};
 ghost use Rattle.pod_io.specs.Wires.{SendsText, CountsPolls, CountsErrors, CountsClosed};
 
-use crate::calls::Calls;
+use crate::failing_calls::Calls;
 use crate::wire::{Polled, Wire, WireFault};
 use pod_base::{List, Text};
 use std::alloc::Global;
@@ -51,7 +51,8 @@ impl MemWire {
     }
 }
 
-/// Appends a copy of a text. Returns whether there was memory for it.
+/// Appends a copy of a text to those that a wire in memory has sent. Returns whether there was
+/// memory for it.
 fn append(alloc: Global, sent: &mut List<Text>, text: &Text) -> bool
     ensures { sent.new.items
         ≡ (if result then sent.old.items ++ text.now ∷ [] else sent.old.items) }

@@ -13,7 +13,8 @@ pub trait Sink {
     /// How many writes failed: a number of 64 bits, which never falls and stops at the last number.
     ghost faults: { Self → ℕ };
 
-    /// Writes a prefix of `piece`, which is not empty, and returns its length: at least one byte.
+    /// Writes a prefix of `piece`, which is not empty, to the sink, and returns its length: at
+    /// least one byte.
     fn write(&mut self, piece: &[u8]) -> Result<usize, Failed>
         requires { 0 < length piece.now }
         ensures some { IfOk result (λ count. 0 < count) }

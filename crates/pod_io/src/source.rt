@@ -23,8 +23,8 @@ pub trait Source {
     /// How many reads found the end: they succeeded, and gave no byte.
     ghost ends: { Self → ℕ };
 
-    /// Reads some bytes to the start of `into`, which is not empty, and returns how many. Where
-    /// there are none, the source is at its end.
+    /// Reads some bytes of the source to the start of `into`, which is not empty, and returns how
+    /// many. Where there are none, the source is at its end.
     fn read(&mut self, into: &mut [u8]) -> Result<usize, Failed>
         requires { 0 < length into.old }
         ensures len { IfOk result (λ count. count ≤ length into.old) }

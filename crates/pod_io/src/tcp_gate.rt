@@ -54,7 +54,7 @@ enum Tried {
     Busy,
 }
 
-/// Accepts a connection, once.
+/// Accepts a TCP connection at the gate's socket, once.
 fn accept(listener: &TcpListener) -> Tried {
     match listener.accept() {
         Ok((stream, _address)) => match TcpLink::new(stream) {
@@ -67,8 +67,8 @@ fn accept(listener: &TcpListener) -> Tried {
     }
 }
 
-/// Accepts a connection. Tries again where a peer is gone, and after a moment where there is
-/// another error.
+/// Accepts the next TCP connection at the gate's socket. Tries again where a peer is gone, and
+/// after a moment where there is another error.
 fn accept_next<R: Clock>(host: &R, listener: &TcpListener) -> Option<TcpLink> {
     let mut waits = 0;
     for _ in 0..TRY_LIMIT {

@@ -59,7 +59,7 @@ impl TcpLink {
     }
 }
 
-/// Drops what comes on a stream.
+/// Reads what still comes on a TCP stream, and drops it.
 fn drop_rest(stream: &TcpStream) {
     let mut dropped = [0u8; DROP_SIZE];
     for _ in 0..DROP_LIMIT {
@@ -70,7 +70,7 @@ fn drop_rest(stream: &TcpStream) {
     }
 }
 
-/// Reads of a stream.
+/// Reads bytes of a TCP stream.
 fn read_stream(stream: &TcpStream, into: &mut [u8]) -> Result<usize, LinkFailed>
     ensures { IfOk result (λ count. count ≤ length into.old) }
 {
@@ -88,7 +88,7 @@ fn read_stream(stream: &TcpStream, into: &mut [u8]) -> Result<usize, LinkFailed>
     Err(LinkFailed::Failed)
 }
 
-/// Writes to a stream. A write that takes no byte has failed.
+/// Writes bytes to a TCP stream. A write that takes no byte has failed.
 fn write_stream(stream: &TcpStream, piece: &[u8]) -> Result<usize, LinkFailed>
     ensures some { IfOk result (λ count. 0 < count) }
     ensures len { IfOk result (λ count. count ≤ length piece.now) }

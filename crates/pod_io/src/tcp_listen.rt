@@ -26,7 +26,7 @@ impl<R: Drop> TcpListen<R> {
     }
 }
 
-/// Opens a socket that listens on a port, and gates for its connections, which share it.
+/// Opens a TCP socket that listens on a port, and gates for its connections, which share it.
 fn open_gates<R>(
     host: &R,
     alloc: Global,
@@ -42,7 +42,7 @@ where
     };
     let mut gates = List::new(alloc);
     for _ in 0..count {
-        let gate = another(host, &listener)?;
+        let gate = another_gate(host, &listener)?;
         if gates.push(alloc, gate).is_err() {
             return Err(ListenFault::NoMemory);
         }
@@ -50,8 +50,11 @@ where
     Ok(gates)
 }
 
-/// Another gate for the connections of a socket.
-fn another<R: Clone + Drop>(host: &R, listener: &TcpListener) -> Result<TcpGate<R>, ListenFault> {
+/// Another gate for the connections at a listening TCP socket.
+fn another_gate<R: Clone + Drop>(
+    host: &R,
+    listener: &TcpListener,
+) -> Result<TcpGate<R>, ListenFault> {
     let Ok(host) = host.clone() else {
         return Err(ListenFault::NoMemory);
     };

@@ -42,7 +42,7 @@ pub trait Wire {
     /// So it is after some calls, and then some more.
     ghost joins: { (a b c : Self) → follows a b → follows b c → follows a c };
 
-    /// Sends a text.
+    /// Sends a text on the wire.
     fn send_text(&mut self, text: &Text) -> Result<(), WireFault>
         ensures sent { SendsText result text.now (sent self.old) (sent self.new) }
         ensures polls { polls self.new ≡ polls self.old }
@@ -50,8 +50,8 @@ pub trait Wire {
         ensures closed { closed self.new ≡ closed self.old }
         ensures follows { follows self.old self.new };
 
-    /// Answers what came from the peer, and returns whether it has closed the wire. It waits for
-    /// at most one second or so.
+    /// Answers what came on the wire from the peer, and returns whether that has closed it. It
+    /// waits for at most one second or so.
     fn poll(&mut self) -> Result<Polled, WireFault>
         ensures sent { sent self.new ≡ sent self.old }
         ensures polls { CountsPolls result (polls self.old) (polls self.new) }

@@ -22,7 +22,7 @@ use Rattle.pod_keeper.proofs.Stamps.{later_at_end}
 use Rattle.pod_keeper.proofs.Standing.{disks_stand, more_entries}
 use Rattle.pod_reply.specs.Replies.{Reply, reply_of}
 use Rattle.pod_reply.specs.Reply.{IsReply}
-use Rattle.pod_reply.specs.declared.replied.Replied.{Replied}
+use Rattle.pod_reply.specs.declared.response_and_entry.Replied.{Replied}
 use Rattle.reply_laws.specs.Laws.{IsNoFailure}
 use Rattle.reply_laws.specs.Sent.{IsSent}
 use Rattle.token_table.specs.Credentials.{AskedAgent}

@@ -3,7 +3,7 @@ use Rattle.std.proofs.Common.{inl, inr, ℕ, ◌+◌, List, [], ◌∷◌, ◌++
 use Rattle.std.proofs.lemmas.List.Elements.{Contains-append_left}
 use Rattle.journal_log.specs.Classes.{HasClass}
 use Rattle.journal_log.specs.Images.{Stands, IsEither}
-use Rattle.journal_log.specs.declared.class.DiskClass.TheVariants.{Open}
+use Rattle.journal_log.specs.declared.disk_class.DiskClass.TheVariants.{Open}
 use Rattle.journal_log.specs.declared.fault.Side.{Side}
 use Rattle.journal_pair.specs.PairJournal.{HasSnapshot, IsPassedBeside}
 use Rattle.journal_pair.specs.PairMoments.{EachPair, ThroughMending, ThroughOpenings}

@@ -2,7 +2,7 @@ use Rattle.std.specs.Prelude.{ℕ, ◌⊎◌, ◌≡◌, ◌<◌, ◌^◌, List,
 use Rattle.journal_pair.specs.PairState.{PairState, IsDue}
 use Rattle.pod_base.specs.declared.moment.Moment.{Moment}
 use Rattle.pod_pages.specs.State.{VersionState}
-use Rattle.pod_pages.specs.declared.effects.Effect.{Effect}
+use Rattle.pod_pages.specs.declared.entry_effects.Effect.{Effect}
 use Rattle.pod_rows.specs.Pod.{Pod}
 
 -- A keeper as contracts see it: its two disks and their pair, its version, and the moment of the

@@ -16,9 +16,9 @@ use pod_records::snapshot_record;
 use std::alloc::Global;
 
 impl<D: Disk> Keeper<D> {
-    /// Makes a checkpoint: from `Ok` on, below epoch 2^63, the active journal is on the other disk,
-    /// and holds the current pod and no entry. The gate in doubt is closed before, where there is
-    /// one. At epoch 2^63 it changes nothing.
+    /// Makes a checkpoint of the keeper's store: from `Ok` on, below epoch 2^63, the active journal
+    /// is on the other disk, and holds the current pod and no entry. The gate in doubt is closed
+    /// before, where there is one. At epoch 2^63 it changes nothing.
     ///
     /// # Errors
     ///
@@ -57,7 +57,7 @@ impl<D: Disk> Keeper<D> {
         }
     }
 
-    /// Makes a checkpoint below epoch 2^63.
+    /// Makes a checkpoint of the keeper's store below epoch 2^63.
     fn renew(&mut self, alloc: Global) -> Result<(), CommitFault>
         requires below { self.old.pair.journal.epoch < 2 ^ 63 }
         requires stands { StandsForSome D.image self.old }

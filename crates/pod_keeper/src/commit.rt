@@ -26,10 +26,10 @@ use std::alloc::Global;
 use token_table::Asked;
 
 impl<D: Disk> Keeper<D> {
-    /// Answers a change at the current version, with the greater of the stamp's moment and the last
-    /// entry's. Where the answer has an entry it is made durable, and applied: after `Ok` every
-    /// crash image has it. Before it the gate in doubt is closed, where there is one, and a
-    /// checkpoint is made, where the journal has format 1 or is long enough.
+    /// Commits a change, which is answered at the current version, with the greater of the stamp's
+    /// moment and the last entry's. Where the answer has an entry it is made durable, and applied:
+    /// after `Ok` every crash image has it. Before it the gate in doubt is closed, where there is
+    /// one, and a checkpoint is made, where the journal has format 1 or is long enough.
     ///
     /// # Errors
     ///
@@ -92,7 +92,7 @@ impl<D: Disk> Keeper<D> {
         }
     }
 
-    /// Carries out what was planned, where there is an entry.
+    /// Carries out the commit that was planned, where there is an entry.
     fn carry_out(&mut self, next: Option<Planned>) -> Result<(), DiskFault>
         requires planned { IfSome next (IsPlannedAt self.old) }
         requires stands { StandsForSome D.image self.old }

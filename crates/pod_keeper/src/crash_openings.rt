@@ -40,8 +40,9 @@ pub fn opens_after<D: Disk>(keeper: &Keeper<D>)
     journal_pair::store_stands_once();
 }
 
-/// So it is after a crash at a moment of a call, where the call says which entries may follow the
-/// history.
+/// Openings of a store after a crash at a moment of a call, which crashes cut short, one after the
+/// other, leave and give the history, or that with one of the entries that the call says may follow
+/// it.
 pub fn opens_after_a_crash<D: Disk>(disk: &D)
     ensures { OpensAfterCrash D.content D.image D.moment D.left_since D.faults }
 {

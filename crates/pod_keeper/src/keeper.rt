@@ -24,7 +24,7 @@ pub struct Keeper<D: Disk> {
     pub(crate) last: Option<Moment>,
 }
 
-/// A reference-counted version.
+/// The version that a keeper holds, reference-counted.
 pub(crate) fn shared(alloc: Global, version: Version) -> Mem<Arc<Version>>
     ensures { IfOk result (λ shared. arc_value shared ≡ version) }
 {
@@ -53,7 +53,7 @@ impl<D: Disk> Model for Keeper<D> {
 }
 
 impl<D: Disk> Keeper<D> {
-    /// The current version.
+    /// The current version of the keeper's pod.
     pub fn version(&self) -> &Arc<Version>
         ensures pod { (arc_value result.now).pod ≡ self.now.pod }
         ensures next { (arc_value result.now).next ≡ self.now.next }
@@ -63,21 +63,21 @@ impl<D: Disk> Keeper<D> {
         &self.version
     }
 
-    /// The number of the next entry.
+    /// The number of the keeper's next entry.
     pub fn seq(&self) -> u64
         ensures { result ≡ self.now.next }
     {
         self.version.next()
     }
 
-    /// The moment of the last entry.
+    /// The moment of the keeper's last entry.
     pub fn last(&self) -> Option<Moment>
         ensures { result ≡ self.now.last }
     {
         self.last
     }
 
-    /// Returns the disks as they are.
+    /// Closes the keeper, and returns its disks as they are.
     pub fn close(self) -> Disks<D>
         ensures first { result.first ≡ self.first }
         ensures second { result.second ≡ self.second }

@@ -11,9 +11,9 @@ use crate::keeper::Keeper;
 use pod_disk::Disk;
 use pod_io::Clock;
 
-/// In a run of requests each moment is one of a step: whatever a crash since then leaves of a disk
-/// represents, with whatever it leaves of the other in that step, the history with the entries of
-/// the requests before, or that with the entry in doubt or the step's own.
+/// In a run of a keeper's requests each moment is one of a step: whatever a crash since then leaves
+/// of a disk represents, with whatever it leaves of the other in that step, the history with the
+/// entries of the requests before, or that with the entry in doubt or the step's own.
 pub fn moments_are_of_steps<D: Disk, C: Clock>(disk: &D, clock: &C)
     ensures { MomentsAreOfSteps D.image D.moment D.left_since (C.may_give clock.now) }
 {

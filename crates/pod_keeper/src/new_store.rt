@@ -22,7 +22,7 @@ use pod_records::record_of;
 use pod_rows::{first_pods_are_well_formed, first_snapshot};
 use std::alloc::Global;
 
-/// The IRI that a text is.
+/// The IRI that the text of a new store's owner is.
 fn iri_of(alloc: Global, text: &Text) -> Mem<Iri>
     ensures { IfOk result (λ iri. iri ≡ text.now) }
 {
@@ -32,7 +32,7 @@ fn iri_of(alloc: Global, text: &Text) -> Mem<Iri>
     }
 }
 
-/// The record of a new pod's snapshot.
+/// The first record of a new store: the snapshot of a new pod.
 fn first_record(alloc: Global, base: &Iri, owner: &Text, moment: Moment) -> Mem<Framed>
     requires { IsTrue (is_base base.now) }
     ensures { IfOk result (IsSnapshotText (first_pod base.now owner.now moment) 0) }
@@ -44,10 +44,10 @@ fn first_record(alloc: Global, base: &Iri, owner: &Text, moment: Moment) -> Mem<
 }
 
 impl<D: Disk> Keeper<D> {
-    /// Begins a store on two empty disks, with the two first rows of a pod of that base and that
-    /// owner, who is an absolute IRI. The rows have that moment. The first disk has a journal of
-    /// format 2 and epoch 1 with these rows alone, and the second a closed head of epoch 0. A crash
-    /// inside this call may leave anything.
+    /// Begins a new store on two empty disks, with the two first rows of a pod of that base and
+    /// that owner, who is an absolute IRI. The rows have that moment. The first disk has a journal
+    /// of format 2 and epoch 1 with these rows alone, and the second a closed head of epoch 0. A
+    /// crash inside this call may leave anything.
     ///
     /// # Errors
     ///

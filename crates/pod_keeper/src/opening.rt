@@ -86,8 +86,8 @@ impl<D: Disk> Keeper<D> {
         }
     }
 
-    /// As [`open`](Keeper::open), with the records of the active journal as they were read, the
-    /// snapshot first.
+    /// Opens a store as [`open`](Keeper::open) does, with the records of the active journal as they
+    /// were read, the snapshot first.
     pub fn open_records(
         alloc: Global,
         disks: Disks<D>,

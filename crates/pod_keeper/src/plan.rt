@@ -64,7 +64,7 @@ struct Prepared {
     snapshot: Option<Framed>,
 }
 
-/// The stamp with the greater of its moment and the last one.
+/// The stamp of a planned entry, with the greater of its moment and the last one.
 fn stamp_after(stamp: Stamp, last: Option<Moment>) -> Stamp
     ensures { result ≡ later stamp last }
 {
@@ -78,7 +78,7 @@ fn stamp_after(stamp: Stamp, last: Option<Moment>) -> Stamp
     }
 }
 
-/// Whether a checkpoint is to be made before the next entry.
+/// Whether the plan of a commit has a checkpoint before its entry.
 fn is_checkpoint_due(pair: &Pair) -> bool
     ensures yes { IsTrue result → IsCheckpointDue pair.now }
     ensures no { IsCheckpointDue pair.now → IsTrue result }
@@ -86,7 +86,7 @@ fn is_checkpoint_due(pair: &Pair) -> bool
     pair.epoch() < EPOCH_LIMIT && (pair.format() == OLD_FORMAT || pair.due())
 }
 
-/// The record of the version's snapshot, where a checkpoint is due.
+/// The record of the snapshot that a commit is planned with, where a checkpoint is due.
 fn snapshot_where_due(alloc: Global, pair: &Pair, version: &Version) -> Mem<Option<Framed>>
     ensures text { IfOk result (λ snapshot. IfSome snapshot
         (IsSnapshotText version.now.pod version.now.next)) }
@@ -101,7 +101,7 @@ fn snapshot_where_due(alloc: Global, pair: &Pair, version: &Version) -> Mem<Opti
     }
 }
 
-/// What the commit of an entry writes and keeps.
+/// Prepares what the planned commit of an entry writes and keeps.
 fn prepare(alloc: Global, pair: &Pair, version: &Version, entry: &Entry) -> Mem<Prepared>
     requires applies { Applies version.now.pod version.now.next entry.now }
     requires encodable { IsEncodable entry.now }
@@ -128,9 +128,9 @@ fn prepare(alloc: Global, pair: &Pair, version: &Version, entry: &Entry) -> Mem<
 }
 
 impl<D: Disk> Keeper<D> {
-    /// Answers a change at the current version, with the greater of the stamp's moment and the last
-    /// entry's, and makes all that its commit writes and keeps. [`write_planned`](Keeper::write_planned) then takes
-    /// no memory.
+    /// Plans the commit of a change, which is answered at the current version, with the greater of
+    /// the stamp's moment and the last entry's, and makes all that its commit writes and keeps.
+    /// [`write_planned`](Keeper::write_planned) then takes no memory.
     pub fn plan(
         &self,
         alloc: Global,
@@ -156,7 +156,7 @@ impl<D: Disk> Keeper<D> {
         })
     }
 
-    /// The reply to a change at the current version.
+    /// The reply to a change that is planned at the current version.
     fn reply_at_end(
         &self,
         alloc: Global,
@@ -176,7 +176,7 @@ impl<D: Disk> Keeper<D> {
         answer(alloc, &*self.version, request, asked, place, stamp)
     }
 
-    /// The entry with what its commit writes and keeps, where there is one.
+    /// Plans the commit of an entry, with what it writes and keeps, where there is one.
     fn plan_entry(&self, alloc: Global, entry: Option<Entry>) -> Mem<Option<Planned>>
         requires applies { IfSome entry (Applies self.now.pod self.now.next) }
         requires encodable { IfSome entry IsEncodable }

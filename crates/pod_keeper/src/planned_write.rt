@@ -18,9 +18,9 @@ use pod_command::Entry;
 use pod_disk::Disk;
 
 impl<D: Disk> Keeper<D> {
-    /// Makes an entry durable that was planned at the current version, and applies it. The entry is
-    /// returned. Before it the gate in doubt is closed, where there is one, and a checkpoint is
-    /// made, where it is due. It takes no memory.
+    /// Writes an entry that was planned at the current version to the disks, and applies it. The
+    /// entry is returned. Before it the gate in doubt is closed, where there is one, and a
+    /// checkpoint is made, where it is due. It takes no memory.
     ///
     /// # Errors
     ///

@@ -60,9 +60,9 @@ pub trait Rounds<N: ViewName<CommittedEntry> + StoreName> {
     /// lock, may be these: one after the other they are steps of the store's keeper.
     ghost takes: { ListOf TakenItem → Type 0 };
 
-    /// Answers a change under the lock, makes its entry durable, where it has one, publishes the
-    /// version after it, and makes one look. A look that is refused is made again; one that is out
-    /// of memory counts.
+    /// Commits a change of a session to the live store: answers it under the lock, makes its entry
+    /// durable, where it has one, publishes the version after it, and makes one look. A look that
+    /// is refused is made again; one that is out of memory counts.
     ///
     /// # Errors
     ///
@@ -87,8 +87,8 @@ pub trait Rounds<N: ViewName<CommittedEntry> + StoreName> {
             request.now (asked_view asked.now) stamp }
         ensures memory { IsErrOf result CommitFault.NoMemory → session.new ≡ session.old };
 
-    /// Shows all sessions the one list, which has grown by the sum of their changes. The seats hold
-    /// all sessions.
+    /// Shows all sessions of the live store the one list, which has grown by the sum of their
+    /// changes. The seats hold all sessions.
     fn gather<X: Drop, R: Wait>(&self, rt: &R, seats: &mut [Seat<X, N>])
         requires all { length seats.old ≡ N.parts }
         ensures one_list { (list : ListOf Entry) × IsPrefix N.opening list
@@ -98,7 +98,7 @@ pub trait Rounds<N: ViewName<CommittedEntry> + StoreName> {
             × Took takes list (sum_by (λ s. s.session.faults) seats.old) };
 }
 
-/// The version of a keeper, which the store was opened with.
+/// The version of a keeper, which the live store was opened with.
 fn opened_version<N: StoreName, D: Disk>(keeper: &Keeper<D>) -> &Arc<Version>
     requires { version_in keeper.now ≡ N.opened }
     ensures { arc_value result.now ≡ N.opened }
@@ -106,7 +106,7 @@ fn opened_version<N: StoreName, D: Disk>(keeper: &Keeper<D>) -> &Arc<Version>
     keeper.version()
 }
 
-/// A session for each looker, with a part of each ledger.
+/// Makes the live store's sessions, one for each looker, with a part of each ledger.
 fn sessions_of<N: ViewName<CommittedEntry> + StoreName>(
     alloc: Global,
     opened: &Arc<Version>,
@@ -143,7 +143,7 @@ fn sessions_of<N: ViewName<CommittedEntry> + StoreName>(
     Ok(sessions)
 }
 
-/// Has each session see just this front, which nobody adds to meanwhile.
+/// Has each session of the live store see just this front, which nobody adds to meanwhile.
 fn meet_all<X: Drop, N: ViewName<CommittedEntry> + StoreName, R: Wait>(
     rt: &R,
     front: &Front<CommittedEntry, N>,
@@ -158,7 +158,7 @@ fn meet_all<X: Drop, N: ViewName<CommittedEntry> + StoreName, R: Wait>(
     }
 }
 
-/// What the lock protects, of a store that was just opened.
+/// What the lock protects of a live store that was just opened.
 fn opened_lock<N: ViewName<CommittedEntry> + StoreName + KeeperName<D>, D: Disk>(
     keeper: Keeper<D>,
     publisher: Publisher<Shown<N>, N>,
@@ -190,7 +190,7 @@ fn opened_lock<N: ViewName<CommittedEntry> + StoreName + KeeperName<D>, D: Disk>
 }
 
 impl<N: ViewName<CommittedEntry> + StoreName + KeeperName<D>, D: Disk> Live<N, D> {
-    /// Publishes the version of a keeper, for so many sessions, 1 to 64.
+    /// Opens a live store of a keeper, whose version it publishes for so many sessions, 1 to 64.
     ///
     /// # Errors
     ///
@@ -261,7 +261,7 @@ impl<N: ViewName<CommittedEntry> + StoreName + KeeperName<D>, D: Disk> Live<N, D
         }
     }
 
-    /// Answers a change, as [`Rounds::commit`], and returns its response alone.
+    /// Answers a change to the live store, as [`Rounds::commit`], and returns its response alone.
     pub fn change<R: Wait>(
         &self,
         rt: &R,
@@ -289,8 +289,8 @@ impl<N: ViewName<CommittedEntry> + StoreName + KeeperName<D>, D: Disk> Live<N, D
         }
     }
 
-    /// Closes the store, shows all sessions the one list, and returns the keeper. The seats hold
-    /// all sessions.
+    /// Closes the live store, shows all sessions the one list, and returns the keeper. The seats
+    /// hold all sessions.
     pub fn close<X: Drop, R: Wait>(self, rt: &R, seats: &mut [Seat<X, N>]) -> Keeper<D>
         requires all { length seats.old ≡ N.parts }
         ensures one_list { (list : ListOf Entry) × IsPrefix N.opening list
@@ -325,7 +325,8 @@ impl<N: ViewName<CommittedEntry> + StoreName + KeeperName<D>, D: Disk> Live<N, D
         keeper
     }
 
-    /// Answers a change under the lock, where the list there begins with what the session has seen.
+    /// Answers a change under the live store's lock, where the list there begins with what the
+    /// session has seen.
     fn try_commit<R: Wait>(
         &self,
         rt: &R,

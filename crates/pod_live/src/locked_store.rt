@@ -70,7 +70,8 @@ where
 }
 
 impl<N: ViewName<CommittedEntry> + StoreName + KeeperName<D>, D: Disk> Locked<N, D> {
-    /// Makes the entry of a change durable, publishes it, and counts it; or counts a fault.
+    /// Makes the entry of a change durable in the locked store, publishes it, and counts it; or
+    /// counts a fault.
     fn enter<R: Wait>(
         &mut self,
         rt: &R,
@@ -121,8 +122,8 @@ impl<N: ViewName<CommittedEntry> + StoreName + KeeperName<D>, D: Disk> Locked<N,
         Ok(())
     }
 
-    /// Makes the planned entry durable, where there is one, and counts it or a fault on the
-    /// session's shares.
+    /// Makes the planned entry durable in the locked store, where there is one, and counts it or a
+    /// fault on the session's shares.
     fn carry_out<R: Wait>(
         &mut self,
         rt: &R,
@@ -172,7 +173,7 @@ impl<N: ViewName<CommittedEntry> + StoreName + KeeperName<D>, D: Disk> Locked<N,
         }
     }
 
-    /// The session learns what is published.
+    /// Shows the session what the locked store has published.
     fn learn_published(&self, session: &mut Session<N>)
         ensures told { IsPrefix self.now.list session.new.told }
         ensures rest { record session.new { told = session.old.told } ≡ session.old }
@@ -180,8 +181,8 @@ impl<N: ViewName<CommittedEntry> + StoreName + KeeperName<D>, D: Disk> Locked<N,
         session.looker.learn(self.publisher.tell());
     }
 
-    /// Answers a change, and counts it on the session's shares. The session learns what is then
-    /// published.
+    /// Answers a change at the locked store, and counts it on the session's shares. The session
+    /// learns what is then published.
     pub(crate) fn decide<R: Wait>(
         &mut self,
         rt: &R,
@@ -219,7 +220,7 @@ impl<N: ViewName<CommittedEntry> + StoreName + KeeperName<D>, D: Disk> Locked<N,
         }
     }
 
-    /// What a change comes to here.
+    /// Plans a change at the locked store.
     fn plan_here(
         &self,
         alloc: Global,
@@ -237,7 +238,8 @@ impl<N: ViewName<CommittedEntry> + StoreName + KeeperName<D>, D: Disk> Locked<N,
         }
     }
 
-    /// Lends the shares of these seats to two that then have every part, and returns them.
+    /// Audits the locked store's counts of changes and faults, for which the shares of these seats
+    /// are lent to two that then have every part, and returned.
     pub(crate) fn audit<X: Drop>(
         &mut self,
         seats: &mut [Seat<X, N>],

@@ -55,7 +55,7 @@ impl<N: StoreName> PodTold for Shown<N> {
 }
 
 impl<N: StoreName> Shown<N> {
-    /// The version, to be published.
+    /// The version of the pod as it is published.
     pub(crate) fn of(alloc: Global, version: &Arc<Version>) -> Mem<Arc<Shown<N>>>
         ensures { IfOk result
             (λ shown. arc_value (arc_value shown).version ≡ arc_value version.now) }

@@ -20,7 +20,8 @@ use published_view::{ViewFault, ViewName};
 use std::alloc::Global;
 use token_table::Asked;
 
-/// Answers a request that is no change from the version of one look. It waits for nobody.
+/// Answers a read, a request that is no change, from the version of one look at the live store. It
+/// waits for nobody.
 ///
 /// # Errors
 ///
@@ -49,7 +50,7 @@ pub fn answer_read<N: ViewName<CommittedEntry> + StoreName>(
     }
 }
 
-/// Answers a request that is no change, at a version.
+/// Answers a read, a request that is no change, at a version of the live store.
 fn answer_at(
     alloc: Global,
     version: &Version,
@@ -76,8 +77,8 @@ fn answer_at(
 }
 
 impl<N: ViewName<CommittedEntry> + StoreName> Session<N> {
-    /// As [`answer_read`], with the position of the version that the look returned. The moment is
-    /// the stamp's.
+    /// Answers a read as [`answer_read`] does, with the position of the version that the look
+    /// returned. The moment is the stamp's.
     pub fn read(
         &mut self,
         alloc: Global,

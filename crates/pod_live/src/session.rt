@@ -86,7 +86,8 @@ impl<N: ViewName<CommittedEntry> + StoreName> Session<N> {
         }
     }
 
-    /// Makes one look, and returns the version that is published then. It waits for nobody.
+    /// Makes one look of the session, and returns the version that is published then. It waits for
+    /// nobody.
     ///
     /// # Errors
     ///
@@ -108,36 +109,36 @@ impl<N: ViewName<CommittedEntry> + StoreName> Session<N> {
         }
     }
 
-    /// The position after the entries that it has seen, at most 2^64 - 1. After a look that
-    /// returned a version it is the number of that version's next entry.
+    /// The position after the entries that the session has seen, at most 2^64 - 1. After a look
+    /// that returned a version it is the number of that version's next entry.
     pub fn seen(&self) -> u64
         ensures { result ≡ min (N.opened.next + length self.now.seen) (2 ^ 64 - 1) }
     {
         self.first.saturating_add(self.looker.seen().added())
     }
 
-    /// How many entries its changes added.
+    /// How many entries the session's changes added.
     pub fn changes(&self) -> u64
         ensures { result ≡ self.now.changes }
     {
         self.changes
     }
 
-    /// How many of its looks were refused. The count stands still at its last value.
+    /// How many of the session's looks were refused. The count stands still at its last value.
     pub fn refused(&self) -> u64
         ensures { result ≡ self.now.refused }
     {
         self.looker.refused()
     }
 
-    /// The base of its pod.
+    /// The base of the session's pod.
     pub fn base(&self) -> &Iri
         ensures { result.now ≡ N.opened.pod.base }
     {
         &self.base
     }
 
-    /// Makes one look, again where it was refused.
+    /// Makes one look of the session, again where it was refused.
     pub(crate) fn look_again<R: Wait>(&mut self, rt: &R)
         ensures later { IsPrefix self.old.seen self.new.seen }
         ensures told { IsPrefix self.old.told self.new.seen }
@@ -149,7 +150,7 @@ impl<N: ViewName<CommittedEntry> + StoreName> Session<N> {
         look_until(rt, &mut self.looker);
     }
 
-    /// Looks until it has seen just this front, which nobody adds to meanwhile.
+    /// Looks until the session has seen just this front, which nobody adds to meanwhile.
     pub(crate) fn meet<R: Wait>(&mut self, rt: &R, front: &Front<CommittedEntry, N>)
         ensures { Meets front.now self.old self.new }
     {
@@ -157,7 +158,7 @@ impl<N: ViewName<CommittedEntry> + StoreName> Session<N> {
     }
 }
 
-/// Makes one look, again where it was refused.
+/// Makes one look of a session, again where it was refused.
 fn look_until<N: ViewName<CommittedEntry> + StoreName, R: Wait>(
     rt: &R,
     looker: &mut Looker<Shown<N>, N>,
@@ -178,7 +179,7 @@ fn look_until<N: ViewName<CommittedEntry> + StoreName, R: Wait>(
     unreachable!()
 }
 
-/// Looks until it has seen just this front, which nobody adds to meanwhile.
+/// Looks until a session has seen just this front, which nobody adds to meanwhile.
 fn meet_at<N: ViewName<CommittedEntry> + StoreName, R: Wait>(
     rt: &R,
     looker: &mut Looker<Shown<N>, N>,

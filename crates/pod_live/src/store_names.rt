@@ -106,7 +106,7 @@ pub struct Names {
 }
 
 impl Names {
-    /// Names for a store with so many sessions.
+    /// The names of a store with so many sessions.
     pub fn new(sessions: u64) -> Names
         ensures changes { result.changes.parts ≡ sessions }
         ensures faults { result.faults.parts ≡ sessions }

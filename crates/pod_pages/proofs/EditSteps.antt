@@ -19,7 +19,7 @@ use Rattle.row_pages.specs.Items.{Placed, item_at, put_item, remove_item, rows_o
 use Rattle.pod_pages.specs.Edited.{AreMarkedBy, placed_by, list_if, own_mark_if, rows_if}
 use Rattle.pod_pages.specs.Versions.{path_of_edit}
 use Rattle.pod_pages.specs.Effects.{effects_if, effects_of, effect_of, kept_effects}
-use Rattle.pod_pages.specs.declared.effects.Effect.{Effect}
+use Rattle.pod_pages.specs.declared.entry_effects.Effect.{Effect}
 use Rattle.pod_pages.proofs.Found.{put_found, removed_found, found_path}
 use Rattle.pod_pages.proofs.Placing.{marked_put, marked_removed, rows_put, rows_removed}
 

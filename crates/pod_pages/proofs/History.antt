@@ -9,7 +9,7 @@ use Rattle.pod_rows.specs.Apply.{replayed}
 use Rattle.pod_rows.specs.WellFormed.{pod_of}
 use Rattle.pod_pages.specs.Effects.{entry_effects, history_effects, kept_effects, oldest_after}
 use Rattle.pod_pages.specs.State.{VersionState, first_state, state_after, states_after}
-use Rattle.pod_pages.specs.declared.effects.Effect.{Effect}
+use Rattle.pod_pages.specs.declared.entry_effects.Effect.{Effect}
 use Rattle.pod_pages.proofs.EditSteps.{filter_append}
 
 pub pod_replayed : (v : VersionState) (history : List Entry) → (states_after v history).pod ≡ replayed v.pod history

@@ -29,7 +29,7 @@ use Rattle.pod_pages.specs.Numbering.{AreResolved, IsGoverned, IsTree, Places}
 use Rattle.pod_pages.specs.Placings.{IsEditPlacing, IsPlacing, mark_found, row_if, row_made}
 use Rattle.pod_pages.specs.State.{VersionState, state_after, with_effects}
 use Rattle.pod_pages.specs.Versions.{IsVersion, path_of_edit, state_of}
-use Rattle.pod_pages.specs.declared.effects.Effect.{Effect}
+use Rattle.pod_pages.specs.declared.entry_effects.Effect.{Effect}
 use Rattle.pod_pages.specs.declared.list_table.AccessList.{AccessList}
 use Rattle.pod_pages.specs.declared.row_marks.Mark.{Mark}
 use Rattle.pod_pages.specs.declared.single_put.Placing.{Placing}

@@ -5,7 +5,7 @@ use Rattle.pod_command.specs.declared.entry.Entry.{Entry}
 use Rattle.pod_rows.specs.Apply.{Applies}
 use Rattle.pod_pages.specs.Effects.{entry_effects, kept_effects, oldest_after}
 use Rattle.pod_pages.specs.State.{VersionState, state_after, with_effects}
-use Rattle.pod_pages.specs.declared.effects.Effect.{Effect}
+use Rattle.pod_pages.specs.declared.entry_effects.Effect.{Effect}
 use Rattle.pod_pages.proofs.EditSteps.{all_new, filter_append}
 use Rattle.pod_pages.proofs.History.{kept_later, oldest_grows}
 use Rattle.pod_pages.proofs.VersionLaws.{recent}

@@ -30,7 +30,7 @@ use Rattle.pod_pages.specs.Marks.{how_of, mark, path_mark}
 use Rattle.pod_pages.specs.Numbering.{AreReady, AreResolved, IsTree, Places, list_rules}
 use Rattle.pod_pages.specs.State.{VersionState, first_state, state_after}
 use Rattle.pod_pages.specs.Versions.{IsVersion, state_of, path_of_edit, unmarked}
-use Rattle.pod_pages.specs.declared.effects.Effect.{Effect}
+use Rattle.pod_pages.specs.declared.entry_effects.Effect.{Effect}
 use Rattle.pod_pages.specs.declared.list_table.AccessList.{AccessList}
 use Rattle.pod_pages.specs.declared.row_marks.Mark.{Mark}
 use Rattle.pod_pages.proofs.Children.{one_child}

@@ -7,9 +7,9 @@ use Rattle.pod_command.specs.declared.entry.Entry.{Entry}
 use Rattle.pod_command.specs.declared.row.Row.{Row}
 use Rattle.pod_rows.specs.Apply.{edited_if, applied}
 use Rattle.pod_rows.specs.Pod.{Pod, is_row}
-use Rattle.pod_pages.specs.declared.effects.Effect.{Effect}
-use Rattle.pod_pages.specs.declared.effects.EffectKind.{EffectKind}
-use Rattle.pod_pages.specs.declared.effects.EffectKind.TheVariants.{Create, Update, Delete}
+use Rattle.pod_pages.specs.declared.entry_effects.Effect.{Effect}
+use Rattle.pod_pages.specs.declared.entry_effects.EffectKind.{EffectKind}
+use Rattle.pod_pages.specs.declared.entry_effects.EffectKind.TheVariants.{Create, Update, Delete}
 use Rattle.pod_pages.specs.declared.limits.TheConstants.{EFFECTS_ENTRIES_LIMIT}
 
 abbrev pub effect_on : ℕ → List ℕ → EffectKind → Effect

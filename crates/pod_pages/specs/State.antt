@@ -7,7 +7,7 @@ use Rattle.pod_command.specs.declared.snapshot.Snapshot.{Snapshot}
 use Rattle.pod_rows.specs.Pod.{Pod}
 use Rattle.pod_rows.specs.WellFormed.{pod_of}
 use Rattle.pod_pages.specs.Effects.{entry_effects, kept_effects, oldest_after}
-use Rattle.pod_pages.specs.declared.effects.Effect.{Effect}
+use Rattle.pod_pages.specs.declared.entry_effects.Effect.{Effect}
 
 pub record VersionState : Type 0 where
   pub pod : Pod

@@ -7,7 +7,7 @@ use Rattle.pod_rows.specs.WellFormed.{WellFormed}
 use Rattle.row_pages.specs.Items.{Placed, rows_of}
 use Rattle.pod_pages.specs.Numbering.{AreResolved, Places}
 use Rattle.pod_pages.specs.State.{VersionState}
-use Rattle.pod_pages.specs.declared.effects.Effect.{Effect}
+use Rattle.pod_pages.specs.declared.entry_effects.Effect.{Effect}
 
 abbrev pub state_of : ℕ → List ℕ → List ℕ → List Placed → List Effect → ℕ → VersionState
 state_of next base owner items effects oldest = record {

@@ -12,7 +12,7 @@ use pod_rows::is_child_of;
 use row_pages::{Item, Rows};
 use std::alloc::Global;
 
-/// Whether the item's path begins with the container's.
+/// Whether the item's path begins with the container's, as that of its first child does.
 fn begins_with(item: &Item, container: &Path) -> bool
     ensures { result ≡ begins_with container.now item.now }
 {
@@ -20,8 +20,8 @@ fn begins_with(item: &Item, container: &Path) -> bool
     path.starts_with(container.as_str().as_bytes())
 }
 
-/// The first item from a text on, if its path begins with the container's, with which the text
-/// begins.
+/// The first item from a text on in the search for a container's first child, if its path begins
+/// with the container's, with which the text begins.
 fn next_below<'a>(rows: &'a Rows, text: &[u8], container: &Path) -> Option<&'a Item>
     requires order { AreItemsInOrder rows.now }
     requires begins { starts_with nat_eq text.now container.now ≡ true }
@@ -42,7 +42,7 @@ fn next_below<'a>(rows: &'a Rows, text: &[u8], container: &Path) -> Option<&'a I
     }
 }
 
-/// Puts the next text in byte order after a path.
+/// Puts the next text in byte order after a path, from which the search for a first child goes on.
 fn put_next(path: &[u8], text: &mut Vec<u8>) -> Mem<()>
     ensures { OnOk result (text.new.items ≡ path.now ++ 0 ∷ []) }
 {
@@ -52,8 +52,8 @@ fn put_next(path: &[u8], text: &mut Vec<u8>) -> Mem<()>
     Ok(())
 }
 
-/// Whether one of the items directly below a container is its child. Few of them are none: itself,
-/// its access list and its description.
+/// Whether a container has a first child, among the items directly below it. Few of them are none:
+/// itself, its access list and its description.
 pub(crate) fn has_child(alloc: Global, rows: &Rows, container: &Path) -> Mem<bool>
     ensures { IfOk result (λ r. r ≡ has_direct_child rows.now container.now) }
 {

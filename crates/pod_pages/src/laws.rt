@@ -7,8 +7,8 @@ ghost use Rattle.pod_rows.specs.WellFormed.{pod_of};
 ghost use Rattle.pod_pages.specs.Effects.{history_effects, kept_effects, oldest_after};
 ghost use Rattle.pod_pages.specs.State.{first_state, states_after};
 
-/// The version after a history: its pod is the replayed one, its number has grown by one an entry,
-/// and of the effects of all entries it keeps those of the last 256.
+/// The law of the version after a history: its pod is the replayed one, its number has grown by one
+/// an entry, and of the effects of all entries it keeps those of the last 256.
 pub fn history_law()
     ensures pod { (first : Snapshot) (history : List Entry)
         → (states_after (first_state first) history).pod ≡ replayed (pod_of first) history }

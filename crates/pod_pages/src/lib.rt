@@ -21,8 +21,8 @@
 //! `pod_command`, `rdf_graph`, `pod_path`, `iri_ref` and `pod_base`.
 #![tactic(auto)]
 
-mod edits;
-mod effects;
+mod edits_in_pages;
+mod entry_effects;
 mod first_child;
 mod item_paths;
 pub mod laws;
@@ -37,7 +37,7 @@ mod row_marks;
 mod single_put;
 mod version;
 
-pub use effects::{Effect, EffectKind};
+pub use entry_effects::{Effect, EffectKind};
 pub use limits::EFFECTS_ENTRIES_LIMIT;
 pub use replay::Replay;
 pub use row_pages::{Keyed, Sought, Steps};

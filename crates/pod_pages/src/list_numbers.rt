@@ -25,7 +25,7 @@ use pod_rows::rules_in;
 use row_pages::{Item, Rows};
 use std::alloc::Global;
 
-/// The text of the path of a subject's access list.
+/// The text of the path of a subject's access list, which has a number.
 fn list_path(alloc: Global, subject: &Path) -> Mem<String>
     ensures { IfOk result (λ text. string_bytes text ≡ list_path subject.now) }
 {
@@ -36,7 +36,7 @@ fn list_path(alloc: Global, subject: &Path) -> Mem<String>
     Ok(path)
 }
 
-/// The row of a subject's access list.
+/// The row of a subject's access list, which has a number.
 fn list_row<'a>(alloc: Global, rows: &'a Rows, subject: &Path) -> Mem<Option<&'a Row>>
     ensures { IfOk result (λ row. option_copied row
         ≡ row_at (rows_of rows.entry.now) (list_path subject.now)) }
@@ -48,7 +48,7 @@ fn list_row<'a>(alloc: Global, rows: &'a Rows, subject: &Path) -> Mem<Option<&'a
     }
 }
 
-/// Whether the subject has an access list of its own.
+/// Whether the subject has an access list of its own, which has a number.
 fn has_own_list(alloc: Global, rows: &Rows, subject: &Path) -> Mem<bool>
     ensures { IfOk result (λ has. has ≡ has_own_list (rows_of rows.now) subject.now) }
 {
@@ -56,7 +56,7 @@ fn has_own_list(alloc: Global, rows: &Rows, subject: &Path) -> Mem<bool>
     Ok(rows.find(path.as_str().as_bytes()).is_some())
 }
 
-/// The rules of a subject's access list, if it has one.
+/// The rules of a subject's access list, if it has one that gets a number.
 fn list_rules(alloc: Global, base: &Iri, rows: &Rows, subject: &Path) -> Mem<Option<Rules>>
     ensures { IfOk result (λ rules. rules_if rules
         ≡ rules_found base.now (row_at (rows_of rows.now) (list_path subject.now))) }
@@ -70,7 +70,7 @@ fn list_rules(alloc: Global, base: &Iri, rows: &Rows, subject: &Path) -> Mem<Opt
     }
 }
 
-/// The number as one of an item.
+/// The number of an access list as an item has it.
 fn item_number(number: usize) -> Mem<u32>
     ensures { IfOk result (λ same. same ≡ number) }
 {
@@ -80,7 +80,7 @@ fn item_number(number: usize) -> Mem<u32>
     }
 }
 
-/// The item's number where it has a list of its own, and else a free one.
+/// The number for an item's access list, its own where it has one, and else a free one.
 fn number_for(item: &Item, places: &[Place]) -> Mem<u32>
     ensures { IfOk result (λ number. IsNumberFor item.now places.now number) }
 {
@@ -90,7 +90,7 @@ fn number_for(item: &Item, places: &[Place]) -> Mem<u32>
     item_number(free_number(places))
 }
 
-/// The rows and the lists with the list of a subject that is a row.
+/// The rows and the numbered lists with the list of a subject that is a row.
 fn with_list(
     alloc: Global,
     rows: &Rows,
@@ -128,7 +128,7 @@ fn with_list(
     }
 }
 
-/// The rows where the subject's row has no list of its own.
+/// The rows where the subject's row has no list of its own, and no number of one.
 fn without_list(alloc: Global, rows: &Rows, subject: &Path) -> Mem<Rows>
     ensures numbered { IfOk result (λ new. (base : List ℕ) (first : List Placed)
         (pending : List (List ℕ)) (places : Places)
@@ -155,7 +155,7 @@ fn without_list(alloc: Global, rows: &Rows, subject: &Path) -> Mem<Rows>
     }
 }
 
-/// The rows and the lists where the subject has a list exactly if its list is a row.
+/// The rows and the numbered lists where the subject has a list exactly if its list is a row.
 fn numbered_one(
     alloc: Global,
     base: &Iri,
@@ -183,7 +183,8 @@ fn numbered_one(
     }
 }
 
-/// The rows and the lists where each of the subjects has a list exactly if its list is a row.
+/// The rows and the numbered lists where each of the subjects has a list exactly if its list is a
+/// row.
 pub(crate) fn numbered(
     alloc: Global,
     base: &Iri,
@@ -205,7 +206,7 @@ pub(crate) fn numbered(
     Ok(now)
 }
 
-/// Frees the number, if there is one.
+/// Frees the number of an access list, if there is one.
 fn free_some(places: &mut Vec<Place>, number: Option<u32>)
     ensures { (k : ℕ) → list_at places.new.items k
         ≡ (if is_number k number then None else list_at places.old.items k) }
@@ -216,7 +217,7 @@ fn free_some(places: &mut Vec<Place>, number: Option<u32>)
     }
 }
 
-/// Frees the number that the subject had, where its list is no row any more.
+/// Frees the number of a subject's access list, where it is no row any more.
 fn free_one(
     alloc: Global,
     old: &Rows,
@@ -235,7 +236,7 @@ fn free_one(
     Ok(())
 }
 
-/// Frees the numbers that subjects had whose lists are no rows any more.
+/// Frees the numbers of the subjects' access lists that are no rows any more.
 pub(crate) fn free_gone(
     alloc: Global,
     old: &Rows,
@@ -253,7 +254,7 @@ pub(crate) fn free_gone(
     Ok(())
 }
 
-/// Whether the subject's access list came or went.
+/// Whether the subject's access list came or went, so that numbers change.
 fn is_changed(alloc: Global, old: &Rows, rows: &Rows, subject: &Path) -> Mem<bool>
     ensures { IfOk result (λ changed. changed
         ≡ is_changed (rows_of old.now) (rows_of rows.now) subject.now) }
@@ -263,7 +264,7 @@ fn is_changed(alloc: Global, old: &Rows, rows: &Rows, subject: &Path) -> Mem<boo
     if before { Ok(!after) } else { Ok(after) }
 }
 
-/// Those of the subjects whose access lists came or went.
+/// The subjects whose access lists came or went, so that numbers change.
 pub(crate) fn changed_subjects(
     alloc: Global,
     old: &Rows,

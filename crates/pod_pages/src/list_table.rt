@@ -33,7 +33,7 @@ impl Model for SharedList {
 }
 
 impl SharedList {
-    /// One of this list.
+    /// The shared form of this access list of the table.
     pub(crate) fn new(alloc: Global, list: AccessList) -> Mem<SharedList>
         ensures { IfOk result (λ shared. shared ≡ list) }
     {
@@ -43,7 +43,7 @@ impl SharedList {
         }
     }
 
-    /// One that shares the list.
+    /// The same access list, which is shared.
     fn copy(&self) -> Mem<SharedList>
         ensures { IfOk result (λ copy. copy ≡ self.now) }
     {
@@ -53,7 +53,7 @@ impl SharedList {
         }
     }
 
-    /// The list.
+    /// Lends the access list.
     fn as_list(&self) -> &AccessList
         ensures { result.now ≡ self.now }
     {
@@ -81,7 +81,7 @@ impl Model for ListTable {
 }
 
 impl ListTable {
-    /// The table of these places.
+    /// The table of the access lists at these places.
     pub(crate) fn new(alloc: Global, places: Vec<Place>) -> Mem<ListTable>
         ensures { IfOk result (λ table. table ≡ places.items) }
     {
@@ -91,7 +91,7 @@ impl ListTable {
         }
     }
 
-    /// The same table, which shares its memory.
+    /// The same table of lists, which shares its memory.
     pub(crate) fn share(&self) -> Mem<ListTable>
         ensures { IfOk result (λ table. table ≡ self.now) }
     {
@@ -101,14 +101,14 @@ impl ListTable {
         }
     }
 
-    /// The places.
+    /// The places of the table of lists.
     fn places(&self) -> &[Place]
         ensures { result.now ≡ self.now }
     {
         self.places.as_slice()
     }
 
-    /// The list with a number.
+    /// The access list that has this number in the table.
     pub(crate) fn list(&self, number: u32) -> Option<&AccessList>
         ensures { option_copied result ≡ list_at self.now number }
     {
@@ -119,7 +119,7 @@ impl ListTable {
         }
     }
 
-    /// Copies of the places, which share their lists.
+    /// Copies of the places of the table of lists, which share their lists.
     pub(crate) fn copy_places(&self, alloc: Global) -> Mem<Vec<Place>>
         ensures { IfOk result (λ copies. copies.items ≡ self.now) }
     {
@@ -133,7 +133,7 @@ impl ListTable {
     }
 }
 
-/// A copy of a place, which shares the list.
+/// A copy of a place of the table of lists, which shares the list.
 fn copy_place(place: &Place) -> Mem<Place>
     ensures { IfOk result (λ copy. copy ≡ place.now) }
 {
@@ -146,7 +146,7 @@ fn copy_place(place: &Place) -> Mem<Place>
     }
 }
 
-/// A number without a list.
+/// A number that has no list in the table.
 pub(crate) fn free_number(places: &[Place]) -> usize
     ensures free { list_at places.now result ≡ None }
     ensures within { result ≤ length places.now }
@@ -159,7 +159,7 @@ pub(crate) fn free_number(places: &[Place]) -> usize
     places.len()
 }
 
-/// Gives the number to the list.
+/// Gives the number to the list in the table's places.
 pub(crate) fn set_list(places: &mut Vec<Place>, number: usize, list: SharedList) -> Mem<()>
     ensures { OnOk result (number ≤ length places.old.items → (k : ℕ)
         → list_at places.new.items k
@@ -173,7 +173,7 @@ pub(crate) fn set_list(places: &mut Vec<Place>, number: usize, list: SharedList)
     Ok(())
 }
 
-/// Frees the number.
+/// Frees the number of a list in the table's places.
 pub(crate) fn free_list(places: &mut Vec<Place>, number: usize)
     ensures { (k : ℕ) → list_at places.new.items k
         ≡ (if k == number then None else list_at places.old.items k) }

@@ -18,7 +18,8 @@ pub(crate) fn is_most(part: usize, whole: usize) -> bool
     whole / MARKED_SHARE < part
 }
 
-/// The number that a container hands down, where `known` is that of another one.
+/// The number that a container hands down when all rows are marked, where `known` is that of
+/// another one.
 fn handed_down(numbers: &Rows, container: &[u8], other: &[u8], known: Option<u32>) -> Option<u32>
     requires { known ≡ number_within numbers.now other.now }
     ensures { result ≡ number_within numbers.now container.now }
@@ -29,7 +30,8 @@ fn handed_down(numbers: &Rows, container: &[u8], other: &[u8], known: Option<u32
     number_within(numbers, container)
 }
 
-/// The mark of an item of `numbers`; the container above it hands down the number `above`.
+/// The mark of an item of `numbers` when all rows are marked; the container above it hands down the
+/// number `above`.
 fn item_mark(numbers: &Rows, item: &Item, above: Option<u32>) -> Option<Mark>
     requires found { item_at numbers.now item.now.row.path ≡ Some item.now }
     requires above { above ≡ number_within numbers.now (text_above item.now.row.path) }
@@ -45,7 +47,8 @@ fn item_mark(numbers: &Rows, item: &Item, above: Option<u32>) -> Option<Mark>
     mark_by(own_of(Some(item)), above)
 }
 
-/// The item of `numbers` with its mark; the container above it hands down the number `above`.
+/// The item of `numbers` with its mark when all rows are marked; the container above it hands down
+/// the number `above`.
 fn marked_item(numbers: &Rows, item: &Item, above: Option<u32>) -> Mem<Item>
     requires found { item_at numbers.now item.now.row.path ≡ Some item.now }
     requires above { above ≡ number_within numbers.now (text_above item.now.row.path) }
@@ -57,7 +60,7 @@ fn marked_item(numbers: &Rows, item: &Item, above: Option<u32>) -> Mem<Item>
     }
 }
 
-/// The items of `numbers`, each with its mark. Neighbours share what their container hands down.
+/// All items of `numbers`, each with its mark. Neighbours share what their container hands down.
 fn marked_copies(alloc: Global, numbers: &Rows, items: &[Item]) -> Mem<Vec<Item>>
     requires { items.now ≡ numbers.now }
     ensures { IfOk result (λ marked. marked.items ≡ map (marked_by numbers.now) items.now) }
@@ -76,7 +79,7 @@ fn marked_copies(alloc: Global, numbers: &Rows, items: &[Item]) -> Mem<Vec<Item>
     Ok(marked)
 }
 
-/// The rows of `numbers`, all marked by its lists.
+/// All rows of `numbers`, marked at once by its lists.
 pub(crate) fn marked_whole(alloc: Global, numbers: &Rows) -> Mem<Rows>
     ensures { IfOk result (λ new. (done : List ℕ → Bool) → HaveMarks numbers.now
         → AreMarked numbers.now done new) }

@@ -24,7 +24,7 @@ pub(crate) struct Resolved {
     pub table: ListTable,
 }
 
-/// The rows where all that a change of lists reaches is marked anew.
+/// The rows after a change of lists, where all that it reaches is marked anew.
 fn marked(
     alloc: Global,
     numbers: &Rows,
@@ -46,7 +46,7 @@ fn marked(
     Ok(third)
 }
 
-/// The rows and their lists after the access lists of some subjects were changed.
+/// The rows and their lists after a change of the access lists of some subjects.
 fn relisted(
     alloc: Global,
     base: &Iri,
@@ -73,7 +73,7 @@ fn relisted(
     Ok(Resolved { rows, table })
 }
 
-/// The rows and their lists, where the rows at some paths were changed: they have the marks of the
+/// The rows and their lists after a change of the rows at some paths: they have the marks of the
 /// old rows, whose lists are those of the table. Without a changed list the table is shared.
 pub(crate) fn marked_again(
     alloc: Global,

@@ -13,14 +13,15 @@ use pod_path::Path;
 use row_pages::{Item, Rows};
 use std::alloc::Global;
 
-/// Whether the item has the mark already.
+/// Whether the item at a path has the mark already.
 fn is_marked(item: &Item, by: Mark) -> bool
     ensures { IsTrue result → mark item.now.list item.now.own ≡ by }
 {
     item.list() == by.list && item.is_own() == by.own
 }
 
-/// The rows with the mark at an item of theirs. Nothing is put where the item has it already.
+/// The rows with the mark at the path of an item of theirs. Nothing is put where the item has it
+/// already.
 pub(crate) fn put_marked(alloc: Global, rows: &Rows, item: &Item, by: Mark) -> Mem<Rows>
     ensures { IfOk result (λ new. item_at rows.now item.now.row.path ≡ Some item.now
         → new ≡ put_item rows.now (with_mark item.now (Some by))) }
@@ -74,7 +75,7 @@ pub(crate) fn marked_paths(alloc: Global, numbers: &Rows, rows: &Rows, paths: &[
     Ok(now)
 }
 
-/// The rows with those of these items marked by the lists of `numbers`.
+/// The rows with those at the paths of these items marked by the lists of `numbers`.
 fn marked_items(alloc: Global, numbers: &Rows, rows: &Rows, items: &[Item]) -> Mem<Rows>
     ensures { IfOk result (λ new. (done : List ℕ → Bool) → HaveMarks numbers.now
         → AreMarked numbers.now done rows.now

@@ -4,7 +4,7 @@ ghost use Rattle.pod_rows.specs.Apply.{Applies};
 ghost use Rattle.pod_rows.specs.WellFormed.{IsWellFormedSnapshot};
 ghost use Rattle.pod_pages.specs.State.{first_state, state_after};
 
-use crate::effects::{Effect, drop_old, make_room};
+use crate::entry_effects::{Effect, drop_old, make_room};
 use crate::version::Version;
 use pod_base::Mem;
 use pod_command::{Entry, Snapshot};
@@ -50,7 +50,7 @@ impl Replay {
         })
     }
 
-    /// The version that it has come to, but for the effects.
+    /// The version that the replay has come to, but for the effects.
     pub fn version(&self) -> &Version
         ensures pod { result.now.pod ≡ self.now.pod }
         ensures next { result.now.next ≡ self.now.next }
@@ -70,7 +70,7 @@ impl Replay {
         Ok(Replay { version, effects })
     }
 
-    /// The version that it has come to.
+    /// The version that the replay has come to.
     pub fn into_version(self) -> Version
         ensures { result ≡ self }
     {

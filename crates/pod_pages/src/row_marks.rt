@@ -17,7 +17,7 @@ pub(crate) struct Mark {
     pub own: bool,
 }
 
-/// The number of an item's list, where it is the item's own.
+/// The number in an item's mark, where it is of the item's own list.
 pub(crate) fn own_of(item: Option<&Item>) -> Option<u32>
     ensures { result ≡ own_of (option_copied item.entry) }
 {
@@ -33,14 +33,14 @@ pub(crate) fn own_of(item: Option<&Item>) -> Option<u32>
     }
 }
 
-/// The number of the list of a path that has one of its own.
+/// The number of the list of a path that has one of its own, by its row's mark.
 pub(crate) fn own_number(rows: &Rows, path: &[u8]) -> Option<u32>
     ensures { result ≡ own_number rows.now path.now }
 {
     own_of(rows.find(path))
 }
 
-/// The number of the list of a text, where the text is a container.
+/// The number of a container's list by its row's mark, where the text is a container.
 fn container_number(rows: &Rows, path: &[u8]) -> Option<u32>
     ensures { result ≡ container_number rows.now path.now }
 {
@@ -51,7 +51,7 @@ fn container_number(rows: &Rows, path: &[u8]) -> Option<u32>
     }
 }
 
-/// The number of the list of the nearest ancestor that has one.
+/// The number of the list of the nearest ancestor that has one, by the marks of rows.
 fn number_above(rows: &Rows, path: &[u8]) -> Option<u32>
     ensures { result ≡ first_number rows.now (ancestors path.now) }
 {
@@ -66,7 +66,8 @@ fn number_above(rows: &Rows, path: &[u8]) -> Option<u32>
     None
 }
 
-/// The number of the list of a container, or else that of its nearest ancestor that has one.
+/// The number of the list of a container, or else that of its nearest ancestor that has one, by the
+/// marks of rows.
 pub(crate) fn number_within(rows: &Rows, container: &[u8]) -> Option<u32>
     ensures { result ≡ number_within rows.now container.now }
 {
@@ -76,7 +77,7 @@ pub(crate) fn number_within(rows: &Rows, container: &[u8]) -> Option<u32>
     }
 }
 
-/// What the own number makes of a path, or else the one above.
+/// The mark of a path by the own number, or else by the one above.
 pub(crate) fn mark_by(own: Option<u32>, above: Option<u32>) -> Option<Mark>
     ensures { result ≡ mark_by own above }
 {
@@ -89,7 +90,7 @@ pub(crate) fn mark_by(own: Option<u32>, above: Option<u32>) -> Option<Mark>
     }
 }
 
-/// Which list governs a text that is no access list and no description.
+/// The mark of a text that is no access list and no description, which says which list governs it.
 fn text_mark(rows: &Rows, text: &[u8]) -> Option<Mark>
     ensures { result ≡ text_mark rows.now text.now }
 {
@@ -100,7 +101,8 @@ fn text_mark(rows: &Rows, text: &[u8]) -> Option<Mark>
     mark_by(None, number_above(rows, text))
 }
 
-/// Which list governs a path, by the marks of the rows that have lists of their own.
+/// The mark of a path, which says which list governs it, by the marks of rows that have lists of
+/// their own.
 pub(crate) fn path_mark(rows: &Rows, path: &Path) -> Option<Mark>
     ensures { result ≡ path_mark rows.now path.now }
 {

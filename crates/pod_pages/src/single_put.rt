@@ -6,7 +6,7 @@ ghost use Rattle.pod_pages.specs.Effects.{effect_on, put_kind};
 ghost use Rattle.pod_pages.specs.Placings.{IsEditPlacing, IsPlacing, mark_found, row_if, row_made};
 ghost use Rattle.pod_pages.specs.Versions.{path_of_edit};
 
-use crate::effects::{Effect, put_effect};
+use crate::entry_effects::{Effect, put_effect};
 use crate::row_marks::{Mark, path_mark};
 use pod_base::Mem;
 use pod_command::{Edit, Entry, Row};
@@ -22,7 +22,7 @@ pub(crate) struct Placing {
     pub replaces: bool,
 }
 
-/// The path of an edit.
+/// The path of an entry's single edit.
 pub(crate) fn edit_path(edit: &Edit) -> &Path
     ensures { result.now ≡ path_of_edit edit.entry.now }
 {
@@ -38,7 +38,7 @@ pub(crate) fn edit_path(edit: &Edit) -> &Path
     }
 }
 
-/// The row of an item.
+/// The row of an item that a single Put replaces.
 fn row_of<'a>(item: Option<&'a Item>) -> Option<&'a Row>
     ensures { option_copied result ≡ row_if (option_copied item.entry) }
 {
@@ -48,7 +48,7 @@ fn row_of<'a>(item: Option<&'a Item>) -> Option<&'a Row>
     }
 }
 
-/// The row that an edit puts in place of this one, if it puts a row.
+/// The row that a single edit puts in place of this one, if it puts a row.
 fn row_made(alloc: Global, edit: &Edit, row: Option<&Row>) -> Mem<Option<Row>>
     ensures { IfOk result (λ made. made ≡ row_made edit.now (option_copied row.entry)) }
 {
@@ -76,7 +76,8 @@ fn row_made(alloc: Global, edit: &Edit, row: Option<&Row>) -> Mem<Option<Row>>
     }
 }
 
-/// The mark of the item at a path, or else the one that the path has without an item.
+/// The mark of the item at the path of a single Put, or else the one that the path has without an
+/// item.
 fn mark_found(rows: &Rows, item: Option<&Item>, path: &Path) -> Option<Mark>
     ensures { result ≡ mark_found (option_copied item.entry) (path_mark rows.now path.now) }
 {
@@ -89,7 +90,7 @@ fn mark_found(rows: &Rows, item: Option<&Item>, path: &Path) -> Option<Mark>
     }
 }
 
-/// The item of a row that is put at a path.
+/// The item of a single row that is put at a path.
 fn placed_at(
     alloc: Global,
     rows: &Rows,
@@ -116,7 +117,7 @@ fn placed_at(
     }
 }
 
-/// What an edit puts, where it puts a row that is no access list.
+/// What a single edit puts, where it puts a row that is no access list.
 fn edit_placing(alloc: Global, rows: &Rows, edit: &Edit) -> Mem<Option<Placing>>
     ensures { IfOk result (λ found. IfSome found (IsEditPlacing rows.now edit.now)) }
 {
@@ -134,7 +135,7 @@ fn edit_placing(alloc: Global, rows: &Rows, edit: &Edit) -> Mem<Option<Placing>>
     }
 }
 
-/// What an entry puts, where it does no more than put one row that is no access list.
+/// What an entry puts, where it does no more than put a single row that is no access list.
 pub(crate) fn placing_of(alloc: Global, rows: &Rows, entry: &Entry) -> Mem<Option<Placing>>
     ensures { IfOk result (λ found. IfSome found (IsPlacing rows.now entry.now)) }
 {
@@ -150,7 +151,7 @@ pub(crate) fn placing_of(alloc: Global, rows: &Rows, entry: &Entry) -> Mem<Optio
     }
 }
 
-/// The rows with the item that is put, and its effect appended.
+/// The rows with the single item that is put, and its effect appended.
 pub(crate) fn put_placing(
     alloc: Global,
     rows: Rows,

@@ -17,10 +17,10 @@ ghost use Rattle.pod_pages.specs.Marks.{how_of};
 ghost use Rattle.pod_pages.specs.Effects.{entry_effects, kept_effects, oldest_after};
 ghost use Rattle.pod_pages.specs.State.{first_state, state_after, with_effects};
 ghost use Rattle.pod_pages.specs.Versions.{path_of_edit, unmarked};
-ghost use Rattle.pod_pages.specs.declared.effects.Effect.{Effect as EffectValue};
+ghost use Rattle.pod_pages.specs.declared.entry_effects.Effect.{Effect as EffectValue};
 
-use crate::edits::{after_edits, row_at};
-use crate::effects::{Effect, is_row, kept_effects, oldest_after};
+use crate::edits_in_pages::{after_edits, row_at};
+use crate::entry_effects::{Effect, is_row, kept_effects, oldest_after};
 use crate::first_child::has_child;
 use crate::item_paths::item_paths;
 use crate::list_table::ListTable;
@@ -86,7 +86,7 @@ impl Version {
         Ok(version)
     }
 
-    /// The number of the next change, at most 2^63.
+    /// The number of the version's next change, at most 2^63.
     pub fn seq(&self) -> u64
         ensures next { result ≡ self.now.next }
         ensures most { self.now.next ≤ 2 ^ 63 }
@@ -94,15 +94,15 @@ impl Version {
         self.next
     }
 
-    /// The effects of the last [`crate::EFFECTS_ENTRIES_LIMIT`] entries, in order.
+    /// The effects of the version's last [`crate::EFFECTS_ENTRIES_LIMIT`] entries, in order.
     pub fn effects(&self) -> &[Effect]
         ensures { result.now ≡ self.now.effects }
     {
         self.effects.as_slice()
     }
 
-    /// The number of the oldest entry whose effects are kept; that of the next change where none
-    /// are.
+    /// The number of the oldest entry whose effects the version keeps; that of the next change
+    /// where there are none.
     pub fn oldest(&self) -> u64
         ensures oldest { result ≡ self.now.oldest }
         ensures most { self.now.oldest ≤ self.now.next }
@@ -130,9 +130,9 @@ impl Version {
         })
     }
 
-    /// The row at a path, of which it knows [`Sought`] alone, and the access list that governs the
-    /// row. `steps` counts the comparisons of the path: at most 16 more than the binary digits of
-    /// the number of rows.
+    /// The version's row at a path, of which it knows [`Sought`] alone, and the access list that
+    /// governs the row. `steps` counts the comparisons of the path: at most 16 more than the binary
+    /// digits of the number of rows.
     pub fn find_counted<P: Sought<L>, L: Ledger>(
         &self,
         path: &P,
@@ -181,7 +181,7 @@ fn first_version(alloc: Global, snapshot: Snapshot) -> Mem<Version>
     })
 }
 
-/// The rows without marks. None is copied.
+/// The rows of a first version, without marks. None is copied.
 fn first_rows(alloc: Global, rows: List<Row>) -> Mem<Rows>
     requires { AreInOrder rows.items }
     ensures { IfOk result (λ all. all ≡ map unmarked rows.items) }
@@ -195,7 +195,7 @@ fn first_rows(alloc: Global, rows: List<Row>) -> Mem<Rows>
     Ok(all)
 }
 
-/// The paths of rows.
+/// The paths of a first version's rows.
 fn paths_of(alloc: Global, rows: &[Row]) -> Mem<Vec<Path>>
     ensures { IfOk result (λ paths. paths.items ≡ map (λ (row : Row). row.path) rows.now) }
 {
@@ -207,7 +207,7 @@ fn paths_of(alloc: Global, rows: &[Row]) -> Mem<Vec<Path>>
     Ok(paths)
 }
 
-/// The paths of edits.
+/// The paths of the edits between two versions.
 fn edit_paths(alloc: Global, edits: &[Edit]) -> Mem<Vec<Path>>
     ensures { IfOk result (λ paths. paths.items ≡ map path_of_edit edits.now) }
 {
@@ -219,14 +219,14 @@ fn edit_paths(alloc: Global, edits: &[Edit]) -> Mem<Vec<Path>>
     Ok(paths)
 }
 
-/// How a list governs what it is the own list of, or what inherits it.
+/// How an access list of a version governs a path, as its own list or an inherited one.
 fn how_of(own: bool) -> How
     ensures { result ≡ how_of own }
 {
     if own { How::Own } else { How::Inherited }
 }
 
-/// The list with a number.
+/// The version's access list with a number, as it governs a path.
 fn access(table: &ListTable, number: u32, own: bool) -> Effective<'_>
     requires { is_some (list_at table.now number) ≡ true }
     ensures list { list_at table.entry.now number
@@ -243,7 +243,7 @@ fn access(table: &ListTable, number: u32, own: bool) -> Effective<'_>
     }
 }
 
-/// The paths of a container's children among items, in their order.
+/// The paths of a container's children among a version's items, in their order.
 fn children_among(alloc: Global, items: &[Item], container: &Path) -> Mem<Vec<Path>>
     ensures { IfOk result (λ paths. paths.items
         ≡ map (λ (item : Placed). item.row.path)
@@ -259,7 +259,7 @@ fn children_among(alloc: Global, items: &[Item], container: &Path) -> Mem<Vec<Pa
     Ok(paths)
 }
 
-/// Copies of the rows of items.
+/// Copies of the rows of a version's items.
 fn copy_rows(alloc: Global, items: &[Item]) -> Mem<Vec<Row>>
     ensures { IfOk result (λ rows. rows.items ≡ rows_of items.now) }
 {
@@ -405,7 +405,7 @@ impl Version {
         }
     }
 
-    /// The number of the oldest entry whose effects are kept after the next one.
+    /// The number of the oldest entry whose effects the version keeps after the next one.
     fn next_oldest(&self) -> u64
         ensures oldest { result ≡ oldest_after self.now.oldest (self.now.next + 1) }
         ensures most { self.now.oldest ≤ self.now.next }
@@ -448,7 +448,8 @@ impl Version {
         }
     }
 
-    /// [`Version::into_next`] of any entry.
+    /// The version without effects after any entry that applies to it, of a version that nobody
+    /// needs any more.
     fn into_edited(self, alloc: Global, entry: &Entry, effects: &mut Vec<Effect>) -> Mem<Version>
         requires { Applies self.pod self.next entry.now }
         ensures version { IfOk result (λ version. version

@@ -2,9 +2,7 @@
 
 ghost use Rattle.std.specs.Prelude.{◌≡◌, ◌++◌, ◌∷◌, [], ◌+◌, ◌*◌, ◌<◌, IsTrue, IfSome, IfNone};
 ghost use Rattle.std.specs.Prelude.{OnOk, IfOk, IfErr, is_some, Some, None, length};
-ghost use Rattle.std.specs.List.{before_first, position};
 ghost use Rattle.pod_path.specs.Characters.{percent, is_unreserved};
-ghost use Rattle.iri_ref.specs.Characters.{is_question_mark};
 ghost use Rattle.pod_path.specs.Escapes.{is_hex, hex_digit_value, upper, normal_escape, prepend};
 ghost use Rattle.pod_path.specs.Escapes.{normalize_escapes};
 ghost use Rattle.pod_path.specs.EscapeFaults.{FailsEscape};
@@ -12,7 +10,7 @@ ghost use Rattle.pod_path.specs.EscapeFaults.{FailsEscape};
 use crate::fault::PathFault;
 use std::alloc::{AllocError, Global};
 
-/// The value of a hexadecimal digit.
+/// The value of a hexadecimal digit in an escape.
 fn hex_digit_value(b: u8) -> Option<u8>
     ensures is { is_some result ≡ is_hex b }
     ensures value { IfSome result (λ value. value ≡ hex_digit_value b) }
@@ -26,14 +24,14 @@ fn hex_digit_value(b: u8) -> Option<u8>
     }
 }
 
-/// A hexadecimal digit in upper case.
+/// A hexadecimal digit of an escape in upper case, its normal form.
 fn to_upper(b: u8) -> u8
     ensures { IsTrue (is_hex b) → result ≡ upper b }
 {
     b.to_ascii_uppercase()
 }
 
-/// Whether a character needs no escape anywhere.
+/// Whether a character needs no escape anywhere in a path.
 fn is_unreserved(b: u8) -> bool
     ensures { result ≡ is_unreserved b }
 {
@@ -76,24 +74,7 @@ fn push_first_escape<'a>(bytes: &mut Vec<u8>, digits: &'a [u8]) -> Result<&'a [u
     Ok(rest)
 }
 
-/// Where the query of a target begins.
-fn find_query(target: &[u8]) -> Option<usize>
-    ensures { result ≡ position is_question_mark target.now }
-{
-    target.iter().position(|b| *b == b'?')
-}
-
-/// The target before its query.
-pub(crate) fn strip_query(target: &[u8]) -> &[u8]
-    ensures { result.now ≡ before_first is_question_mark target.now }
-{
-    match find_query(target) {
-        Some(at) => &target[..at],
-        None => target,
-    }
-}
-
-/// A text with its escapes in their normal form.
+/// A text of a path with its escapes in their normal form.
 pub(crate) fn normalize_escapes(alloc: Global, text: &[u8]) -> Result<Vec<u8>, PathFault>
     ensures text { IfOk result (λ bytes. normalize_escapes text.now ≡ Some bytes.items) }
     ensures fault { IfErr result (λ fault. FailsEscape fault (normalize_escapes text.now)) }

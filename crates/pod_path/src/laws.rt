@@ -6,7 +6,7 @@ ghost use Rattle.iri_ref.specs.Components.{fragment_text};
 ghost use Rattle.pod_path.specs.Norm.{IsPath, norm};
 ghost use Rattle.pod_path.specs.Hierarchy.{root, parent_of, IsUnder, uri_of, IsUriOf};
 
-/// A URI is that of at most one path. The URI of a normal path under a base without a hash is that
+/// A URI names at most one path. The URI of a normal path under a base without a hash is that
 /// path's, also with a fragment after it.
 pub fn uris_name_one_path()
     ensures unique { (base uri path other : List ℕ) → IsUriOf base uri path → IsUriOf base uri other

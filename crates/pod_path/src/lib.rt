@@ -21,7 +21,7 @@ mod normalize;
 mod path;
 mod path_text;
 mod segments;
-mod uri;
+mod uri_fragment;
 
 pub use fault::PathFault;
 pub use limits::{PATH_BYTES_LIMIT, PATH_SEGMENTS_LIMIT};

@@ -10,7 +10,7 @@ pub const PATH_BYTES_LIMIT: usize = 1_024;
 /// The most segments of a path that is parsed. The empty text after a last slash is one.
 pub const PATH_SEGMENTS_LIMIT: usize = 32;
 
-/// Whether so many bytes and segments are within the limits.
+/// Whether a path of so many bytes and segments is within the limits.
 pub(crate) fn is_within(bytes: usize, segments: usize) -> bool
     ensures { result ≡ (nat_le bytes PATH_BYTES_LIMIT && nat_le segments PATH_SEGMENTS_LIMIT) }
 {

@@ -20,7 +20,7 @@ use crate::path_text::{
     concatenate, count_slashes, is_inside, member_text, parent_text, strip_end, subject_text,
 };
 use crate::segments::ends_with;
-use crate::uri::uri_part;
+use crate::uri_fragment::uri_part;
 use iri_ref::{Iri, IriFault};
 use pod_base::{Mem, NoMemory, Text};
 use std::alloc::Global;
@@ -141,7 +141,7 @@ impl Path {
         }
     }
 
-    /// The text.
+    /// The text of the path.
     pub fn as_str(&self) -> &str
         ensures text { result.now ≡ self.now }
         ensures path { IsPath self.now }
@@ -206,7 +206,7 @@ impl Path {
         ends_with(text, ".acl") || ends_with(text, ".meta")
     }
 
-    /// The path with a text that is one.
+    /// The path with a text that is one already.
     fn from_text(alloc: Global, text: &str) -> Mem<Path>
         requires { IsPath text.now }
         ensures { IfOk result (λ path. path ≡ text.now) }
@@ -225,7 +225,7 @@ impl Path {
         Ok(Path { text })
     }
 
-    /// The container just above; none at the root alone.
+    /// The path of the container just above; none at the root alone.
     pub fn parent(&self, alloc: Global) -> Mem<Option<Path>>
         ensures parent { IfOk result (λ parent. parent ≡ parent_of self.now) }
         ensures container { IfOk result (λ parent. IfSome parent
@@ -242,7 +242,7 @@ impl Path {
         Ok(Some(parent))
     }
 
-    /// The same text with or without the last slash; none for the root, an ACL and a description.
+    /// The path with or without the last slash; none for the root, an ACL and a description.
     pub fn twin(&self, alloc: Global) -> Mem<Option<Path>>
         ensures twin { IfOk result (λ twin. twin ≡ twin_of self.now) }
 
@@ -258,7 +258,7 @@ impl Path {
         Ok(Some(twin))
     }
 
-    /// The path with or without the last slash.
+    /// The path with the last slash added or removed, which is its twin.
     fn twin_text(&self, alloc: Global) -> Mem<Path>
         requires root { is_root self.now ≡ false }
         requires auxiliary { is_auxiliary self.now ≡ false }
@@ -299,7 +299,7 @@ impl Path {
         Ok(Some(meta))
     }
 
-    /// The subject of an ACL or a description; none where the path is neither.
+    /// The path of the subject of an ACL or a description; none where this path is neither.
     pub fn subject(&self, alloc: Global) -> Mem<Option<Path>>
         ensures subject { IfOk result (λ subject. subject ≡ subject_of self.now) }
 
@@ -318,7 +318,7 @@ impl Path {
         }
     }
 
-    /// Whether the other path is an ancestor of this one.
+    /// Whether the other path is an ancestor of this path.
     pub fn under(&self, other: &Path) -> bool
         ensures ancestor { IsTrue result ↔ IsUnder self.now other.now }
         ensures inside { IsTrue result ↔ IsInside self.now other.now }
@@ -348,7 +348,7 @@ impl Path {
         Path::read(alloc, text.as_bytes())
     }
 
-    /// The URI: the base, and the path without its first slash.
+    /// The URI of the path: the base, and the path without its first slash.
     pub fn uri(&self, alloc: Global, base: &Iri) -> Mem<Iri>
         ensures { IfOk result (λ iri. iri ≡ uri_of base.now self.now) }
     {
@@ -359,9 +359,9 @@ impl Path {
         }
     }
 
-    /// The normal path of a URI without its fragment; none exactly where it is that of no normal
-    /// path. The limits are those of `read`. After the base it reads at most
-    /// [`crate::PATH_BYTES_LIMIT`] bytes.
+    /// The path of a URI without its fragment; none exactly where it is that of no normal path. The
+    /// limits are those of `read`. After the base it reads at most [`crate::PATH_BYTES_LIMIT`]
+    /// bytes.
     pub fn of_uri(alloc: Global, base: &Iri, uri: &str) -> Mem<Option<Path>>
         ensures some { IfOk result (λ found. IfSome found (λ path. IsUriOf base.now uri.now path)) }
         ensures none { IfOk result (λ found. IfNone found ((path : List ℕ)

@@ -12,7 +12,7 @@ ghost use Rattle.pod_path.specs.Hierarchy.{is_auxiliary, subject_of, member_text
 use crate::segments::ends_with;
 use std::alloc::{AllocError, Global};
 
-/// The text before `end`, where the text ends in it.
+/// The text of a path before `end`, where it ends in it.
 pub(crate) fn strip_end<'a>(text: &'a str, end: &str) -> Option<&'a str>
     ensures some { IfSome (option_copied result) (λ prefix. text.entry.now ≡ prefix ++ end.now) }
     ensures none { IfNone (option_copied result) ((prefix : List ℕ)
@@ -21,7 +21,7 @@ pub(crate) fn strip_end<'a>(text: &'a str, end: &str) -> Option<&'a str>
     text.strip_suffix(end)
 }
 
-/// The text after `prefix`, where the text begins with it.
+/// The text of a path after `prefix`, where it begins with it.
 pub(crate) fn strip_start<'a>(text: &'a str, prefix: &str) -> Option<&'a str>
     ensures some { IfSome (option_copied result) (λ rest. text.entry.now ≡ prefix.now ++ rest) }
     ensures none { IfNone (option_copied result) ((rest : List ℕ)
@@ -30,7 +30,7 @@ pub(crate) fn strip_start<'a>(text: &'a str, prefix: &str) -> Option<&'a str>
     text.strip_prefix(prefix)
 }
 
-/// The text without one slash at its end.
+/// The text of a path without one slash at its end.
 fn trim_slash(path: &str) -> &str
     ensures { result.now ≡ without_last_slash path.now }
 {
@@ -40,7 +40,7 @@ fn trim_slash(path: &str) -> &str
     }
 }
 
-/// A text up to its last slash and with it.
+/// The text of a path up to its last slash and with it.
 fn cut_after_last_slash(text: &str) -> &str
     ensures { result.now ≡ up_to_last_slash text.now }
 {
@@ -58,7 +58,8 @@ pub fn parent_text(path: &str) -> &str
     cut_after_last_slash(trim_slash(path))
 }
 
-/// Whether the path is the container's text and more, where the other text is a container's.
+/// Whether the text of a path is that of a container and more, where the other text is a
+/// container's.
 pub(crate) fn is_inside(path: &str, other: &str) -> bool
     ensures { IsTrue result ↔ IsInside path.now other.now }
 {
@@ -68,8 +69,8 @@ pub(crate) fn is_inside(path: &str, other: &str) -> bool
     }
 }
 
-/// The text of what an ACL or a description is of, which is a part of its path; of any other path
-/// none. It takes no memory.
+/// The text of the path that an ACL or a description is of, which is a part of the text of its own
+/// path; of any other path none. It takes no memory.
 pub fn subject_text(path: &str) -> Option<&str>
     ensures { option_copied result ≡ subject_of path.now }
 {
@@ -79,14 +80,14 @@ pub fn subject_text(path: &str) -> Option<&str>
     }
 }
 
-/// How many slashes the text has.
+/// How many slashes the text of a path has.
 pub(crate) fn count_slashes(text: &str) -> usize
     ensures { result ≡ count_by is_slash text.now }
 {
     text.as_bytes().iter().filter(|b| **b == b'/').count()
 }
 
-/// Two texts as one.
+/// The text of a path and an end after it.
 pub(crate) fn concatenate(alloc: Global, prefix: &str, end: &str) -> Result<String, AllocError>
     ensures { IfOk result (λ text. string_bytes text ≡ prefix.now ++ end.now) }
 {
@@ -96,14 +97,14 @@ pub(crate) fn concatenate(alloc: Global, prefix: &str, end: &str) -> Result<Stri
     Ok(text)
 }
 
-/// What follows the name of a member.
+/// What follows a member's name in the text of its path: a slash for a container.
 fn member_end(container: bool) -> &'static str
     ensures { result.now ≡ (if container then slash ∷ [] else []) }
 {
     if container { "/" } else { "" }
 }
 
-/// The text of a member of a container, in one piece of memory.
+/// The text of the path of a container's member, in one piece of memory.
 pub(crate) fn member_text(
     alloc: Global,
     path: &str,

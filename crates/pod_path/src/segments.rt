@@ -11,20 +11,21 @@ ghost use Rattle.pod_path.specs.Norm.{segment_count};
 use crate::fault::PathFault;
 use iri_ref::is_dot_segment;
 
-/// Whether a text ends with this one.
+/// Whether the text of a segment ends with this one.
 pub(crate) fn ends_with(text: &str, end: &str) -> bool
     ensures { result ≡ ends_with nat_eq text.now end.now }
 {
     text.ends_with(end)
 }
 
-/// Whether a segment is the name of an ACL or of a description.
+/// Whether a segment of a path is the name of an ACL or of a description.
 pub(crate) fn is_auxiliary_name(segment: &str) -> bool
     ensures { result ≡ is_auxiliary_name segment.now }
 {
     ends_with(segment, ".acl") || ends_with(segment, ".meta")
 }
 
+/// Whether a segment ends as the name of an auxiliary's auxiliary does.
 fn has_reserved_end(segment: &str) -> bool
     ensures { result ≡ has_reserved_end segment.now }
 {
@@ -34,19 +35,21 @@ fn has_reserved_end(segment: &str) -> bool
         || ends_with(segment, ".meta.meta")
 }
 
+/// Whether a segment is the name of an auxiliary of a dot segment.
 fn is_dot_auxiliary(segment: &str) -> bool
     ensures { result ≡ is_dot_auxiliary segment.now }
 {
     segment == "..acl" || segment == "...acl" || segment == "..meta" || segment == "...meta"
 }
 
-/// Whether a segment is the name of an auxiliary of what can have none.
+/// Whether a segment is reserved: the name of an auxiliary of what can have none.
 fn is_reserved_name(segment: &str) -> bool
     ensures { result ≡ is_reserved_name segment.now }
 {
     has_reserved_end(segment) || is_dot_auxiliary(segment)
 }
 
+/// Whether a byte is a character of a path's segments, or a slash.
 fn is_path_character(b: u8) -> bool
     ensures { result ≡ is_path_character b }
 {
@@ -71,19 +74,21 @@ fn is_path_character(b: u8) -> bool
     )
 }
 
+/// Whether a segment is empty or a dot segment, which no normal path has inside.
 fn is_empty_or_dot_segment(segment: &str) -> bool
     ensures { result ≡ (is_empty segment.now || is_dot_segment segment.now) }
 {
     segment.is_empty() || is_dot_segment(segment)
 }
 
+/// Whether one of two things is true of the segments of a path.
 fn is_either(a: bool, b: bool) -> bool
     ensures { result ≡ (a || b) }
 {
     a || b
 }
 
-/// How many segments a text after a path's first slash has, or why it is part of no path.
+/// How many segments a path has after its first slash, or why they are part of no path.
 pub(crate) fn count_segments(path: &str) -> Result<usize, PathFault>
     ensures { result ≡ segment_count (segments path.now) }
 {
@@ -107,7 +112,7 @@ pub(crate) fn count_segments(path: &str) -> Result<usize, PathFault>
     Ok(count)
 }
 
-/// Whether each byte is a character of paths.
+/// Whether each byte is a character of a path's segments, or a slash.
 pub(crate) fn are_path_characters(bytes: &[u8]) -> bool
     ensures { result ≡ list_all is_path_character bytes.now }
 {

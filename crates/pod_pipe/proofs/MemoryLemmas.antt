@@ -10,7 +10,7 @@ use Rattle.pod_core.specs.History.{History, end_of, longer, pod_at, seconds_of}
 use Rattle.pod_core.proofs.Histories.{end_grows, history_may_grow, moment_at_end, pod_at_end, replayed_more}
 use Rattle.pod_reply.specs.Replies.{Reply}
 use Rattle.pod_reply.specs.Reply.{IsReply}
-use Rattle.pod_reply.specs.declared.replied.Replied.{Replied}
+use Rattle.pod_reply.specs.declared.response_and_entry.Replied.{Replied}
 use Rattle.pod_rows.specs.Apply.{Applies, applied, replayed}
 use Rattle.pod_rows.specs.Pod.{Pod}
 use Rattle.reply_laws.specs.Granted.{is_change}

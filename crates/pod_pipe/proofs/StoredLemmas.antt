@@ -21,7 +21,7 @@ use Rattle.pod_reply.specs.Reply.{IsReply}
 use Rattle.pod_records.specs.Records.{last_after}
 use Rattle.pod_reply.specs.Replies.{Reply, reply_of}
 use Rattle.pod_reply.proofs.OneReply.{one_reply}
-use Rattle.pod_reply.specs.declared.replied.Replied.{Replied}
+use Rattle.pod_reply.specs.declared.response_and_entry.Replied.{Replied}
 use Rattle.pod_rows.specs.Pod.{Pod}
 use Rattle.reply_laws.specs.Granted.{is_change}
 use Rattle.token_table.specs.Credentials.{AskedAgent}

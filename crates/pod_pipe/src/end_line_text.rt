@@ -7,8 +7,8 @@ ghost use Rattle.pod_pipe.specs.Statuses.{ComesOf, LineHasNumber, ReportsEnd, en
 use crate::status::PipeEnd;
 use pod_io::{Sink, write_all, write_number_line};
 
-/// Reports that the input ended inside a message, or that a malformed one was refused, by a word and
-/// a number. A failed write changes nothing.
+/// Writes the end line, a word and a number, of an input that ended inside a message or had a
+/// malformed one. A failed write changes nothing.
 fn write_number<E: Sink>(end: PipeEnd, word: &[u8], number: u64, errors: &mut E) -> PipeEnd
     requires line { number_line word.now number ≡ end_line end }
     requires number { LineHasNumber end }
@@ -23,7 +23,7 @@ fn write_number<E: Sink>(end: PipeEnd, word: &[u8], number: u64, errors: &mut E)
     }
 }
 
-/// Reports an end of status 0 by this line, the only one whose failure is a write fault.
+/// Writes this end line of status 0, the only one whose failure is a write fault.
 fn write_done<E: Sink>(end: PipeEnd, line: &[u8], errors: &mut E) -> PipeEnd
     requires line { line.now ≡ end_line end }
     requires done { status_of end ≡ 0 }
@@ -40,8 +40,8 @@ fn write_done<E: Sink>(end: PipeEnd, line: &[u8], errors: &mut E) -> PipeEnd
     }
 }
 
-/// Reports by a last line how a connection ended, unless a fault, out of memory or the limit on
-/// reads ended it. It takes no memory.
+/// Writes the end line of a connection, which reports how it ended, unless a fault, out of memory
+/// or the limit on reads ended it. It takes no memory.
 pub fn write_end_line<E: Sink>(end: PipeEnd, errors: &mut E) -> PipeEnd
     ensures end { ComesOf end result }
     ensures told { ReportsEnd result (E.taken errors.old) (E.taken errors.new) (E.faults errors.old)

@@ -40,9 +40,9 @@ pub trait PodHolder {
     /// How many calls of its disks failed, and how many requests ran out of memory.
     ghost faults: { Self → Faults };
 
-    /// Answers a request at the end of the history, at the stamp's moment; that of a change is no
-    /// earlier than that of the last entry. After `Ok` the entry of the answer, where it has one,
-    /// is part of the history.
+    /// Answers a request at the end of the history that the holder represents, at the stamp's
+    /// moment; that of a change is no earlier than that of the last entry. After `Ok` the entry of
+    /// the answer, where it has one, is part of the history.
     ///
     /// # Errors
     ///

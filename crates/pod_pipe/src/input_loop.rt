@@ -28,7 +28,8 @@ const READ_LIMIT: u64 = 1 << 40;
 /// The number of the one connection.
 const CONNECTION: u64 = 1;
 
-/// The end of a connection whose events ended so: each of its requests had a place.
+/// Ends the loop over an input whose connection's events ended so: each of its requests had a
+/// place.
 fn pipe_end(end: TalkEnd) -> PipeEnd
     requires { end ≢ TalkEnd.NoPlace }
     ensures { result ≡ end_of_talk end }
@@ -44,7 +45,7 @@ fn pipe_end(end: TalkEnd) -> PipeEnd
     }
 }
 
-/// The end where the input ended after so many bytes of an unfinished message.
+/// Ends the loop over an input that ended after so many bytes of an unfinished message.
 fn at_end(rest: usize) -> PipeEnd
     ensures { result ≡ (if rest == 0 then PipeEnd.Peer else PipeEnd.Cut rest) }
 {
@@ -55,7 +56,8 @@ fn at_end(rest: usize) -> PipeEnd
     }
 }
 
-/// Serves an input as connection 1. Each piece is answered before the next one is read.
+/// Serves an input as connection 1, in a loop of reads. Each piece is answered before the next one
+/// is read.
 pub(crate) fn serve<H: PodHolder, S: Source, K: Sink, E: Sink, C: Clock>(
     alloc: Global,
     held: &mut Held<H>,

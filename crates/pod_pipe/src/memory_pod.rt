@@ -29,7 +29,8 @@ pub struct MemoryPod {
     pub out_of_memory: u64,
 }
 
-/// The moment of a request: that of a change is no earlier than that of the last entry.
+/// The moment of a request to a pod in memory: that of a change is no earlier than that of the last
+/// entry.
 pub fn moment_after(moment: Moment, change: bool, last: Moment) -> Moment
     ensures { result.0 ≡ (if change then max moment.0 last.0 else moment.0) }
 {
@@ -41,7 +42,7 @@ pub fn moment_after(moment: Moment, change: bool, last: Moment) -> Moment
 }
 
 impl MemoryPod {
-    /// Applies an entry, where there is one. Out of memory, nothing changes.
+    /// Applies an entry to the pod in memory, where there is one. Out of memory, nothing changes.
     fn carry_out(&mut self, alloc: Global, entry: Option<Entry>) -> Mem<()>
         requires { IfSome entry (Applies self.old.state.pod self.old.state.next) }
         ensures pod { OnOk result (self.new.state.pod
@@ -62,7 +63,8 @@ impl MemoryPod {
         Ok(())
     }
 
-    /// Answers a request, and applies its entry. Out of memory, nothing changes.
+    /// Answers a request from the pod in memory, and applies its entry. Out of memory, nothing
+    /// changes.
     fn take(
         &mut self,
         alloc: Global,

@@ -10,7 +10,7 @@ use crate::token_file::TableFault;
 use journal_log::{OpenFault, open_status, report_refusal};
 use pod_io::{Sink, write_number_line};
 
-/// Reports why a store isn't opened, and returns the status.
+/// Writes the refusal line of a run whose store isn't opened, and returns the status.
 pub fn refuse<E: Sink>(fault: OpenFault, errors: &mut E) -> Status
     ensures status { result.0 ≡ open_status fault }
     ensures told { TellsRefusal fault (E.taken errors.old) (E.taken errors.new)
@@ -21,7 +21,8 @@ pub fn refuse<E: Sink>(fault: OpenFault, errors: &mut E) -> Status
     Status(open_status(fault))
 }
 
-/// Writes a word and a number as a line, and returns the status. A failed write changes nothing.
+/// Writes the line of a refusal, which is a word and a number, and returns the status. A failed
+/// write changes nothing.
 fn write_reason<E: Sink>(word: &[u8], number: u64, status: u8, errors: &mut E) -> Status
     ensures told { TellsLine (number_line word.now number) status result.0 (E.taken errors.old)
         (E.taken errors.new) (E.faults errors.old) (E.faults errors.new) }
@@ -33,7 +34,7 @@ fn write_reason<E: Sink>(word: &[u8], number: u64, status: u8, errors: &mut E) -
     }
 }
 
-/// Reports why there is no token table.
+/// Writes the refusal line of a run without a token table.
 pub fn refuse_table<E: Sink>(fault: TableFault, errors: &mut E) -> Status
     ensures told { TellsLine (fault_line fault) (table_status fault) result.0 (E.taken errors.old)
         (E.taken errors.new) (E.faults errors.old) (E.faults errors.new) }

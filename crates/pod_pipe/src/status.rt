@@ -50,7 +50,7 @@ pub enum PipeEnd {
 }
 
 impl PipeEnd {
-    /// Its status.
+    /// The status of a connection that ended so.
     pub fn status(self) -> Status
         ensures { result.0 ≡ status_of self }
     {

@@ -20,14 +20,15 @@ use pod_keeper::{Keeper, NotOpened};
 use pod_rows::PodState;
 use std::alloc::Global;
 
-/// The owner of the store's pod.
+/// The owner of the pod in the store that a pipe serves.
 fn owner_of<D: Disk>(alloc: Global, keeper: &Keeper<D>) -> Mem<Text>
     ensures { IfOk result (λ owner. owner ≡ keeper.now.pod.owner) }
 {
     keeper.version().owner().copy(alloc)
 }
 
-/// How requests are authenticated: by the token table, or every request is the owner's.
+/// How the requests of a pipe over a store are authenticated: by the token table, or every request
+/// is the owner's.
 fn agents_of<D: Disk, T: Source>(
     alloc: Global,
     by_tokens: bool,
@@ -55,7 +56,7 @@ fn agents_of<D: Disk, T: Source>(
     }
 }
 
-/// Serves the input as one connection of the pod that a keeper holds. Returns the keeper.
+/// Pipes the input, as one connection, to the pod that a store's keeper holds. Returns the keeper.
 fn pipe_keeper<D: Disk, T: Source, S: Source, K: Sink, E: Sink, C: Clock>(
     alloc: Global,
     by_tokens: bool,
@@ -113,7 +114,7 @@ fn pipe_keeper<D: Disk, T: Source, S: Source, K: Sink, E: Sink, C: Clock>(
     }
 }
 
-/// Opens a store and serves the input as one connection of its pod. Returns the disks.
+/// Opens a store and pipes the input, as one connection, to its pod. Returns the disks.
 fn run_store<D: Disk, T: Source, S: Source, K: Sink, E: Sink, C: Clock>(
     alloc: Global,
     by_tokens: bool,
@@ -170,7 +171,7 @@ fn run_store<D: Disk, T: Source, S: Source, K: Sink, E: Sink, C: Clock>(
     }
 }
 
-/// Opens the store of a place and serves the input as one connection of its pod. The disks are put
+/// Opens the store of a place and pipes the input, as one connection, to its pod. The disks are put
 /// back.
 pub fn pipe_store<D: Disk, T: Source, S: Source, K: Sink, E: Sink, C: Clock>(
     alloc: Global,

@@ -27,7 +27,7 @@ pub(crate) struct StoredPod<D: Disk> {
 }
 
 impl<D: Disk> StoredPod<D> {
-    /// The moment of a change: no earlier than that of the last entry.
+    /// The moment of a change to a stored pod: no earlier than that of the last entry.
     fn change_moment(&self, moment: Moment) -> Moment
         ensures { (history : History) (doubt : Option Entry)
             → StandsWith D.image self.now.keeper history doubt
@@ -39,7 +39,7 @@ impl<D: Disk> StoredPod<D> {
         }
     }
 
-    /// Answers a request that is no change, at the present version.
+    /// Answers a read of the stored pod, which is no change, at the present version.
     fn read(&self, alloc: Global, request: &Request, asked: &Asked<'_>, stamp: Stamp) -> Mem<Answer>
         requires { is_change request.now.method ≡ false }
         ensures answered { IfOk result (λ answer. AnswersAtEnd (StandsWith D.image)
@@ -58,7 +58,7 @@ impl<D: Disk> StoredPod<D> {
         })
     }
 
-    /// Commits a change.
+    /// Commits a change to the stored pod.
     fn change(
         &mut self,
         alloc: Global,
@@ -101,7 +101,7 @@ impl<D: Disk> StoredPod<D> {
         }
     }
 
-    /// Answers a request.
+    /// Answers a request to the stored pod.
     fn serve(
         &mut self,
         alloc: Global,

@@ -27,7 +27,7 @@ pub enum TableFault {
     ReadLimit,
 }
 
-/// The text of a source, which is read to its end.
+/// Reads the text of the token file to its end.
 fn read_all<T: Source>(alloc: Global, source: &mut T) -> Result<Vec<u8>, TableFault>
     ensures text { IfOk result (λ text. IsTableRead text.items
         (tokens_of T.rest T.faults T.reads T.ends source.old source.new)) }
@@ -52,7 +52,7 @@ fn read_all<T: Source>(alloc: Global, source: &mut T) -> Result<Vec<u8>, TableFa
     Err(TableFault::ReadLimit)
 }
 
-/// The table of a text.
+/// The token table of the text of a token file.
 fn table_of(alloc: Global, text: &[u8]) -> Result<Tokens, TableFault>
     ensures table { IfOk result (λ tokens. tokens ≡ entries (lines_of text.now)) }
     ensures sound { IfOk result (λ _. AreSound (lines_of text.now)) }
@@ -65,7 +65,7 @@ fn table_of(alloc: Global, text: &[u8]) -> Result<Tokens, TableFault>
     }
 }
 
-/// The token table of a source, which is read to its end.
+/// Reads the token table from its file, a source, to the end.
 pub fn read_table<T: Source>(alloc: Global, source: &mut T) -> Result<Tokens, TableFault>
     ensures table { IfOk result (λ tokens. IsTable tokens
         (tokens_of T.rest T.faults T.reads T.ends source.old source.new)) }

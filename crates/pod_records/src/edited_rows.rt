@@ -19,14 +19,14 @@ pub(crate) struct Made {
     pub(crate) was: bool,
 }
 
-/// What was made of a path last. The last one is the first of the list.
+/// What the edits made last of the edited row at a path. The last one is the first of the list.
 fn latest<'a>(made: &'a [Made], path: &Path) -> Option<&'a Made>
     ensures { option_copied result ≡ latest made.entry.now path.now }
 {
     made.iter().find(|one| one.path.as_str() == path.as_str())
 }
 
-/// The row at a path of a state of which edits made this.
+/// The edited row at a path: the one that edits made there, or that of the state.
 pub(crate) fn find<'a, S: PodState>(state: &'a S, made: &'a [Made], path: &Path) -> Option<&'a Row>
     ensures { option_copied result
         ≡ found_in (S.pod state.entry.now).rows made.entry.now path.now }
@@ -37,7 +37,7 @@ pub(crate) fn find<'a, S: PodState>(state: &'a S, made: &'a [Made], path: &Path)
     }
 }
 
-/// The path of an edit.
+/// The path of the row that is edited by an edit.
 fn path_of(edit: &Edit) -> &Path
     ensures { result.now ≡ path_of edit.now }
 {
@@ -53,7 +53,7 @@ fn path_of(edit: &Edit) -> &Path
     }
 }
 
-/// What a change makes of the path of a row.
+/// The edited row that a change of its graph makes at a path.
 fn made_by_change(
     alloc: Global,
     row: Option<&Row>,
@@ -80,7 +80,7 @@ fn made_by_change(
     }
 }
 
-/// What a touch makes of the path of a row.
+/// The edited row that a touch makes at a path.
 fn made_by_touch(
     alloc: Global,
     row: Option<&Row>,
@@ -102,7 +102,7 @@ fn made_by_touch(
     }))
 }
 
-/// What a removal makes of the path of a row.
+/// What a removal makes of the edited row at a path.
 fn made_by_removal(alloc: Global, row: Option<&Row>, path: &Path) -> Mem<Option<Made>>
     ensures { IfOk result (λ made. made
         ≡ made_by_removal path.now (option_copied row.entry)) }
@@ -118,7 +118,7 @@ fn made_by_removal(alloc: Global, row: Option<&Row>, path: &Path) -> Mem<Option<
     }))
 }
 
-/// What a put makes of the path of its row.
+/// The edited row that a put makes at its path.
 fn made_by_put(alloc: Global, was: bool, row: &Row) -> Mem<Made>
     ensures { IfOk result (λ made. made
         ≡ record { path = row.now.path; row = Some row.now; was = was }) }
@@ -132,7 +132,8 @@ fn made_by_put(alloc: Global, was: bool, row: &Row) -> Mem<Made>
     })
 }
 
-/// What the edit makes of its path, where this row is at it. None where it can't be carried out.
+/// The edited row that an edit makes at its path, where this row is at it. None where it can't be
+/// carried out.
 fn made_by(alloc: Global, row: Option<&Row>, edit: &Edit) -> Mem<Option<Made>>
     ensures { IfOk result (λ made. made ≡ made_by edit.now (option_copied row.entry)) }
 {
@@ -151,7 +152,7 @@ fn made_by(alloc: Global, row: Option<&Row>, edit: &Edit) -> Mem<Option<Made>>
     }
 }
 
-/// What the next edit makes, after those that made this.
+/// The edited row that the next edit makes, after those that made these.
 fn made_next<S: PodState>(alloc: Global, state: &S, made: &[Made], edit: &Edit) -> Mem<Option<Made>>
     ensures { IfOk result (λ next. next ≡ made_by edit.now
         (found_in (S.pod state.now).rows made.now (path_of edit.now))) }
@@ -159,7 +160,8 @@ fn made_next<S: PodState>(alloc: Global, state: &S, made: &[Made], edit: &Edit) 
     made_by(alloc, find(state, made, path_of(edit)), edit)
 }
 
-/// What the edits make, the last one first. None where one of them can't be carried out.
+/// The edited rows that edits make, the last one first. None where one of them can't be carried
+/// out.
 pub(crate) fn all_made<S: PodState>(
     alloc: Global,
     state: &S,

@@ -15,7 +15,7 @@ use pod_edits::lacks_number;
 use pod_rows::PodState;
 use std::alloc::Global;
 
-/// Whether the pod is well-formed after the edits that made this.
+/// Whether the pod is well-formed after the edits of an entry, which made this of its rows.
 fn stays_well_formed<S: PodState>(alloc: Global, state: &S, made: &[Made]) -> Mem<bool>
     ensures sound { IfOk result (λ r. IsTrue r → (edits : List Edit)
         → HasMade (S.pod state.now).rows edits made.now → WellFormed (with_rows_if
@@ -59,8 +59,8 @@ fn edits_fit<S: PodState>(alloc: Global, state: &S, entry: &Entry) -> Mem<bool>
     }
 }
 
-/// Whether the entry applies to the state: it has the next number, its edits can be carried out,
-/// and the pod is well-formed after them.
+/// Whether an entry applies to a state, by the rows that its edits touch: it has the next number,
+/// its edits can be carried out, and the pod is well-formed after them.
 ///
 /// It takes time and memory by the edits and by the rows at their paths, and by the children of the
 /// containers that they remove. A `Put` alone of a row in place of another takes no memory, nor does

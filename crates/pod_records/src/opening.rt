@@ -24,7 +24,8 @@ pub struct OpenedStore {
     pub reading: Reading,
 }
 
-/// Opens a store, and decodes and applies each entry of its active journal once.
+/// Opens a store and reads its records: each entry of its active journal is decoded and applied
+/// once.
 ///
 /// # Errors
 ///
@@ -64,7 +65,7 @@ pub fn open_store<D: Disk>(
     }
 }
 
-/// Reads the records of a pair.
+/// Reads the records of the pair of a store that is opened.
 fn read_pair(alloc: Global, pair: Pair, records: List<Bytes>) -> Result<OpenedStore, OpenFault>
     requires some { HasSnapshot pair.snapshot records.items }
     requires room { gate_after records.items < 2 ^ 64 }
@@ -89,7 +90,7 @@ fn read_pair(alloc: Global, pair: Pair, records: List<Bytes>) -> Result<OpenedSt
     }
 }
 
-/// Reads the records, of which there is one at least.
+/// Reads all records of a store that is opened, of which there is one at least.
 fn read_all(alloc: Global, format: u8, records: &[Bytes]) -> Result<Reading, RecordFault>
     requires format { (format ≡ 1) ⊎ (format ≡ 2) }
     requires some { 0 < length records.now }

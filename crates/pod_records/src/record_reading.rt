@@ -44,6 +44,7 @@ pub enum RecordFault {
 impl From<NoMemory> for RecordFault {
     ghost from_gives = { λ _ fault. fault ≡ OutOfMemory };
 
+    /// Reading of records ends where memory ran out.
     fn from(_error: NoMemory) -> RecordFault {
         RecordFault::NoMemory
     }
@@ -64,7 +65,8 @@ struct Progress {
     at: u64,
 }
 
-/// The replay from a stored snapshot. None where the record isn't the text of a well-formed one.
+/// Reads the record of a pod's snapshot, from which a replay begins. None where the record isn't
+/// the text of a well-formed one.
 fn read_snapshot(alloc: Global, text: &[u8]) -> Mem<Option<Replay>>
     ensures some { IfOk result (λ found. IfSome found
         (IsSnapshotRead text.now)) }
@@ -78,7 +80,8 @@ fn read_snapshot(alloc: Global, text: &[u8]) -> Mem<Option<Replay>>
     }
 }
 
-/// The replay from a snapshot. None where it isn't well-formed.
+/// The start of the reading of records: the replay of their snapshot. None where it isn't
+/// well-formed.
 fn replay_of(alloc: Global, snapshot: Snapshot) -> Mem<Option<Replay>>
     ensures replay { IfOk result
         (λ found. IfSome found (λ replay. replay ≡ first_state snapshot)) }
@@ -93,7 +96,8 @@ fn replay_of(alloc: Global, snapshot: Snapshot) -> Mem<Option<Replay>>
     }
 }
 
-/// The entry of a record of format 1. None where the record isn't the text of one.
+/// Reads the entry of a record of format 1 in a pod's journal. None where the record isn't the text
+/// of one.
 fn read_old(alloc: Global, text: &[u8]) -> Mem<Option<Entry>>
     ensures some { IfOk result (λ found. IfSome found (IsEntryRead 1 text.now)) }
     ensures none { IfOk result (λ found. found ≡ None
@@ -106,7 +110,8 @@ fn read_old(alloc: Global, text: &[u8]) -> Mem<Option<Entry>>
     }
 }
 
-/// The entry of a record of format 2. None where the record isn't the text of one.
+/// Reads the entry of a record of format 2 in a pod's journal. None where the record isn't the text
+/// of one.
 fn read_new(alloc: Global, text: &[u8]) -> Mem<Option<Entry>>
     ensures some { IfOk result (λ found. IfSome found (IsEntryRead 2 text.now)) }
     ensures none { IfOk result (λ found. found ≡ None
@@ -119,7 +124,8 @@ fn read_new(alloc: Global, text: &[u8]) -> Mem<Option<Entry>>
     }
 }
 
-/// The entry of a record in this format. None where the record isn't the text of one.
+/// Reads the entry of a record in a pod's journal of this format. None where the record isn't the
+/// text of one.
 pub fn read_entry(alloc: Global, format: u8, text: &[u8]) -> Mem<Option<Entry>>
     requires { (format ≡ 1) ⊎ (format ≡ 2) }
     ensures some { IfOk result (λ found. IfSome found (IsEntryRead format text.now)) }
@@ -133,7 +139,8 @@ pub fn read_entry(alloc: Global, format: u8, text: &[u8]) -> Mem<Option<Entry>>
     }
 }
 
-/// The replay after an entry. None where the entry doesn't apply.
+/// What is read of records with an entry more: the replay after it. None where the entry doesn't
+/// apply.
 fn replay_after(alloc: Global, replay: Replay, entry: &Entry) -> Mem<Option<Replay>>
     ensures applies { IfOk result (λ found. IfSome found
         (λ _. Applies replay.pod replay.next entry.now)) }
@@ -150,8 +157,8 @@ fn replay_after(alloc: Global, replay: Replay, entry: &Entry) -> Mem<Option<Repl
     }
 }
 
-/// The replay after the entry of a record, and the entry's moment. None where the record isn't the
-/// text of an entry that applies.
+/// Reads the next record of a pod's journal: the replay after its entry, and the entry's moment.
+/// None where the record isn't the text of an entry that applies.
 fn read_next(
     alloc: Global,
     format: u8,
@@ -176,7 +183,7 @@ fn read_next(
 }
 
 impl Progress {
-    /// What the first record holds.
+    /// Reads the first record of a pod's journal, a snapshot.
     fn begin(alloc: Global, text: &[u8]) -> Result<Progress, RecordFault>
         requires { frame_len text.now + 16 < 2 ^ 64 }
         ensures read { IfOk result (λ progress. (format : ℕ)
@@ -195,7 +202,7 @@ impl Progress {
         }
     }
 
-    /// What it holds with the next record.
+    /// Reads one record more of a pod's journal, an entry.
     fn after(self, alloc: Global, format: u8, text: &[u8]) -> Result<Progress, RecordFault>
         requires format { (format ≡ 1) ⊎ (format ≡ 2) }
         requires room { self.at + frame_len text.now < 2 ^ 64 }
@@ -220,7 +227,7 @@ impl Progress {
     }
 }
 
-/// What the records of a journal of this format hold: `snapshot`, and then `entries`.
+/// Reads what the records of a pod's journal of this format hold: `snapshot`, and then `entries`.
 ///
 /// # Errors
 ///

@@ -13,7 +13,7 @@ use pod_rows::{PodState, snapshot};
 use std::alloc::Global;
 use stored_forms::{encode_entry, encode_snapshot};
 
-/// The record of an entry in format 2.
+/// The text of an entry's record in format 2.
 pub fn entry_record(alloc: Global, entry: &Entry) -> Mem<Framed>
     requires { IsEncodable entry.now }
     ensures form { IfOk result (λ framed. framed ≡ entry_bytes entry.now) }
@@ -23,7 +23,7 @@ pub fn entry_record(alloc: Global, entry: &Entry) -> Mem<Framed>
     frame(alloc, bytes.as_slice())
 }
 
-/// The record of a well-formed snapshot.
+/// The text of a well-formed snapshot's record.
 pub fn record_of(alloc: Global, snapshot: &Snapshot) -> Mem<Framed>
     requires { IsWellFormedSnapshot snapshot.now }
     ensures { IfOk result
@@ -33,7 +33,7 @@ pub fn record_of(alloc: Global, snapshot: &Snapshot) -> Mem<Framed>
     frame(alloc, bytes.as_slice())
 }
 
-/// The record of a state's snapshot.
+/// The text of the record of a state's snapshot.
 pub fn snapshot_record<S: PodState>(alloc: Global, state: &S) -> Mem<Framed>
     ensures { IfOk result (IsSnapshotText (S.pod state.now) (S.next_number state.now)) }
 {

@@ -20,14 +20,14 @@ use pod_rows::{
 };
 use std::alloc::Global;
 
-/// Whether there is a row at a path.
+/// Checks whether edits leave a row at a path.
 fn is_there<S: PodState>(state: &S, made: &[Made], path: &Path) -> bool
     ensures { result ≡ is_there (found_in (S.pod state.now).rows made.now) path.now }
 {
     find(state, made, path).is_some()
 }
 
-/// Whether there is a path, and a row at it.
+/// Checks whether there is a path, and edits leave a row at it.
 fn is_there_of<S: PodState>(state: &S, made: &[Made], path: &Option<Path>) -> bool
     ensures { result ≡ is_there_of (found_in (S.pod state.now).rows made.now) path.now }
 {
@@ -37,7 +37,7 @@ fn is_there_of<S: PodState>(state: &S, made: &[Made], path: &Option<Path>) -> bo
     }
 }
 
-/// Whether the path is the root, or there is a row at its parent.
+/// Checks whether a path is the root, or edits leave a row at its parent.
 fn has_parent<S: PodState>(alloc: Global, state: &S, made: &[Made], path: &Path) -> Mem<bool>
     ensures { IfOk result (λ r. r
         ≡ has_parent (found_in (S.pod state.now).rows made.now) path.now) }
@@ -49,7 +49,7 @@ fn has_parent<S: PodState>(alloc: Global, state: &S, made: &[Made], path: &Path)
     Ok(is_there_of(state, made, &parent))
 }
 
-/// Whether there is no row at the path's twin.
+/// Checks whether edits leave no row at a path's twin.
 fn lacks_twin<S: PodState>(alloc: Global, state: &S, made: &[Made], path: &Path) -> Mem<bool>
     ensures { IfOk result (λ r. r
         ≡ lacks_twin (found_in (S.pod state.now).rows made.now) path.now) }
@@ -58,7 +58,8 @@ fn lacks_twin<S: PodState>(alloc: Global, state: &S, made: &[Made], path: &Path)
     Ok(!is_there_of(state, made, &twin))
 }
 
-/// Whether the path is that of no access list and no description, or there is a row at its subject.
+/// Checks whether a path is that of no access list and no description, or edits leave a row at its
+/// subject.
 fn has_subject<S: PodState>(alloc: Global, state: &S, made: &[Made], path: &Path) -> Mem<bool>
     ensures { IfOk result (λ r. r
         ≡ has_subject (found_in (S.pod state.now).rows made.now) path.now) }
@@ -69,7 +70,7 @@ fn has_subject<S: PodState>(alloc: Global, state: &S, made: &[Made], path: &Path
     }
 }
 
-/// Whether the rows that a row at the path needs exist, and no twin.
+/// Checks whether edits leave the rows that a row at the path needs, and no twin.
 #[tactic(auto, unfolding(crate::specs::Touched::is_placed))]
 fn is_placed<S: PodState>(alloc: Global, state: &S, made: &[Made], path: &Path) -> Mem<bool>
     ensures { IfOk result (λ r. r
@@ -82,14 +83,14 @@ fn is_placed<S: PodState>(alloc: Global, state: &S, made: &[Made], path: &Path) 
     )
 }
 
-/// Whether there is a row at none of these paths.
+/// Checks whether edits leave a row at none of these paths.
 fn none_there<S: PodState>(state: &S, made: &[Made], paths: &[Path]) -> bool
     ensures { result ≡ none_there (found_in (S.pod state.now).rows made.now) paths.now }
 {
     paths.iter().all(|path| !is_there(state, made, path))
 }
 
-/// Whether no child that a container had exists.
+/// Checks whether edits leave no child that a container had.
 #[tactic(auto, unfolding(crate::specs::Touched::lacks_children))]
 fn lacks_children<S: PodState>(alloc: Global, state: &S, made: &[Made], path: &Path) -> Mem<bool>
     ensures { IfOk result (λ r. r ≡ lacks_children (S.pod state.now).rows
@@ -103,7 +104,7 @@ fn lacks_children<S: PodState>(alloc: Global, state: &S, made: &[Made], path: &P
     Ok(none_there(state, made, children.as_slice()))
 }
 
-/// Whether neither an access list nor a description of the path exists.
+/// Checks whether edits leave neither an access list nor a description of a path.
 #[tactic(auto, unfolding(crate::specs::Touched::lacks_auxiliaries))]
 fn lacks_auxiliaries<S: PodState>(alloc: Global, state: &S, made: &[Made], path: &Path) -> Mem<bool>
     ensures { IfOk result (λ r. r ≡ lacks_auxiliaries
@@ -117,14 +118,15 @@ fn lacks_auxiliaries<S: PodState>(alloc: Global, state: &S, made: &[Made], path:
     Ok(!is_there_of(state, made, &meta))
 }
 
-/// Whether the path is that of a row which every pod has: the root, or its access list.
+/// Checks whether a path is that of a row which edits must leave: the root, or its access list.
 fn is_kept(path: &Path) -> bool
     ensures { result ≡ is_kept path.now }
 {
     path.is_root() || is_root_list(path)
 }
 
-/// Whether a path may have no row: every pod can be without it, and no existing row needs it.
+/// Checks whether edits may leave no row at a path: every pod can be without it, and no existing
+/// row needs it.
 #[tactic(auto, unfolding(crate::specs::Touched::is_free))]
 fn is_free<S: PodState>(alloc: Global, state: &S, made: &[Made], path: &Path) -> Mem<bool>
     ensures { IfOk result (λ r. r ≡ is_free (S.pod state.now).rows
@@ -136,7 +138,8 @@ fn is_free<S: PodState>(alloc: Global, state: &S, made: &[Made], path: &Path) ->
     Ok(lacks_children(alloc, state, made, path)? && lacks_auxiliaries(alloc, state, made, path)?)
 }
 
-/// Whether the content gives the owner control of the root, as the root's access list.
+/// Checks whether the content of a row gives the owner control of the root, as the root's access
+/// list.
 fn guards_content<S: PodState>(state: &S, content: &Content) -> bool
     ensures { result ≡ guards_content (S.pod state.now) content.now }
 {
@@ -150,7 +153,8 @@ fn guards_content<S: PodState>(state: &S, content: &Content) -> bool
     }
 }
 
-/// Whether the path is not that of the root's access list, or the content passes the guard.
+/// Checks whether a row's path is not that of the root's access list, or its content passes the
+/// guard.
 #[tactic(auto, unfolding(crate::specs::Touched::keeps_guard))]
 pub(crate) fn keeps_guard<S: PodState>(state: &S, path: &Path, content: &Content) -> bool
     ensures { result ≡ keeps_guard (S.pod state.now) path.now content.now }
@@ -158,7 +162,7 @@ pub(crate) fn keeps_guard<S: PodState>(state: &S, path: &Path, content: &Content
     !is_root_list(path) || guards_content(state, content)
 }
 
-/// Whether the row has a normal path, a kind of its path and a content of its kind.
+/// Checks whether a row has a normal path, a kind of its path and a content of its kind.
 #[tactic(auto, unfolding(crate::specs::Touched::is_right))]
 pub(crate) fn is_right(row: &Row) -> bool
     ensures { result ≡ is_right row.now }
@@ -166,7 +170,7 @@ pub(crate) fn is_right(row: &Row) -> bool
     has_normal_path(row) && has_right_kind(row) && lacks_stored_containment(row)
 }
 
-/// Whether a row is right at the path.
+/// Checks whether a row that edits leave at a path is as a well-formed pod has it.
 fn is_row_fine<S: PodState>(
     alloc: Global,
     state: &S,
@@ -186,7 +190,7 @@ fn is_row_fine<S: PodState>(
     is_placed(alloc, state, made, path)
 }
 
-/// Whether what is at the path now is as a well-formed pod has it.
+/// Checks whether what edits leave at a path is as a well-formed pod has it.
 #[tactic(auto, unfolding(crate::specs::Touched::is_fine))]
 fn is_fine<S: PodState>(alloc: Global, state: &S, made: &[Made], path: &Path) -> Mem<bool>
     ensures { IfOk result (λ r. r ≡ is_fine (S.pod state.now)
@@ -198,7 +202,7 @@ fn is_fine<S: PodState>(alloc: Global, state: &S, made: &[Made], path: &Path) ->
     }
 }
 
-/// Whether it is so at each path of which something was made.
+/// Checks whether what edits leave at each of their paths is as a well-formed pod has it.
 pub(crate) fn are_fine<S: PodState>(alloc: Global, state: &S, made: &[Made]) -> Mem<bool>
     ensures { IfOk result (λ r. r ≡ list_all (λ one. is_fine (S.pod state.now)
         (found_in (S.pod state.now).rows made.now) one.path) made.now) }
@@ -211,21 +215,22 @@ pub(crate) fn are_fine<S: PodState>(alloc: Global, state: &S, made: &[Made]) -> 
     Ok(true)
 }
 
-/// How many times a row was made.
+/// How many times edits made a row, for the check of the number of rows.
 fn count_added(made: &[Made]) -> usize
     ensures { result ≡ length (filter is_added made.now) }
 {
     made.iter().filter(|one| one.row.is_some()).count()
 }
 
-/// How many times something was made of a row.
+/// How many times edits made something of a row that was there, for the check of the number of
+/// rows.
 fn count_gone(made: &[Made]) -> usize
     ensures { result ≡ length (filter is_gone made.now) }
 {
     made.iter().filter(|one| one.was).count()
 }
 
-/// Whether there are at most [`ROWS_LIMIT`] rows.
+/// Checks whether edits leave at most [`ROWS_LIMIT`] rows.
 pub(crate) fn has_room<S: PodState>(state: &S, made: &[Made]) -> bool
     ensures { result ≡ has_room (S.pod state.now).rows made.now }
 {

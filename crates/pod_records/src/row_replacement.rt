@@ -8,7 +8,7 @@ use crate::row_checks::{is_right, keeps_guard};
 use pod_command::{Edit, Row};
 use pod_rows::PodState;
 
-/// The row of an edit that is a `Put`.
+/// The row of an edit that is a `Put`, which may replace another.
 fn row_of(edit: &Edit) -> Option<&Row>
     ensures { IfSome (option_copied result) (λ row. edit.entry.now ≡ Put row) }
 {
@@ -18,7 +18,7 @@ fn row_of(edit: &Edit) -> Option<&Row>
     }
 }
 
-/// The row of edits that are one `Put` alone.
+/// The row of edits that are one `Put` alone, which may replace another.
 fn only_row(edits: &[Edit]) -> Option<&Row>
     ensures { IfSome (option_copied result) (λ row. edits.entry.now ≡ Put row ∷ []) }
 {
@@ -28,7 +28,8 @@ fn only_row(edits: &[Edit]) -> Option<&Row>
     }
 }
 
-/// The new row, where the edits are one `Put` of it in place of a row of the state.
+/// The row that replaces another, where the edits are one `Put` of it in place of a row of the
+/// state.
 pub(crate) fn replacement<'a, S: PodState>(state: &S, edits: &'a [Edit]) -> Option<&'a Row>
     ensures only { IfSome (option_copied result) (λ row. edits.entry.now ≡ Put row ∷ []) }
     ensures there { IfSome (option_copied result)
@@ -42,8 +43,7 @@ pub(crate) fn replacement<'a, S: PodState>(state: &S, edits: &'a [Edit]) -> Opti
     }
 }
 
-/// Whether the row may be put in place of the one at its path: it is right by itself, and keeps
-/// the guard.
+/// Whether a row may replace the one at its path: it is right by itself, and keeps the guard.
 pub(crate) fn may_replace<S: PodState>(state: &S, row: &Row) -> bool
     ensures { result ≡ (is_right row.now
         && keeps_guard (S.pod state.now) row.now.path row.now.content) }

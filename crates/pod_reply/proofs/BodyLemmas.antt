@@ -8,7 +8,7 @@ use Rattle.request_body.specs.Syntaxes.{holds_graph, patch_syntax, put_syntax, s
 use Rattle.request_body.specs.declared.body.RequestBody.{RequestBody}
 use Rattle.request_body.specs.declared.body.RequestBody.TheVariants.{Content, Patch, Update}
 use Rattle.request_body.specs.declared.fault.BodyFault.{BodyFault}
-use Rattle.request_body.specs.declared.syntax.BodySyntax.{BodySyntax}
+use Rattle.request_body.specs.declared.syntax_choice.BodySyntax.{BodySyntax}
 use Rattle.request_fields.specs.Links.{links_to_container}
 use Rattle.request_fields.specs.MediaTypes.{media_type}
 use Rattle.request_fields.specs.declared.media_types.MediaType.{MediaType}

@@ -3,7 +3,7 @@ use Rattle.std.proofs.Common.{◌≡◌, ℕ, Bool, false, List, Option, Some, N
 use Rattle.std.specs.List.{list_any}
 use Rattle.patch_outcome.specs.Outcomes.{HasGraphs}
 use Rattle.patch_outcome.specs.Updates.{IsUpdateOutcome}
-use Rattle.patch_outcome.specs.declared.refusal.PatchRefusal.{PatchRefusal}
+use Rattle.patch_outcome.specs.declared.patch_refusals.PatchRefusal.{PatchRefusal}
 use Rattle.patch_outcome.proofs.OneOutcome.{one_patch_outcome, one_update_outcome}
 use Rattle.pod_base.specs.declared.method.Method.{Method}
 use Rattle.pod_base.specs.declared.method.Method.TheVariants.{Post, Put, Patch as PatchMethod, Other}

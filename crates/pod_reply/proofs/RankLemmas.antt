@@ -21,7 +21,7 @@ use Rattle.pod_reply.specs.Ranks.{Ends, IsGrant, Passes, Tells, reads}
 use Rattle.pod_reply.specs.Replies.{Reply, unchanged}
 use Rattle.pod_reply.specs.Reply.{IsGrantedReply, IsMethodReply}
 use Rattle.pod_reply.specs.declared.origin.Origin.{Origin}
-use Rattle.pod_reply.specs.declared.replied.Replied.{Replied}
+use Rattle.pod_reply.specs.declared.response_and_entry.Replied.{Replied}
 use Rattle.pod_reply.specs.declared.stop.Stop.{Stop}
 use Rattle.pod_reply.specs.declared.stop.Stop.TheVariants.{Refused, NoMemory}
 

@@ -9,7 +9,7 @@ use Rattle.pod_command.specs.declared.row.Content.TheVariants as contents
 use Rattle.pod_command.specs.declared.row.Row.{Row}
 use Rattle.patch_outcome.specs.Outcomes.{HasGraphs, IsOutcome, word_of}
 use Rattle.patch_outcome.specs.Updates.{IsUpdateOutcome}
-use Rattle.patch_outcome.specs.declared.refusal.PatchRefusal.{PatchRefusal}
+use Rattle.patch_outcome.specs.declared.patch_refusals.PatchRefusal.{PatchRefusal}
 use Rattle.pod_edits.specs.Allowed.{triples_of}
 use Rattle.pod_edits.specs.Edits.{change_edits}
 use Rattle.pod_edits.specs.Refusals.{breaks_guard, is_bytes}

@@ -9,7 +9,7 @@ use Rattle.pod_command.specs.declared.basis.Basis.{Basis}
 use Rattle.pod_rows.specs.Pod.{Pod}
 use Rattle.pod_reply.specs.Replies.{Reply, reply_of, unchanged}
 use Rattle.pod_reply.specs.declared.origin.Origin.{Origin}
-use Rattle.pod_reply.specs.declared.replied.Replied.{Replied}
+use Rattle.pod_reply.specs.declared.response_and_entry.Replied.{Replied}
 use Rattle.pod_reply.specs.declared.stop.Stop.{Stop}
 use Rattle.pod_reply.specs.declared.stop.Stop.TheVariants.{Refused, NoMemory}
 

@@ -6,14 +6,14 @@ use Rattle.pod_base.specs.declared.agent.Agent.{Agent}
 use Rattle.pod_base.specs.declared.request.Request.{Request}
 use Rattle.pod_base.specs.declared.response.Response.{Response}
 use Rattle.conditional_req.specs.Conditions.{conditions}
-use Rattle.conditional_req.specs.declared.preconditions.Verdict.{Verdict}
-use Rattle.conditional_req.specs.declared.preconditions.Verdict.TheVariants as verdicts
+use Rattle.conditional_req.specs.declared.precondition_verdict.Verdict.{Verdict}
+use Rattle.conditional_req.specs.declared.precondition_verdict.Verdict.TheVariants as verdicts
 use Rattle.pod_command.specs.declared.row.Row.{Row}
 use Rattle.pod_representations.specs.Offers.{chosen}
 use Rattle.pod_representations.specs.Preconditions.{read_verdict}
 use Rattle.pod_representations.specs.ReadResponses.{read_response}
 use Rattle.pod_representations.specs.Representations.{represented}
-use Rattle.pod_representations.specs.declared.media.Media.{Media}
+use Rattle.pod_representations.specs.declared.row_offers.Media.{Media}
 use Rattle.pod_representations.specs.declared.representation.Shown.{Shown}
 use Rattle.pod_responses.specs.Responses.{refusal, not_modified, upgraded}
 use Rattle.pod_rows.specs.Pod.{Pod, row_at}

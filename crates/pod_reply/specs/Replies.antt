@@ -13,7 +13,7 @@ use Rattle.pod_command.specs.declared.edit.Edit.{Edit}
 use Rattle.pod_command.specs.declared.entry.Entry.{Entry}
 use Rattle.pod_reply.specs.EntrySize.{sized}
 use Rattle.pod_reply.specs.declared.origin.Origin.{Origin}
-use Rattle.pod_reply.specs.declared.replied.Replied.{Replied}
+use Rattle.pod_reply.specs.declared.response_and_entry.Replied.{Replied}
 
 -- a reply; of its entry the spare capacity of lists doesn't count
 pub record Reply : Type 0 where

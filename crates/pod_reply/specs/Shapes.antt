@@ -6,7 +6,7 @@ use Rattle.pod_base.specs.declared.request.Request.{Request}
 use Rattle.conditional_req.specs.Conditions.{conditions, needs_read}
 use Rattle.pod_command.specs.declared.row.Row.{Row}
 use Rattle.pod_edits.specs.Places.{nearest_of, IsPlaceOf}
-use Rattle.pod_edits.specs.declared.place.Place.{Place}
+use Rattle.pod_edits.specs.declared.new_row_place.Place.{Place}
 use Rattle.pod_rows.specs.Pod.{Pod, is_row}
 use Rattle.request_body.specs.declared.body.RequestBody.{RequestBody}
 use Rattle.request_body.specs.declared.body.RequestBody.TheVariants.{Patch, Update}

@@ -15,7 +15,8 @@ use pod_responses::{refusal, unauthorized};
 use pod_rows::PodState;
 use std::alloc::Global;
 
-/// 401 `access` for anybody, 403 `access` for a known agent (RFC 9110, sections 15.5.2 and 15.5.4).
+/// The refusal of access: 401 `access` for anybody, 403 `access` for a known agent (RFC 9110,
+/// sections 15.5.2 and 15.5.4).
 fn refuse_access(alloc: Global, agent: &Agent) -> Mem<Response>
     ensures { IfOk result (λ response. response ≡ spec.access_refusal agent.now) }
 {
@@ -25,7 +26,7 @@ fn refuse_access(alloc: Global, agent: &Agent) -> Mem<Response>
     }
 }
 
-/// Whether each need is granted.
+/// Whether access is granted for each need.
 fn are_granted<S: PodState>(state: &S, agent: &Agent, needs: &[Need]) -> bool
     ensures { result ≡ list_all (λ need. is_some (basis_of (S.pod state.now) agent.now need))
         needs.now }
@@ -33,7 +34,7 @@ fn are_granted<S: PodState>(state: &S, agent: &Agent, needs: &[Need]) -> bool
     needs.iter().all(|need| is_granted(state, agent, need))
 }
 
-/// The decision on access without its bases.
+/// The rank of access for a request that only reads: the decision without its bases.
 fn admit_reader<S: PodState>(
     alloc: Global,
     state: &S,
@@ -50,15 +51,15 @@ fn admit_reader<S: PodState>(
     }
 }
 
-/// Whether a request with this method makes no entry.
+/// Whether a request with this method makes no entry, so that its access needs no bases.
 fn is_reading(method: Method) -> bool
     ensures { result ≡ reads method }
 {
     matches!(method, Method::Get | Method::Head | Method::Options)
 }
 
-/// 401 or 403 `access`, unless all that a request of this shape needs is granted; else the bases, in
-/// the order of the needs, which only a change has.
+/// The rank of access: 401 or 403 `access`, unless all that a request of this shape needs is
+/// granted; else the bases, in the order of the needs, which only a change has.
 pub(crate) fn grant<S: PodState>(context: &Context<'_, S>, shape: &Shape) -> Rank<List<Basis>>
     ensures { Tells result (IsGrant (reads context.now.request.method)
         (spec.access_of context.now.pod context.now.origin.agent shape.now)) }

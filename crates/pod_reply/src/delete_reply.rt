@@ -5,8 +5,8 @@ ghost use Rattle.pod_reply.specs.DeleteReplies as spec;
 ghost use Rattle.pod_reply.specs.Ranks.{Ends};
 
 use crate::context::Context;
-use crate::obstacles::{find_row, refuse_condition, refuse_room};
-use crate::replied::{Replied, change_reply};
+use crate::response_and_entry::{Replied, change_reply};
+use crate::shared_refusals::{find_row, refuse_condition, refuse_room};
 use crate::stop::{Rank, refuse_if};
 use pod_base::{List, Mem, Moment};
 use pod_command::{Basis, Edit};
@@ -16,7 +16,7 @@ use pod_responses::changed;
 use pod_rows::PodState;
 use std::alloc::Global;
 
-/// The edits of a DELETE of a path.
+/// The edits in the reply to a DELETE of a path.
 fn delete_edits<S: PodState>(
     alloc: Global,
     state: &S,

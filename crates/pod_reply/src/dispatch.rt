@@ -13,17 +13,17 @@ ghost use Rattle.token_table.specs.Credentials.{asked_view};
 use crate::access_rank::grant;
 use crate::context::Context;
 use crate::delete_reply::delete;
-use crate::origin::Origin;
+use crate::origin::{Origin, origin_of};
 use crate::patch_reply::patch;
 use crate::post_reply::{candidate_base, content_of, post};
 use crate::put_reply::put;
 use crate::read_reply::read;
-use crate::replied::{Replied, sent_to, unchanged};
-use crate::shape::{place_of, shape_of};
+use crate::request_shape::{place_of, shape_of};
+use crate::response_and_entry::{Replied, sent_to, unchanged};
 use crate::stop::{Rank, Stop};
 use conditional_req::read_conditions;
 use iri_ref::Iri;
-use pod_base::{Agent, List, Mem, Method, NoMemory, Request, Stamp};
+use pod_base::{List, Mem, Method, NoMemory, Request, Stamp};
 use pod_command::Basis;
 use pod_edits::Place;
 use pod_path::Path;
@@ -34,7 +34,7 @@ use request_target::{Target, admit};
 use std::alloc::Global;
 use token_table::Asked;
 
-/// The reply to a granted request, by its method.
+/// Dispatches a granted request to the reply of its method.
 fn reply_by_method<S: PodState>(
     context: &Context<'_, S>,
     place: Option<Place>,
@@ -60,7 +60,8 @@ fn reply_by_method<S: PodState>(
     }
 }
 
-/// The reply to a request with this body: the refusal of its access, or what follows by its method.
+/// Dispatches a request whose body was read: the refusal of its access, or what follows by its
+/// method.
 fn reply_with_body<S: PodState>(
     context: &Context<'_, S>,
     base: &Iri,
@@ -78,7 +79,7 @@ fn reply_with_body<S: PodState>(
     reply_by_method(context, place, bases, base, body)
 }
 
-/// What relative references of a body are resolved against.
+/// The URI by which the body of a request is read before it is dispatched to its method.
 fn body_base<S: PodState>(context: &Context<'_, S>) -> Mem<Iri>
     requires { is_allowed context.now.path context.now.request.method ≡ true }
     ensures { IfOk result (λ base. base ≡ spec.body_base context.now.request.method
@@ -90,8 +91,8 @@ fn body_base<S: PodState>(context: &Context<'_, S>) -> Mem<Iri>
     }
 }
 
-/// The reply to a request to a path, of which the row is found here: the refusal of its body, or
-/// what follows of it.
+/// Dispatches a request to a path, once its method is allowed: the refusal of its body, or what
+/// follows of it. The row of the path is found here.
 fn reply_at<S: PodState>(
     alloc: Global,
     state: &S,
@@ -123,18 +124,7 @@ fn reply_at<S: PodState>(
     }
 }
 
-/// Where a request comes from.
-fn origin_of(alloc: Global, asked: &Asked<'_>, seq: u64, stamp: Stamp) -> Mem<Origin>
-    ensures { IfOk result (λ origin. origin ≡ spec.origin_of (asked_view asked.now) seq stamp) }
-{
-    let agent = match asked {
-        Asked::Known(agent) => Agent::Known(agent.copy(alloc)?),
-        _ => Agent::Public,
-    };
-    Ok(Origin { seq, stamp, agent })
-}
-
-/// The reply to a request: the refusal of its target, token or method, or what follows.
+/// Dispatches a request by its target, token and method: their refusal, or what follows.
 fn reply_admitted<S: PodState>(
     alloc: Global,
     state: &S,
@@ -152,7 +142,8 @@ fn reply_admitted<S: PodState>(
     }
 }
 
-/// The reply of a pod to a request. Its entry, where it has one, gets that number and that stamp.
+/// The reply of a pod to a request, dispatched by its method. Its entry, where it has one, gets
+/// that number and that stamp.
 pub fn reply<S: PodState>(
     alloc: Global,
     state: &S,

@@ -17,7 +17,7 @@ use pod_rows::PodState;
 use slug_naming::choose;
 use std::alloc::Global;
 
-/// 409 `no-name`, unless memory ran out.
+/// The refusal of a new member's name: 409 `no-name`, unless memory ran out.
 fn refuse_name(alloc: Global, fault: PathFault) -> Mem<Response>
     ensures response { IfOk result (λ response. response ≡ refusal 409 (codes "no-name")) }
     ensures fault { OnOk result (fault ≡ OutOfMemory → ⊥) }
@@ -28,9 +28,9 @@ fn refuse_name(alloc: Global, fault: PathFault) -> Mem<Response>
     }
 }
 
-/// The path of a new member of a container, which is itself a container with `folder`: that of the
-/// first free candidate by the value of a Slug field, or 409 `no-name` where this passes a limit of
-/// paths.
+/// The path that the reply to a POST gives to a new member of a container, which is itself a
+/// container with `folder`: that of the first free candidate by the value of a Slug field, or 409
+/// `no-name` where this passes a limit of paths.
 pub(crate) fn name_member<S: PodState>(
     alloc: Global,
     state: &S,

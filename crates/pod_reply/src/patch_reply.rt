@@ -8,9 +8,9 @@ ghost use Rattle.pod_reply.specs.Ranks.{Ends, Passes};
 ghost use Rattle.pod_reply.specs.Shapes.{IsPlaced};
 
 use crate::context::Context;
-use crate::obstacles::{refuse_condition, refuse_place};
 use crate::put_reply::make;
-use crate::replied::{Replied, change_reply};
+use crate::response_and_entry::{Replied, change_reply};
+use crate::shared_refusals::{refuse_condition, refuse_place};
 use crate::stop::{Rank, Stop, refuse_if};
 use patch_outcome::{PatchRefusal, outcome, update_outcome};
 use pod_base::{List, Mem};
@@ -23,7 +23,7 @@ use rdf_graph::{Change, Graph, changed as changed_graph};
 use request_body::RequestBody;
 use std::alloc::Global;
 
-/// Whether a row holds bytes.
+/// Whether the row that a PATCH changes holds bytes.
 fn holds_bytes(row: Option<&Row>) -> bool
     ensures { result ≡ spec.is_bytes_row (option_copied row.entry) }
 {
@@ -47,7 +47,7 @@ fn refuse_patch<S: PodState>(context: &Context<'_, S>, place: &Option<Place>) ->
     refuse_condition(context)
 }
 
-/// The graph that is patched; this empty one where there is no row or it holds bytes.
+/// The graph that a PATCH changes; this empty one where there is no row or it holds bytes.
 fn patched_graph<'a>(row: Option<&'a Row>, empty: &'a Graph) -> &'a Graph
     requires { empty.now ≡ [] }
     ensures { result.now ≡ spec.patched_triples (option_copied row.entry) }
@@ -78,7 +78,7 @@ fn apply(
     }
 }
 
-/// The triples of an outcome are graphs. It does nothing.
+/// The triples of the outcome of a PATCH are graphs. It does nothing.
 fn has_graphs(outcome: &Result<Change, PatchRefusal>)
     ensures { HasGraphs outcome.now }
 {
@@ -88,7 +88,7 @@ fn has_graphs(outcome: &Result<Change, PatchRefusal>)
     }
 }
 
-/// The graph after a change.
+/// The graph that a PATCH leaves, after its change.
 fn graph_after_change(alloc: Global, graph: &Graph, change: &Change) -> Mem<Graph>
     ensures { IfOk result (λ new. new ≡ spec.triples_after graph.now change.now) }
 {
@@ -99,7 +99,8 @@ fn graph_after_change(alloc: Global, graph: &Graph, change: &Change) -> Mem<Grap
     Ok(new)
 }
 
-/// 409 `owner`, where the graph of the path after a change takes control from the owner.
+/// The refusal 409 `owner` of a PATCH, where the graph of the path after its change takes control
+/// from the owner.
 #[tactic(auto, unfolding(pod_edits::specs::Refusals::breaks_guard))]
 fn refuse_guard<S: PodState>(context: &Context<'_, S>, change: &Change) -> Rank<()>
     ensures { Passes result (spec.guard_refusal context.now.pod context.now.path change.now)
@@ -115,8 +116,8 @@ fn refuse_guard<S: PodState>(context: &Context<'_, S>, change: &Change) -> Rank<
     refuse_if(context.alloc, breaks, 409, b"owner")
 }
 
-/// What follows of the outcome of a patch: its refusal, 409 `owner`, or the success: a row is
-/// changed, or a new one is made.
+/// The reply to a PATCH by the outcome of its patch: its refusal, 409 `owner`, or the success: a
+/// row is changed, or a new one is made.
 fn reply_by<S: PodState>(
     context: &Context<'_, S>,
     place: Option<Place>,

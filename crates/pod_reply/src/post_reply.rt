@@ -18,9 +18,9 @@ ghost use Rattle.slug_naming.specs.Stems.{stem_of};
 
 use crate::context::Context;
 use crate::member_names::name_member;
-use crate::obstacles::{find_row, refuse_condition, refuse_containment, refuse_room};
 use crate::put_reply::{row_of, triples_in};
-use crate::replied::{Replied, change_reply};
+use crate::response_and_entry::{Replied, change_reply};
+use crate::shared_refusals::{find_row, refuse_condition, refuse_containment, refuse_room};
 use crate::stop::{Rank, Stop};
 use iri_ref::Iri;
 use pod_base::{List, Mem};
@@ -34,14 +34,14 @@ use request_fields::{links_to_container, slug};
 use slug_naming::stem;
 use std::alloc::Global;
 
-/// What follows the name of a member: a slash, where it is a container.
+/// What follows the name of the member that a POST makes: a slash, where it is a container.
 fn member_end(folder: bool) -> &'static str
     ensures { result.now ≡ (if folder then slash ∷ [] else []) }
 {
     if folder { "/" } else { "" }
 }
 
-/// The path of the first candidate for a member, whatever its length.
+/// The path of the first candidate for the member that a POST makes, whatever its length.
 fn candidate(alloc: Global, container: &Path, slug: Option<&[u8]>, folder: bool) -> Mem<Path>
     requires { is_container container.now ≡ true }
     ensures { IfOk result (λ path. path
@@ -57,7 +57,8 @@ fn candidate(alloc: Global, container: &Path, slug: Option<&[u8]>, folder: bool)
     }
 }
 
-/// The URI of the first candidate for a member, by which the form of a body is judged.
+/// The URI of the first candidate for the member that a POST makes, by which the form of a body is
+/// judged.
 pub(crate) fn candidate_base<S: PodState>(context: &Context<'_, S>) -> Mem<Iri>
     requires { is_container context.now.path ≡ true }
     ensures { IfOk result (λ base. base ≡ spec.candidate_base context.now.pod context.now.request
@@ -69,7 +70,7 @@ pub(crate) fn candidate_base<S: PodState>(context: &Context<'_, S>) -> Mem<Iri>
     path.uri(context.alloc, context.state.base())
 }
 
-/// The content of a body that has one.
+/// The content of the body of a POST or PUT.
 pub(crate) fn content_of(body: RequestBody) -> Content
     requires { spec.IsContentBody body }
     ensures { body ≡ bodies.Content result }
@@ -80,8 +81,8 @@ pub(crate) fn content_of(body: RequestBody) -> Content
     }
 }
 
-/// The body by the URI of the member. It is read again where that isn't the URI which it was read
-/// by.
+/// The body of a POST by the URI of the member. It is read again where that isn't the URI which it
+/// was read by.
 fn read_member<S: PodState>(
     context: &Context<'_, S>,
     member: &Path,
@@ -99,7 +100,8 @@ fn read_member<S: PodState>(
     read_body(context.alloc, &base, context.path, context.request)
 }
 
-/// 409 `contains` by the content under the member's own name, or the success: the member is made.
+/// The reply to a POST whose member has its name: 409 `contains` by the content under that name, or
+/// the success: the member is made.
 fn make_member<S: PodState>(
     context: &Context<'_, S>,
     bases: List<Basis>,
@@ -118,8 +120,8 @@ fn make_member<S: PodState>(
     change_reply(context, response, edits, bases)
 }
 
-/// 413 `entry-size` where the content is too large under the member's own name, or what follows of
-/// it. It was read by the first URI.
+/// The reply to a POST by its content under the member's own name: 413 `entry-size` where this is
+/// too large, or what follows of it. It was read by the first URI.
 fn post_read<S: PodState>(
     context: &Context<'_, S>,
     bases: List<Basis>,
@@ -140,7 +142,7 @@ fn post_read<S: PodState>(
     }
 }
 
-/// The refusals of a member: 507 `rows`, 412 `condition`, 409 `contains`.
+/// The refusals of the member that a POST makes: 507 `rows`, 412 `condition`, 409 `contains`.
 #[tactic(auto, unfolding(crate::specs::PostReplies::member_refusal))]
 fn refuse_member<S: PodState>(
     context: &Context<'_, S>,
@@ -155,7 +157,7 @@ fn refuse_member<S: PodState>(
     refuse_containment(context.alloc, member, triples_in(content))
 }
 
-/// 409 `no-name`, or the path of the member.
+/// The path at which the reply to a POST makes its member, or the refusal 409 `no-name`.
 fn find_name<S: PodState>(context: &Context<'_, S>) -> Rank<Path>
     requires { is_container context.now.path ≡ true }
     ensures { Tells result (IsNamed context.now.pod context.now.path

@@ -8,8 +8,8 @@ ghost use Rattle.pod_rows.specs.Pod.{is_row};
 ghost use Rattle.pod_rows.specs.View.{triples_in};
 
 use crate::context::Context;
-use crate::obstacles::{refuse_condition, refuse_content, refuse_place};
-use crate::replied::{Replied, change_reply};
+use crate::response_and_entry::{Replied, change_reply};
+use crate::shared_refusals::{refuse_condition, refuse_content, refuse_place};
 use crate::stop::Rank;
 use pod_base::{List, Mem, Moment, Response};
 use pod_command::{Basis, Content, Edit, Row};
@@ -20,7 +20,7 @@ use pod_rows::PodState;
 use rdf_graph::Triple;
 use std::alloc::Global;
 
-/// The row at a path with this content.
+/// The row that a PUT or POST makes at a path with this content.
 pub(crate) fn row_of(alloc: Global, path: &Path, content: Content, modified: Moment) -> Mem<Row>
     ensures { IfOk result (λ row. row ≡ spec.row_of path.now content modified) }
 {
@@ -34,7 +34,7 @@ pub(crate) fn row_of(alloc: Global, path: &Path, content: Content, modified: Mom
     })
 }
 
-/// The triples of a content; none of bytes.
+/// The triples of the content of a PUT or POST; none of bytes.
 pub(crate) fn triples_in(content: &Content) -> &[Triple]
     ensures { result.now ≡ triples_in content.now }
 {
@@ -44,7 +44,7 @@ pub(crate) fn triples_in(content: &Content) -> &[Triple]
     }
 }
 
-/// 201 for a new row, 204 for one that existed.
+/// The response to a PUT: 201 for a new row, 204 for one that existed.
 fn made_response<S: PodState>(context: &Context<'_, S>, place: &Option<Place>) -> Mem<Response>
     requires { IsPlaced context.now.pod.rows context.now.path place.now }
     ensures { IfOk result (λ response. response ≡ spec.made_response context.now.pod
@@ -57,7 +57,7 @@ fn made_response<S: PodState>(context: &Context<'_, S>, place: &Option<Place>) -
     }
 }
 
-/// The edits that make a row at its place, or replace the one at its path.
+/// The edits in the reply to a PUT, which make a row at its place, or replace the one at its path.
 fn making_edits<S: PodState>(
     alloc: Global,
     state: &S,
@@ -78,7 +78,7 @@ fn making_edits<S: PodState>(
     }
 }
 
-/// The success: a row is made, or replaces the one at its path.
+/// The success of a PUT: a row is made, or replaces the one at its path.
 pub(crate) fn make<S: PodState>(
     context: &Context<'_, S>,
     place: Option<Place>,

@@ -7,8 +7,8 @@ ghost use Rattle.pod_reply.specs.Replies.{unchanged};
 ghost use Rattle.pod_representations.specs.Offers.{chosen};
 
 use crate::context::Context;
-use crate::obstacles::find_row;
-use crate::replied::{Replied, unchanged};
+use crate::response_and_entry::{Replied, unchanged};
+use crate::shared_refusals::find_row;
 use crate::stop::{Rank, Stop};
 use conditional_req::Verdict;
 use pod_access::allow_field;
@@ -18,8 +18,8 @@ use pod_responses::{accept_of, not_modified, refusal, upgraded};
 use pod_rows::PodState;
 use request_fields::upgrade_key;
 
-/// 406 `accept`, or, of the offer that the request chooses, 304, 412 `condition` or the
-/// representation by the verdict on the preconditions.
+/// The reply to a GET or HEAD of a row: 406 `accept`, or, of the offer that the request chooses,
+/// 304, 412 `condition` or the representation by the verdict on the preconditions.
 fn read_chosen<S: PodState>(context: &Context<'_, S>, row: &Row) -> Rank<Replied>
     ensures { Ends result (λ reply. reply ≡ unchanged (spec.chosen_read context.now.pod
         context.now.request context.now.path context.now.origin.agent row.now

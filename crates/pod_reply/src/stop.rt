@@ -23,12 +23,13 @@ pub type Rank<T> = Result<T, Stop>;
 impl From<NoMemory> for Stop {
     ghost from_gives = { λ _ stop. stop ≡ stops.NoMemory };
 
+    /// Stops a request where memory ran out.
     fn from(_error: NoMemory) -> Stop {
         Stop::NoMemory
     }
 }
 
-/// Stops with the refusal, where the test holds.
+/// Stops a request with the refusal, where the test holds.
 pub(crate) fn refuse_if(alloc: Global, holds: bool, status: u16, word: &[u8]) -> Rank<()>
     ensures { Passes result (spec.refuse_if holds (responses.refusal status word.now)) (λ _. ⊤) }
 {

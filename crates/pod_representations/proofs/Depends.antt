@@ -17,8 +17,8 @@ use Rattle.pod_representations.specs.Laws.{AgreeAt}
 use Rattle.pod_representations.specs.Offers.{offers, offers_of}
 use Rattle.pod_representations.specs.Preconditions.{change_verdict, offered_tags, offered_validators}
 use Rattle.pod_representations.specs.Representations.{graph_shown, represented, content_as, graph_as, bytes_as, graph_tag, bytes_tag}
-use Rattle.pod_representations.specs.declared.media.Media.{Media}
-use Rattle.pod_representations.specs.declared.media.Media.TheVariants.{Turtle, JsonLd, Stored}
+use Rattle.pod_representations.specs.declared.row_offers.Media.{Media}
+use Rattle.pod_representations.specs.declared.row_offers.Media.TheVariants.{Turtle, JsonLd, Stored}
 use Rattle.pod_representations.specs.declared.representation.Shown.{Shown}
 
 -- the graph of a container, and of another row

@@ -9,7 +9,7 @@ use Rattle.pod_rows.specs.Tree.{children_of}
 use Rattle.pod_rows.specs.WellFormed.{is_container_kind}
 use Rattle.pod_representations.specs.Preconditions.{change_verdict}
 use Rattle.pod_representations.specs.Representations.{represented}
-use Rattle.pod_representations.specs.declared.media.Media.{Media}
+use Rattle.pod_representations.specs.declared.row_offers.Media.{Media}
 
 -- Two pods have the same base, the same row at a path and the same children there.
 pub record AgreeAt (p q : Pod) (path : List ℕ) : Type 0 where

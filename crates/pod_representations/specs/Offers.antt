@@ -8,8 +8,8 @@ use Rattle.pod_base.specs.declared.field.Field.{Field}
 use Rattle.pod_command.specs.declared.row.Content.{Content}
 use Rattle.pod_command.specs.declared.row.Content.TheVariants as contents
 use Rattle.pod_command.specs.declared.row.Row.{Row}
-use Rattle.pod_representations.specs.declared.media.Media.{Media}
-use Rattle.pod_representations.specs.declared.media.Media.TheVariants.{Turtle, JsonLd, Stored}
+use Rattle.pod_representations.specs.declared.row_offers.Media.{Media}
+use Rattle.pod_representations.specs.declared.row_offers.Media.TheVariants.{Turtle, JsonLd, Stored}
 
 abbrev pub turtle_type : List ℕ
 turtle_type = codes "text/turtle"

@@ -4,7 +4,7 @@
 use Rattle.std.specs.Prelude.{List, [], ◌∷◌, Option, Some, map}
 use Rattle.std.specs.Option.{option_map}
 use Rattle.conditional_req.specs.Verdicts.{Validators, validators, verdict}
-use Rattle.conditional_req.specs.declared.preconditions.Verdict.{Verdict}
+use Rattle.conditional_req.specs.declared.precondition_verdict.Verdict.{Verdict}
 use Rattle.conditional_req.specs.declared.tag.Tag.{Tag}
 use Rattle.pod_base.specs.declared.field.Field.{Field}
 use Rattle.pod_base.specs.declared.method.Method.{Method}

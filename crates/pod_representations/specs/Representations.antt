@@ -15,8 +15,8 @@ use Rattle.pod_rows.specs.WellFormed.{is_container_kind}
 use Rattle.rdf_graph.specs.Graph.{graph_text}
 use Rattle.rdf_graph.specs.declared.triple.Triple.{Triple}
 use Rattle.pod_representations.specs.Offers.{turtle_type, json_ld_type}
-use Rattle.pod_representations.specs.declared.media.Media.{Media}
-use Rattle.pod_representations.specs.declared.media.Media.TheVariants.{Turtle, JsonLd, Stored}
+use Rattle.pod_representations.specs.declared.row_offers.Media.{Media}
+use Rattle.pod_representations.specs.declared.row_offers.Media.TheVariants.{Turtle, JsonLd, Stored}
 use Rattle.pod_representations.specs.declared.representation.Shown.{Shown}
 
 -- the graph that a row shows: the view of a container, and the own triples of every other row

@@ -4,7 +4,8 @@
 ghost use Rattle.pod_representations.specs.Laws.{JudgeAlike, JudgeUnread, ShowsAlike};
 ghost use Rattle.pod_representations.specs.Laws.{ShowsRowAlone};
 
-/// Which part of a pod is shown at a row: the row, and for a container its row and its children.
+/// The part of a pod on which a representation depends: the row, and for a container its row and
+/// its children.
 pub fn shown_law()
     ensures row { ShowsRowAlone }
     ensures alike { ShowsAlike }

@@ -23,13 +23,13 @@
 #![tactic(auto)]
 
 pub mod laws;
-mod media;
-mod preconditions;
-mod read_response;
 mod representation;
+mod row_offers;
+mod row_preconditions;
 mod selected_parts;
+mod whole_or_parts_response;
 
-pub use media::{Media, chosen, offers};
-pub use preconditions::{change_verdict, read_verdict};
-pub use read_response::show;
 pub use representation::{Shown, represent};
+pub use row_offers::{Media, chosen, offers};
+pub use row_preconditions::{change_verdict, read_verdict};
+pub use whole_or_parts_response::show;

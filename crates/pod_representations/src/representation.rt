@@ -4,7 +4,7 @@ ghost use Rattle.std.specs.Prelude.{◌≡◌, IfOk, true, false};
 ghost use Rattle.pod_rows.specs.WellFormed.{is_container_kind};
 ghost use Rattle.pod_representations.specs.Representations as spec;
 
-use crate::media::Media;
+use crate::row_offers::Media;
 use conditional_req::{Tag, tag_of, tag_of_digest};
 use pod_base::{Bytes, Mem, Moment, Text};
 use pod_command::{Content, Kind, Row, StoredBytes};
@@ -27,7 +27,7 @@ pub struct Shown {
     pub ranges: bool,
 }
 
-/// Whether a row of that kind is a container.
+/// Whether a row of that kind is a container, whose representation is its view.
 pub(crate) fn is_container(kind: Kind) -> bool
     ensures { result ≡ is_container_kind kind }
 {
@@ -37,7 +37,7 @@ pub(crate) fn is_container(kind: Kind) -> bool
     }
 }
 
-/// The content type of a graph.
+/// The content type of a graph's representation.
 fn graph_type(media: Media) -> &'static str
     ensures { result.now ≡ spec.graph_type media }
 {
@@ -47,7 +47,7 @@ fn graph_type(media: Media) -> &'static str
     }
 }
 
-/// The mark of a graph's tag.
+/// The mark in the entity tag of a graph's representation.
 fn graph_mark(media: Media) -> u8
     ensures { result ≡ spec.graph_mark media }
 {
@@ -57,7 +57,7 @@ fn graph_mark(media: Media) -> u8
     }
 }
 
-/// The text of a graph.
+/// The body of a graph's representation: its text.
 #[tactic(auto, unfolding(crate::specs::Representations::graph_body))]
 fn graph_body(alloc: Global, graph: &Graph, media: Media) -> Mem<Bytes>
     ensures { IfOk result (λ body. body ≡ spec.graph_body media graph.now) }
@@ -68,7 +68,7 @@ fn graph_body(alloc: Global, graph: &Graph, media: Media) -> Mem<Bytes>
     }
 }
 
-/// The tag of a type, a body and a mark.
+/// The entity tag of a representation, by its type, its body and a mark.
 #[tactic(auto, unfolding(crate::specs::Representations::tag))]
 fn tag(ctype: &str, body: &[u8], mark: u8) -> Tag
     ensures { result ≡ spec.tag ctype.now body.now mark }
@@ -76,14 +76,14 @@ fn tag(ctype: &str, body: &[u8], mark: u8) -> Tag
     tag_of(ctype, body, mark)
 }
 
-/// The tag of a graph's text.
+/// The entity tag of a graph's representation with this text.
 fn body_tag(media: Media, body: &[u8]) -> Tag
     ensures { result ≡ spec.tag (spec.graph_type media) body.now (spec.graph_mark media) }
 {
     tag(graph_type(media), body, graph_mark(media))
 }
 
-/// The tag of a graph.
+/// The entity tag of a graph's representation in a type.
 pub(crate) fn graph_tag(alloc: Global, graph: &Graph, media: Media) -> Mem<Tag>
     ensures { IfOk result (λ tag. tag ≡ spec.graph_tag media graph.now) }
 {
@@ -91,7 +91,7 @@ pub(crate) fn graph_tag(alloc: Global, graph: &Graph, media: Media) -> Mem<Tag>
     Ok(body_tag(media, body.as_slice()))
 }
 
-/// The tag of stored bytes. Their digest is made once.
+/// The entity tag of the representation of stored bytes. Their digest is made once.
 #[tactic(auto, unfolding(crate::specs::Representations::tag))]
 pub(crate) fn bytes_tag(alloc: Global, ctype: &Text, bytes: &StoredBytes) -> Tag
     ensures { result ≡ spec.bytes_tag ctype.now bytes.now }
@@ -99,7 +99,7 @@ pub(crate) fn bytes_tag(alloc: Global, ctype: &Text, bytes: &StoredBytes) -> Tag
     tag_of_digest(&bytes.digest(alloc, ctype), b'b')
 }
 
-/// A graph in a type.
+/// The representation of a graph in a type.
 fn graph_as(alloc: Global, graph: &Graph, media: Media, modified: Moment) -> Mem<Shown>
     ensures { IfOk result (λ shown. shown ≡ spec.graph_as media graph.now modified) }
 {
@@ -115,7 +115,7 @@ fn graph_as(alloc: Global, graph: &Graph, media: Media, modified: Moment) -> Mem
     })
 }
 
-/// Bytes as they are stored.
+/// The representation of bytes as they are stored.
 fn bytes_as(alloc: Global, ctype: &Text, bytes: &StoredBytes, modified: Moment) -> Mem<Shown>
     ensures { IfOk result (λ shown. shown ≡ spec.bytes_as ctype.now bytes.now modified) }
 {

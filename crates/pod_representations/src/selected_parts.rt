@@ -12,7 +12,7 @@ use range_req::{Part, RangeSet, ranges};
 use request_fields::{allows_ranges, range};
 use std::alloc::Global;
 
-/// Whether parts may be requested: by a GET of bytes.
+/// Whether a request may select parts of a representation: a GET of bytes may.
 fn takes_ranges(method: Method, ranges: bool) -> bool
     ensures { result ≡ spec.takes_ranges method ranges }
 {
@@ -28,7 +28,7 @@ fn takes_ranges(method: Method, ranges: bool) -> bool
     }
 }
 
-/// What the Range field selects, where If-Range lets it apply.
+/// The parts that the Range field selects of a representation, where If-Range lets it apply.
 fn asked_by(alloc: Global, shown: &Shown, fields: &Fields) -> Mem<RangeSet>
     ensures set { IfOk result (λ set. sets.set_view set
         ≡ spec.asked_by shown.now fields.now (range fields.now)) }
@@ -47,7 +47,7 @@ fn asked_by(alloc: Global, shown: &Shown, fields: &Fields) -> Mem<RangeSet>
     }
 }
 
-/// The parts that a request selects. They are within the body.
+/// The parts that a request selects of a representation. They are within the body.
 #[tactic(auto, unfolding(crate::specs::ReadResponses::asked))]
 pub(crate) fn asked(alloc: Global, shown: &Shown, method: Method, fields: &Fields) -> Mem<RangeSet>
     ensures set { IfOk result (λ set. sets.set_view set
@@ -62,7 +62,7 @@ pub(crate) fn asked(alloc: Global, shown: &Shown, method: Method, fields: &Field
     }
 }
 
-/// The value of `Content-Range` of a part of a body of that size.
+/// The value of `Content-Range` for a selected part of a body of that size.
 #[tactic(auto, unfolding(crate::specs::ReadResponses::content_range))]
 pub(crate) fn content_range(alloc: Global, part: &Part, size: u64) -> Mem<Bytes>
     ensures { IfOk result (λ value. value ≡ spec.content_range part.now size) }
@@ -80,7 +80,7 @@ pub(crate) fn content_range(alloc: Global, part: &Part, size: u64) -> Mem<Bytes>
     value.freeze(alloc)
 }
 
-/// The type of a body of several parts.
+/// The content type of a body of several selected parts.
 #[tactic(auto, unfolding(crate::specs::ReadResponses::multipart_type))]
 pub(crate) fn multipart_type(alloc: Global, boundary: &[u8]) -> Mem<Bytes>
     ensures { IfOk result (λ ctype. ctype ≡ spec.multipart_type boundary.now) }

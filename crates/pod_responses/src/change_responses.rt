@@ -3,15 +3,15 @@
 ghost use Rattle.std.specs.Prelude.{◌≡◌, IfOk};
 ghost use Rattle.pod_responses.specs.Responses as spec;
 
-use crate::field::add_text;
-use crate::links::add_about_links;
+use crate::add_field::add_text;
+use crate::link_fields::add_about_links;
 use iri_ref::Iri;
 use pod_base::{Body, Fields, Mem, Response};
 use pod_path::Path;
 use std::alloc::Global;
 
-/// 201: a resource was made at the path, by a request to the target. `Location` is its URI, and the
-/// links are those of the target.
+/// The response 201 to a change: a resource was made at the path, by a request to the target.
+/// `Location` is its URI, and the links are those of the target.
 pub fn created(alloc: Global, base: &Iri, target: &Path, path: &Path) -> Mem<Response>
     ensures { IfOk result (λ response. response ≡ spec.created base.now target.now path.now) }
 {
@@ -26,7 +26,7 @@ pub fn created(alloc: Global, base: &Iri, target: &Path, path: &Path) -> Mem<Res
     })
 }
 
-/// 204: a resource was changed or deleted.
+/// The response 204 to a change: a resource was changed or deleted.
 pub fn changed(alloc: Global) -> Response
     ensures { result ≡ spec.changed }
 {

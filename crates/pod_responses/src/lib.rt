@@ -16,18 +16,20 @@
 //! base64 of the SHA-1 of the key and the standard's GUID.
 #![tactic(auto)]
 
-mod allow;
-mod capabilities;
+mod add_field;
+mod allow_and_accept;
 mod change_responses;
-mod field;
-mod links;
+mod link_fields;
+mod options_responses;
 mod read_responses;
-mod refusals;
+mod refusal_responses;
 mod websocket_accept;
 
-pub use allow::is_allowed;
-pub use capabilities::{options, options_of_server};
+pub use allow_and_accept::is_allowed;
 pub use change_responses::{changed, created};
+pub use options_responses::{options, options_of_server};
 pub use read_responses::{Representation, partial, shown, upgraded};
-pub use refusals::{not_allowed, not_modified, refusal, unauthorized, unsatisfiable, unsupported};
+pub use refusal_responses::{
+    not_allowed, not_modified, refusal, unauthorized, unsatisfiable, unsupported,
+};
 pub use websocket_accept::accept_of;

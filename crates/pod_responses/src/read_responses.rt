@@ -3,9 +3,9 @@
 ghost use Rattle.std.specs.Prelude.{◌≡◌, ◌++◌, ◌∷◌, [], IfOk, OnOk};
 ghost use Rattle.pod_responses.specs.Responses as spec;
 
-use crate::allow::{add_accept_patch, add_accept_post, add_accept_put, add_allow};
-use crate::field::{add, add_static, add_text};
-use crate::links::{add_about_links, add_type_links};
+use crate::add_field::{add, add_static, add_text};
+use crate::allow_and_accept::{add_accept_patch, add_accept_post, add_accept_put, add_allow};
+use crate::link_fields::{add_about_links, add_type_links};
 use conditional_req::Tag;
 use http_out::date_of;
 use iri_ref::Iri;
@@ -28,7 +28,7 @@ pub struct Representation {
     pub ranges: bool,
 }
 
-/// An entity tag in its quotes.
+/// The value of `ETag` in the response to a read: an entity tag in its quotes.
 #[tactic(auto, unfolding(crate::specs::Responses::quoted))]
 fn quoted(alloc: Global, tag: &Tag) -> Mem<Bytes>
     ensures { IfOk result (λ value. value ≡ spec.quoted tag.now.0) }
@@ -40,7 +40,7 @@ fn quoted(alloc: Global, tag: &Tag) -> Mem<Bytes>
     value.freeze(alloc)
 }
 
-/// Adds `ETag` and `Last-Modified`.
+/// Adds `ETag` and `Last-Modified` to the response to a read.
 #[tactic(auto, unfolding(crate::specs::Responses::validators))]
 pub(crate) fn add_validators(
     alloc: Global,
@@ -55,14 +55,14 @@ pub(crate) fn add_validators(
     add_text(alloc, fields, "Last-Modified", &date_of(modified))
 }
 
-/// Adds `Vary`.
+/// Adds `Vary` to the response to a read.
 pub(crate) fn add_vary(alloc: Global, fields: &mut Fields) -> Mem<()>
     ensures { OnOk result (fields.new ≡ fields.old ++ spec.vary ∷ []) }
 {
     add_static(alloc, fields, "Vary", "Accept, Authorization")
 }
 
-/// Adds `Content-Range`, where a range is given.
+/// Adds `Content-Range` to the response to a read, where a range is given.
 #[tactic(auto, unfolding(crate::specs::Responses::content_range))]
 fn add_content_range(alloc: Global, fields: &mut Fields, range: Option<Bytes>) -> Mem<()>
     ensures { OnOk result (fields.new ≡ fields.old ++ spec.content_range range) }
@@ -73,7 +73,7 @@ fn add_content_range(alloc: Global, fields: &mut Fields, range: Option<Bytes>) -
     }
 }
 
-/// Adds `Accept-Ranges`, where parts may be asked for.
+/// Adds `Accept-Ranges` to the response to a read, where parts may be requested.
 #[tactic(auto, unfolding(crate::specs::Responses::accept_ranges))]
 fn add_accept_ranges(alloc: Global, fields: &mut Fields, ranges: bool) -> Mem<()>
     ensures { OnOk result (fields.new ≡ fields.old ++ spec.accept_ranges ranges) }
@@ -85,8 +85,8 @@ fn add_accept_ranges(alloc: Global, fields: &mut Fields, ranges: bool) -> Mem<()
     }
 }
 
-/// Adds what is told of the resource itself: its types, where its access list and description
-/// stand, what is granted, and what it takes.
+/// Adds what the response to a read reports of the resource itself: its types, where its access
+/// list and description are, what is granted, and what it takes.
 #[tactic(auto, unfolding(crate::specs::Responses::resource_fields))]
 fn add_resource_fields(
     alloc: Global,
@@ -105,7 +105,8 @@ fn add_resource_fields(
     add_accept_patch(alloc, fields)
 }
 
-/// Adds what the resource takes, and how its representations are chosen.
+/// Adds what the response to a read reports of choices: what the resource takes, and how its
+/// representations are chosen.
 #[tactic(auto, unfolding(crate::specs::Responses::choices))]
 fn add_choices(alloc: Global, fields: &mut Fields, path: &Path, ranges: bool) -> Mem<()>
     ensures { OnOk result (fields.new ≡ fields.old ++ spec.choices path.now ranges) }
@@ -116,7 +117,7 @@ fn add_choices(alloc: Global, fields: &mut Fields, path: &Path, ranges: bool) ->
     add_accept_ranges(alloc, fields, ranges)
 }
 
-/// The fields of a representation.
+/// The fields of the response to a read that has a representation.
 fn shown_fields(
     alloc: Global,
     base: &Iri,
@@ -143,7 +144,7 @@ fn shown_fields(
     Ok(fields)
 }
 
-/// 200: the representation of the resource at the path, with this body.
+/// The response 200 to a read: the representation of the resource at the path, with this body.
 pub fn shown(
     alloc: Global,
     base: &Iri,
@@ -162,8 +163,8 @@ pub fn shown(
     })
 }
 
-/// 206: a part of the representation, with the value of `Content-Range`, or several in a body of
-/// several parts, without it (RFC 9110, section 15.3.7).
+/// The response 206 to a read: a part of the representation, with the value of `Content-Range`, or
+/// several in a body of several parts, without it (RFC 9110, section 15.3.7).
 pub fn partial(
     alloc: Global,
     base: &Iri,
@@ -183,7 +184,8 @@ pub fn partial(
     })
 }
 
-/// 101: the connection is a WebSocket from here on, with the value of `Sec-WebSocket-Accept`.
+/// The response 101 to a read: the connection is a WebSocket from here on, with the value of
+/// `Sec-WebSocket-Accept`.
 pub fn upgraded(alloc: Global, accept: Bytes) -> Mem<Response>
     ensures { IfOk result (λ response. response ≡ spec.upgraded accept) }
 {

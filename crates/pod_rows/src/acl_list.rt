@@ -22,7 +22,7 @@ pub(crate) struct AclList {
     pub rules: Rules,
 }
 
-/// The rules of an access list by its content: none where it holds bytes.
+/// The rules in an access list's content: none where it holds bytes.
 pub fn rules_in(alloc: Global, base: &Iri, content: &Content) -> Mem<Rules>
     ensures { IfOk result (λ rules. rules.list ≡ rules_in base.now content.now) }
 {
@@ -61,7 +61,7 @@ pub(crate) fn lists_of(alloc: Global, base: &Iri, rows: &[Row]) -> Mem<Vec<AclLi
     Ok(lists)
 }
 
-/// The list of a path.
+/// The access list of a path, among those of rows.
 pub(crate) fn list_at<'a>(lists: &'a [AclList], path: &[u8]) -> Option<&'a AclList>
     ensures { option_copied result ≡ find (is_list_of path.now) lists.entry.now }
 {
@@ -70,7 +70,7 @@ pub(crate) fn list_at<'a>(lists: &'a [AclList], path: &[u8]) -> Option<&'a AclLi
         .find(|list| list.at.as_str().as_bytes() == path)
 }
 
-/// The list of a text, where the text is a container.
+/// The access list of a container, where the text is one.
 fn container_list<'a>(lists: &'a [AclList], path: &[u8]) -> Option<&'a AclList>
     ensures { option_copied result ≡ container_list lists.entry.now path.now }
 {
@@ -81,7 +81,7 @@ fn container_list<'a>(lists: &'a [AclList], path: &[u8]) -> Option<&'a AclList>
     }
 }
 
-/// The list of the nearest ancestor that has one.
+/// The access list that a path inherits, that of the nearest ancestor that has one.
 pub(crate) fn inherited<'a>(lists: &'a [AclList], path: &[u8]) -> Option<&'a AclList>
     ensures { option_copied result ≡ first_list lists.entry.now (ancestors path.now) }
 {
@@ -96,7 +96,8 @@ pub(crate) fn inherited<'a>(lists: &'a [AclList], path: &[u8]) -> Option<&'a Acl
     None
 }
 
-/// What an access list or a description is about, and any other path itself.
+/// Where the access list of a path is looked up first: at what an access list or a description is
+/// about, and at any other path itself.
 pub fn about(path: &str) -> &str
     ensures { result.now ≡ about path.entry.now (subject_of path.entry.now) }
 {

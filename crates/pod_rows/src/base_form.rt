@@ -6,15 +6,15 @@ ghost use Rattle.pod_rows.specs.Base.{is_authority_byte};
 
 use crate::limits::BASE_BYTES_LIMIT;
 
-/// Whether the text is `http://` or `https://`, an authority and a slash, of at most
-/// [`BASE_BYTES_LIMIT`] bytes.
+/// Whether the text has the form of a pod's base, which is `http://` or `https://`, an authority
+/// and a slash, of at most [`BASE_BYTES_LIMIT`] bytes.
 pub fn is_base(base: &str) -> bool
     ensures { result ≡ is_base base.now }
 {
     base.len() <= BASE_BYTES_LIMIT && (is_base_of(base, "http://") || is_base_of(base, "https://"))
 }
 
-/// Whether the text is the scheme, an authority and a slash.
+/// Whether the text has the form of a base with this scheme, an authority and a slash.
 fn is_base_of(base: &str, scheme: &str) -> bool
     ensures { result ≡ is_base_of base.now scheme.now }
 {
@@ -24,7 +24,7 @@ fn is_base_of(base: &str, scheme: &str) -> bool
     }
 }
 
-/// Whether these are the bytes of an authority, at least one, and a slash.
+/// Whether these bytes of a base are an authority, at least one, and a slash.
 fn is_authority_and_slash(text: &[u8]) -> bool
     ensures { result ≡ is_authority_and_slash text.now }
 {
@@ -34,14 +34,14 @@ fn is_authority_and_slash(text: &[u8]) -> bool
     are_authority_bytes(&text[..text.len() - 1])
 }
 
-/// Whether an authority may have these bytes.
+/// Whether the authority of a base may have these bytes.
 fn are_authority_bytes(bytes: &[u8]) -> bool
     ensures { result ≡ list_all is_authority_byte bytes.now }
 {
     bytes.iter().all(|&byte| is_authority_byte(byte))
 }
 
-/// Whether an authority may have this byte.
+/// Whether the authority of a base may have this byte.
 fn is_authority_byte(byte: u8) -> bool
     ensures { result ≡ is_authority_byte byte }
 {

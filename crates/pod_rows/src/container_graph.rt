@@ -7,7 +7,7 @@ ghost use Rattle.pod_rows.specs.GraphSets.{graph_of};
 ghost use Rattle.pod_rows.specs.View.{own_triples, type_triples, view_of};
 ghost use Rattle.pod_rows.specs.ContainedTriples.{child_triples};
 
-use crate::state::PodState;
+use crate::state_trait::PodState;
 use crate::vocabulary::{LDP_BASIC_CONTAINER, LDP_CONTAINER, LDP_CONTAINS, LDP_RESOURCE};
 use iri_ref::Iri;
 use pod_base::{List, Mem, NoMemory};
@@ -17,8 +17,8 @@ use rdf_graph::vocabulary::RDF_TYPE;
 use rdf_graph::{Graph, Term, Triple, copy_iri};
 use std::alloc::Global;
 
-/// The view of a container (LDP 1.0, section 5.2): its own triples, its three types, and a triple
-/// for each child.
+/// The graph that a container shows, which is its view (LDP 1.0, section 5.2): its own triples, its
+/// three types, and a triple for each child.
 pub fn container_view<S: PodState>(alloc: Global, state: &S, path: &Path) -> Mem<Graph>
     ensures { IfOk result (λ view. view ≡ view_of (S.pod state.now) path.now) }
 {
@@ -30,7 +30,7 @@ pub fn container_view<S: PodState>(alloc: Global, state: &S, path: &Path) -> Mem
     Ok(graph_of(shown))
 }
 
-/// The graph of triples of RDF.
+/// The graph of a container's triples, which are triples of RDF.
 fn graph_of(triples: Vec<Triple>) -> Graph
     requires { All IsRdf triples.items }
     ensures { result ≡ graph_of triples.items }
@@ -40,7 +40,7 @@ fn graph_of(triples: Vec<Triple>) -> Graph
     graph
 }
 
-/// The own triples of a row: none where there is no row.
+/// The own triples of a container's row: none where there is no row.
 fn own_triples(alloc: Global, row: Option<&Row>) -> Mem<List<Triple>>
     ensures own { IfOk result (λ own. own.items ≡ own_triples (option_copied row.entry)) }
     ensures rdf { IfOk result (λ own. All IsRdf own.items) }
@@ -57,7 +57,7 @@ fn own_triples(alloc: Global, row: Option<&Row>) -> Mem<List<Triple>>
     }
 }
 
-/// The IRI of a constant.
+/// The IRI of a constant, for a container's triples.
 fn constant(alloc: Global, text: &str) -> Mem<Iri>
     ensures { IfOk result (λ iri. iri ≡ text.now) }
 {
@@ -67,7 +67,7 @@ fn constant(alloc: Global, text: &str) -> Mem<Iri>
     }
 }
 
-/// The triple of three IRIs.
+/// The triple of three IRIs, for a container's graph.
 fn iri_triple(alloc: Global, subject: &Iri, property: &Iri, object: Iri) -> Mem<Triple>
     ensures { IfOk result (λ t. t ≡ iri_triple subject.now property.now object) }
 {
@@ -80,7 +80,7 @@ fn iri_triple(alloc: Global, subject: &Iri, property: &Iri, object: Iri) -> Mem<
     })
 }
 
-/// The triples, and one that gives the container a type.
+/// A container's triples, and one that gives it a type.
 fn with_type(alloc: Global, triples: Vec<Triple>, uri: &Iri, class: &str) -> Mem<Vec<Triple>>
     ensures { IfOk result (λ all. all.items
         ≡ triples.items ++ iri_triple uri.now rdf_type class.now ∷ []) }
@@ -93,7 +93,7 @@ fn with_type(alloc: Global, triples: Vec<Triple>, uri: &Iri, class: &str) -> Mem
     Ok(all)
 }
 
-/// The triples, and the three types of a container.
+/// A container's triples, and its three types.
 fn with_types(alloc: Global, triples: Vec<Triple>, uri: &Iri) -> Mem<Vec<Triple>>
     ensures { IfOk result (λ all. all.items ≡ triples.items ++ type_triples uri.now) }
 {
@@ -103,7 +103,7 @@ fn with_types(alloc: Global, triples: Vec<Triple>, uri: &Iri) -> Mem<Vec<Triple>
     Ok(three)
 }
 
-/// The triples, and one for each child of the container with this URI.
+/// A container's triples, and one for each child of the container with this URI.
 fn with_children(
     alloc: Global,
     triples: Vec<Triple>,

@@ -13,7 +13,7 @@ use pod_path::Path;
 use rdf_graph::{Graph, copy_iri};
 use std::alloc::Global;
 
-/// The path that a text is.
+/// The path that a text is, for a row of the first pod.
 fn path_of(alloc: Global, text: &str) -> Mem<Path>
     ensures { IfOk result (λ path. path ≡ text.now) }
 {
@@ -23,7 +23,7 @@ fn path_of(alloc: Global, text: &str) -> Mem<Path>
     }
 }
 
-/// The root, a container without triples of its own.
+/// The root of the first pod, a container without triples of its own.
 fn root_row(alloc: Global, modified: Moment) -> Mem<Row>
     ensures { IfOk result (λ row. row ≡ root_row modified) }
 {
@@ -36,7 +36,7 @@ fn root_row(alloc: Global, modified: Moment) -> Mem<Row>
     })
 }
 
-/// The access list of the root.
+/// The access list of the first pod's root.
 fn list_row(alloc: Global, base: &Iri, owner: &Iri, modified: Moment) -> Mem<Row>
     ensures { IfOk result (λ row. row ≡ list_row base.now owner.now modified) }
 {
@@ -50,7 +50,7 @@ fn list_row(alloc: Global, base: &Iri, owner: &Iri, modified: Moment) -> Mem<Row
     })
 }
 
-/// The two rows, in the order of their paths.
+/// The two rows of the first pod, in the order of their paths.
 fn first_rows(alloc: Global, base: &Iri, owner: &Iri, modified: Moment) -> Mem<Vec<Row>>
     ensures { IfOk result (λ rows. rows.items ≡ (first_pod base.now owner.now modified).rows) }
 {

@@ -16,14 +16,14 @@ ghost use Rattle.pod_rows.specs.Tree.{ancestors, children_of};
 ghost use Rattle.pod_rows.specs.View.{shown_triples, view_of};
 ghost use Rattle.pod_rows.specs.WellFormed.{WellFormed};
 
-/// The ancestors of a path are those that are above it, parent by parent.
+/// The law that the ancestors of a path are those that are above it, parent by parent.
 pub fn ancestors_law()
     ensures { (path other : List ℕ) → IsPath path
         → Contains (ancestors path) other ↔ IsUnder path other }
 {}
 
-/// In a well-formed pod each row is at its path, which is normal, and every path has an access list
-/// in force.
+/// The law that in a well-formed pod each row is at its path, which is normal, and every path has
+/// an access list in force.
 pub fn rows_law()
     ensures rows { (pod : Pod) (row : Row) → WellFormed pod → Contains pod.rows row
         → row_at pod.rows row.path ≡ Some row }
@@ -33,7 +33,8 @@ pub fn rows_law()
         → IsSome (effective_of pod.rows path) }
 {}
 
-/// A child is a row whose parent is the container, and no access list and no description.
+/// The law that a child of a container is a row whose parent it is, and no access list and no
+/// description.
 pub fn children_law()
     ensures { (pod : Pod) (container child : List ℕ)
         → Contains (children_of pod.rows container) child
@@ -41,15 +42,15 @@ pub fn children_law()
         × IsTrue (is_row pod.rows child) }
 {}
 
-/// The view of a container has the triples that it shows and no others. The list of a set of
-/// triples of RDF is that of a graph.
+/// The law that the view of a container has the triples that it shows and no others. The list of a
+/// set of triples of RDF is that of a graph.
 pub fn views_law()
     ensures view { (pod : Pod) (container : List ℕ)
         → SameSet (view_of pod container) (shown_triples pod container) }
     ensures graph { (triples : List Triple) → All IsRdf triples → IsGraph (graph_of triples) }
 {}
 
-/// The pod after an entry that applies is well-formed.
+/// The law that the pod after an entry that applies is well-formed.
 pub fn entries_law()
     ensures { (pod : Pod) (next : ℕ) (entry : Entry) → Applies pod next entry
         → WellFormed (applied pod entry) }

@@ -27,29 +27,31 @@
 mod acl_list;
 mod base_form;
 mod container_graph;
-mod edits;
+mod entry_fitting;
 mod first_pod;
-mod fitting;
 pub mod laws;
 mod limits;
 mod owner_rule;
 mod plain_rows;
 mod root_guard;
 mod row_search;
-mod state;
+mod rows_after_edits;
+mod state_snapshot;
+mod state_trait;
 pub mod vocabulary;
 mod well_formed;
 
 pub use acl_list::{about, rules_in};
 pub use base_form::is_base;
 pub use container_graph::container_view;
-pub use edits::{changed_row, with_moment};
+pub use entry_fitting::fits;
 pub use first_pod::{first_pods_are_well_formed, first_snapshot};
-pub use fitting::{fits, snapshot};
 pub use limits::{BASE_BYTES_LIMIT, CONTENT_TYPE_BYTES_LIMIT, ROWS_LIMIT};
 pub use plain_rows::{PlainRows, StateFault, is_child_of, is_snapshot_well_formed, states_member};
 pub use root_guard::guards;
-pub use state::{Effective, PodState};
+pub use rows_after_edits::{changed_row, with_moment};
+pub use state_snapshot::snapshot;
+pub use state_trait::{Effective, PodState};
 pub use well_formed::{
     has_normal_path, has_right_kind, is_well_formed, lacks_containment, lacks_stored_containment,
 };

@@ -19,7 +19,7 @@ use std::alloc::Global;
 /// The name of the rule, after the URI of the root.
 const RULE_NAME: &str = ".acl#owner";
 
-/// The IRI that a text is.
+/// The IRI that a text is, for the owner's rule.
 fn iri_of(alloc: Global, text: &str) -> Mem<Iri>
     ensures { IfOk result (λ iri. iri ≡ text.now) }
 {
@@ -29,7 +29,7 @@ fn iri_of(alloc: Global, text: &str) -> Mem<Iri>
     }
 }
 
-/// The IRI of the rule.
+/// The IRI of the owner's rule.
 fn rule_of(alloc: Global, base: &Iri) -> Mem<Iri>
     ensures { IfOk result (λ iri. iri ≡ rule_iri base.now) }
 {
@@ -39,7 +39,7 @@ fn rule_of(alloc: Global, base: &Iri) -> Mem<Iri>
     }
 }
 
-/// The triple of a node, a property and a value.
+/// The triple of a node, a property and a value, for the owner's rule.
 fn statement(alloc: Global, node: &Iri, property: &str, value: &str) -> Mem<Triple>
     ensures { IfOk result (λ triple. triple ≡ statement (IriTerm node.now) property.now value.now) }
 {
@@ -53,7 +53,7 @@ fn statement(alloc: Global, node: &Iri, property: &str, value: &str) -> Mem<Trip
     })
 }
 
-/// Appends the triple of a node, a property and a value.
+/// Appends the triple of a node, a property and a value to the owner's rule.
 fn append(
     alloc: Global,
     triples: &mut Vec<Triple>,
@@ -69,7 +69,7 @@ fn append(
     Ok(())
 }
 
-/// What the rule is about, and whom it covers.
+/// The triples that say what the owner's rule is about, and whom it covers.
 fn subject_triples(alloc: Global, base: &Iri, owner: &Iri, rule: &Iri) -> Mem<Vec<Triple>>
     ensures { IfOk result (λ triples. triples.items ≡ subject_triples base.now owner.now rule.now) }
 {
@@ -81,7 +81,7 @@ fn subject_triples(alloc: Global, base: &Iri, owner: &Iri, rule: &Iri) -> Mem<Ve
     Ok(triples)
 }
 
-/// Appends the modes that the rule grants.
+/// Appends the modes that the owner's rule grants.
 fn append_modes(alloc: Global, triples: &mut Vec<Triple>, rule: &Iri) -> Mem<()>
     ensures { OnOk result (triples.new.items ≡ triples.old.items ++ mode_triples rule.now) }
 {
@@ -91,7 +91,7 @@ fn append_modes(alloc: Global, triples: &mut Vec<Triple>, rule: &Iri) -> Mem<()>
     Ok(())
 }
 
-/// The triples of the rule, in the order of graphs.
+/// The triples of the owner's rule, in the order of graphs.
 fn owner_triples(alloc: Global, base: &Iri, owner: &Iri) -> Mem<Vec<Triple>>
     ensures { IfOk result (λ triples. triples.items ≡ owner_triples base.now owner.now) }
 {
@@ -101,7 +101,7 @@ fn owner_triples(alloc: Global, base: &Iri, owner: &Iri) -> Mem<Vec<Triple>>
     Ok(triples)
 }
 
-/// The graph of the rule.
+/// The graph of the owner's rule.
 pub(crate) fn owner_graph(alloc: Global, base: &Iri, owner: &Iri) -> Mem<Graph>
     ensures { IfOk result (λ graph. graph ≡ owner_triples base.now owner.now) }
 {

@@ -9,9 +9,9 @@ ghost use Rattle.pod_rows.specs.Tree.{children_of, has_child, is_child_of};
 ghost use Rattle.pod_rows.specs.WellFormed.{WellFormed, IsWellFormedSnapshot, pod_of};
 
 use crate::acl_list::{AclList, about, inherited, list_at, lists_of};
-use crate::edits::{after_edits, copy_rows};
 use crate::row_search::row_in;
-use crate::state::{Effective, PodState};
+use crate::rows_after_edits::{after_edits, copy_rows};
+use crate::state_trait::{Effective, PodState};
 use crate::well_formed::is_well_formed;
 use acl_rules::vocabulary::VCARD_HAS_MEMBER;
 use acl_rules::{Groups, How};
@@ -73,7 +73,7 @@ impl Model for PlainRows {
 }
 
 impl PlainRows {
-    /// The state of a snapshot.
+    /// The plain rows of a snapshot, as a state.
     ///
     /// # Errors
     ///
@@ -95,7 +95,7 @@ impl PlainRows {
         Ok(state)
     }
 
-    /// The state with these rows.
+    /// The state with these plain rows.
     fn with_rows(alloc: Global, next: u64, base: Iri, owner: Text, rows: Vec<Row>) -> Mem<PlainRows>
         requires number { next ≤ 2 ^ 63 }
         requires well_formed { WellFormed
@@ -115,7 +115,7 @@ impl PlainRows {
     }
 }
 
-/// Whether the snapshot is well-formed.
+/// Whether the snapshot is well-formed, so that there are [`PlainRows`] of it.
 pub fn is_snapshot_well_formed(alloc: Global, snapshot: &Snapshot) -> Mem<bool>
     ensures sound { IfOk result (λ r. IsTrue r → IsWellFormedSnapshot snapshot.now) }
     ensures complete { IfOk result (λ r. IsWellFormedSnapshot snapshot.now → IsTrue r) }
@@ -131,7 +131,7 @@ pub fn is_snapshot_well_formed(alloc: Global, snapshot: &Snapshot) -> Mem<bool>
     )
 }
 
-/// Whether the row is a child of the container. It takes no memory.
+/// Whether a row, such as one of the plain rows, is a child of the container. It takes no memory.
 pub fn is_child_of(container: &Path, row: &Row) -> bool
     ensures { result ≡ is_child_of container.now row.now }
 {
@@ -141,7 +141,7 @@ pub fn is_child_of(container: &Path, row: &Row) -> bool
     parent_text(row.path.as_str()) == container.as_str()
 }
 
-/// The paths of a container's children among the rows, in their order.
+/// The paths of a container's children among plain rows, in their order.
 fn children_of(alloc: Global, rows: &[Row], container: &Path) -> Mem<Vec<Path>>
     ensures { IfOk result (λ paths. paths.items ≡ children_of rows.now container.now) }
 {
@@ -155,21 +155,21 @@ fn children_of(alloc: Global, rows: &[Row], container: &Path) -> Mem<Vec<Path>>
     Ok(paths)
 }
 
-/// Whether one of the rows is a child of the container.
+/// Whether one of the plain rows is a child of the container.
 fn has_child(rows: &[Row], container: &Path) -> bool
     ensures { result ≡ has_child rows.now container.now }
 {
     rows.iter().any(|row| is_child_of(container, row))
 }
 
-/// Whether the row's path begins with a text.
+/// Whether the path of a plain row begins with a text.
 fn begins_with(row: &Row, text: &str) -> bool
     ensures { result ≡ starts_with nat_eq row.now.path text.now }
 {
     row.path.as_str().as_bytes().starts_with(text.as_bytes())
 }
 
-/// The paths that begin with a text, in the order of the rows.
+/// The paths among plain rows that begin with a text, in their order.
 fn paths_below(alloc: Global, rows: &[Row], text: &str) -> Mem<Vec<Path>>
     ensures { IfOk result (λ paths. paths.items ≡ paths_below rows.now text.now) }
 {
@@ -183,7 +183,7 @@ fn paths_below(alloc: Global, rows: &[Row], text: &str) -> Mem<Vec<Path>>
     Ok(paths)
 }
 
-/// Whether a document of RDF states that the agent is a member of the group.
+/// Whether a row that is a document of RDF states that the agent is a member of the group.
 pub fn states_member(group: &str, agent: &str, row: &Row) -> bool
     ensures { result ≡ states_member group.now agent.now row.now.kind row.now.content }
 {

@@ -14,10 +14,10 @@ use acl_rules::vocabulary::{
 use rdf_graph::vocabulary::RDF_TYPE;
 use rdf_graph::{Term, Triple};
 
-/// Whether a node of type `acl:Authorization` gives the owner control of the root, whose URI is the
-/// base. Of triples in the order of their subjects, as those of a graph, it compares each with the
-/// next, and then looks at the triples of one subject at a time. Of others it looks at all triples
-/// for each such node.
+/// Whether triples pass the guard of the root's access list, by a node of type `acl:Authorization`
+/// that gives the owner control of the root, whose URI is the base. Of triples in the order of
+/// their subjects, as those of a graph, it compares each with the next, and then looks at the
+/// triples of one subject at a time. Of others it looks at all triples for each such node.
 pub fn guards(base: &str, owner: &str, triples: &[Triple]) -> bool
     ensures { result ≡ guards base.now owner.now triples.now }
 {
@@ -28,7 +28,7 @@ pub fn guards(base: &str, owner: &str, triples: &[Triple]) -> bool
     }
 }
 
-/// Whether the subject isn't after that of the next triple, if there is one.
+/// Whether the subject of a guard's triple isn't after that of the next, if there is one.
 fn is_by_next(triple: &Triple, more: &[Triple]) -> bool
     ensures { result ≡ is_by_next triple.now more.now }
 {
@@ -38,7 +38,7 @@ fn is_by_next(triple: &Triple, more: &[Triple]) -> bool
     }
 }
 
-/// Whether the triples are in the order of their subjects.
+/// Whether the triples for the guard are in the order of their subjects.
 fn are_by_subject(triples: &[Triple]) -> bool
     ensures { result ≡ are_by_subject triples.now }
 {
@@ -52,7 +52,7 @@ fn are_by_subject(triples: &[Triple]) -> bool
     true
 }
 
-/// The triples from the first that has another subject.
+/// The triples for the guard from the first that has another subject.
 fn after_subject<'a>(triples: &'a [Triple], node: &Term) -> &'a [Triple]
     ensures { result.now ≡ after_subject node.now triples.entry.now }
 {
@@ -66,7 +66,7 @@ fn after_subject<'a>(triples: &'a [Triple], node: &Term) -> &'a [Triple]
     rest
 }
 
-/// The triples before the first that has another subject, and those from it on.
+/// The triples for the guard before the first that has another subject, and those from it on.
 fn split_subject<'a>(triples: &'a [Triple], node: &Term) -> (&'a [Triple], &'a [Triple])
     ensures own { result.0.now ≡ of_subject node.now triples.entry.now }
     ensures more { result.1.now ≡ after_subject node.now triples.entry.now }
@@ -76,7 +76,7 @@ fn split_subject<'a>(triples: &'a [Triple], node: &Term) -> (&'a [Triple], &'a [
     (own, more)
 }
 
-/// [`guards`] of triples in the order of their subjects.
+/// Whether triples in the order of their subjects pass the guard.
 fn guards_by_subject(base: &str, owner: &str, triples: &[Triple]) -> bool
     requires { are_by_subject triples.now ≡ true }
     ensures { result ≡ guards base.now owner.now triples.now }
@@ -92,7 +92,7 @@ fn guards_by_subject(base: &str, owner: &str, triples: &[Triple]) -> bool
     false
 }
 
-/// [`guards`] of triples in any order.
+/// Whether triples in any order pass the guard.
 fn guards_anyhow(base: &str, owner: &str, triples: &[Triple]) -> bool
     ensures { result ≡ guards base.now owner.now triples.now }
 {
@@ -101,21 +101,22 @@ fn guards_anyhow(base: &str, owner: &str, triples: &[Triple]) -> bool
         .any(|triple| is_guard(base, owner, triples, triple))
 }
 
-/// Whether the triple gives its node the type of authorizations, and the node gives control.
+/// Whether the triple's node passes the guard, since the triple gives it the type of
+/// authorizations, and the node gives control.
 fn is_guard(base: &str, owner: &str, triples: &[Triple], triple: &Triple) -> bool
     ensures { result ≡ is_guard base.now owner.now triples.now triple.now }
 {
     is_rule_statement(triple) && gives_control(base, owner, triples, &triple.s)
 }
 
-/// Whether the triple says that its subject is an authorization.
+/// Whether the triple says that its subject is an authorization, which may pass the guard.
 fn is_rule_statement(triple: &Triple) -> bool
     ensures { result ≡ is_rule_statement triple.now }
 {
     is_iri(&triple.p, RDF_TYPE) && is_iri(&triple.o, ACL_AUTHORIZATION)
 }
 
-/// Whether the node gives the owner control of the root.
+/// Whether the node gives the owner control of the root, as the guard has to.
 fn gives_control(base: &str, owner: &str, triples: &[Triple], node: &Term) -> bool
     ensures { result ≡ gives_control base.now owner.now triples.now node.now }
 {
@@ -125,14 +126,14 @@ fn gives_control(base: &str, owner: &str, triples: &[Triple], node: &Term) -> bo
     are_all(about_root, control, to_owner)
 }
 
-/// Whether all three hold.
+/// Whether all three conditions of the guard hold.
 fn are_all(first: bool, second: bool, third: bool) -> bool
     ensures { result ≡ (first && (second && third)) }
 {
     first && second && third
 }
 
-/// Whether the triples give the node that IRI as a value of the property.
+/// Whether the triples for the guard give the node that IRI as a value of the property.
 fn has_value(triples: &[Triple], node: &Term, property: &str, iri: &str) -> bool
     ensures { result ≡ has_value triples.now node.now property.now iri.now }
 {
@@ -141,7 +142,7 @@ fn has_value(triples: &[Triple], node: &Term, property: &str, iri: &str) -> bool
         .any(|triple| is_statement(triple, node, property, iri))
 }
 
-/// Whether the triple is that of a node, a property and an IRI.
+/// Whether the triple for the guard is that of a node, a property and an IRI.
 fn is_statement(triple: &Triple, node: &Term, property: &str, iri: &str) -> bool
     ensures { result ≡ triple_eq triple.now (statement node.now property.now iri.now) }
 {

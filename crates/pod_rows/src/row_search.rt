@@ -8,7 +8,7 @@ use pod_command::Row;
 use pod_path::Path;
 use std::cmp::Ordering;
 
-/// How two texts, one after the other, compare with a text.
+/// How the path that is searched for, two texts one after the other, compares with a row's.
 fn compare_joined(first: &str, second: &str, text: &str) -> Ordering
     ensures { result ≡ bytes_cmp (first.now ++ second.now) text.now }
 {
@@ -18,7 +18,7 @@ fn compare_joined(first: &str, second: &str, text: &str) -> Ordering
     }
 }
 
-/// The row at the path that two texts give, one after the other. It halves what is left.
+/// Finds the row at the path that two texts give, one after the other. It halves what is left.
 pub(crate) fn row_joined<'a>(rows: &'a [Row], first: &str, second: &str) -> Option<&'a Row>
     requires { AreInOrder rows.now }
     ensures { option_copied result ≡ row_at rows.entry.now (first.now ++ second.now) }
@@ -34,7 +34,7 @@ pub(crate) fn row_joined<'a>(rows: &'a [Row], first: &str, second: &str) -> Opti
     }
 }
 
-/// The row at a path.
+/// Finds the row at a path, among rows in order.
 pub(crate) fn row_in<'a>(rows: &'a [Row], path: &str) -> Option<&'a Row>
     requires { AreInOrder rows.now }
     ensures { option_copied result ≡ row_at rows.entry.now path.now }
@@ -42,7 +42,7 @@ pub(crate) fn row_in<'a>(rows: &'a [Row], path: &str) -> Option<&'a Row>
     row_joined(rows, path, "")
 }
 
-/// Whether there is a row at a path.
+/// Whether a search finds a row at a path.
 pub(crate) fn is_row(rows: &[Row], path: &str) -> bool
     requires { AreInOrder rows.now }
     ensures { result ≡ is_row rows.now path.now }
@@ -50,7 +50,7 @@ pub(crate) fn is_row(rows: &[Row], path: &str) -> bool
     row_in(rows, path).is_some()
 }
 
-/// Whether there is a path, and a row at it.
+/// Whether there is a path, and a search finds a row at it.
 pub(crate) fn is_row_of(rows: &[Row], path: &Option<Path>) -> bool
     requires { AreInOrder rows.now }
     ensures { result ≡ is_row_of rows.now path.now }

@@ -33,7 +33,8 @@ use rdf_graph::Triple;
 use std::alloc::Global;
 use std::cmp::Ordering;
 
-/// Whether the path of the row is before that of the next, if there is one.
+/// Whether the path of the row is before that of the next, if there is one, as in a well-formed
+/// pod.
 fn is_before_next(row: &Row, more: &[Row]) -> bool
     ensures { result ≡ is_before_next row.now more.now }
 {
@@ -43,7 +44,7 @@ fn is_before_next(row: &Row, more: &[Row]) -> bool
     }
 }
 
-/// Whether rows are in byte order of their paths, each path once.
+/// Whether rows are in byte order of their paths, each path once, as in a well-formed pod.
 pub(crate) fn are_in_order(rows: &[Row]) -> bool
     ensures { result ≡ in_order rows.now }
 {
@@ -57,35 +58,36 @@ pub(crate) fn are_in_order(rows: &[Row]) -> bool
     true
 }
 
-/// Whether all paths are normal: within the limits of paths.
+/// Whether all paths are normal, as in a well-formed pod: within the limits of paths.
 pub(crate) fn have_normal_paths(rows: &[Row]) -> bool
     ensures { result ≡ list_all has_normal_path rows.now }
 {
     rows.iter().all(|row| has_normal_path(row))
 }
 
-/// Whether the row's path is normal: within the limits of paths.
+/// Whether the row's path is normal, as in a well-formed pod: within the limits of paths.
 pub fn has_normal_path(row: &Row) -> bool
     ensures { result ≡ has_normal_path row.now }
 {
     row.path.is_within_limits()
 }
 
-/// Whether each row has a kind of its path, and a content of its kind.
+/// Whether each row has a kind of its path and a content of its kind, as in a well-formed pod.
 pub(crate) fn have_right_kinds(rows: &[Row]) -> bool
     ensures { result ≡ list_all has_right_kind rows.now }
 {
     rows.iter().all(|row| has_right_kind(row))
 }
 
-/// Whether the row has a kind of its path, and a content of its kind.
+/// Whether the row has a kind of its path and a content of its kind, as in a well-formed pod.
 pub fn has_right_kind(row: &Row) -> bool
     ensures { result ≡ has_right_kind row.now }
 {
     fits_kind(&row.path, row.kind, &row.content)
 }
 
-/// Whether the end of the path allows the kind, and the kind the content.
+/// Whether the end of a row's path allows the kind, and the kind the content, as in a well-formed
+/// pod.
 fn fits_kind(path: &Path, kind: Kind, content: &Content) -> bool
     ensures { result ≡ fits_kind path.now kind content.now }
 {
@@ -98,14 +100,15 @@ fn fits_kind(path: &Path, kind: Kind, content: &Content) -> bool
     }
 }
 
-/// Whether the path is that of no container, access list or description.
+/// Whether the path of a row is that of no container, access list or description, so that its kind
+/// is a document's.
 fn is_document(path: &Path) -> bool
     ensures { result ≡ is_document path.now }
 {
     !(path.is_container() || path.is_acl() || path.is_meta())
 }
 
-/// Whether the content is a graph.
+/// Whether a row's content is a graph, which its kind may need in a well-formed pod.
 fn is_graph_content(content: &Content) -> bool
     ensures { result ≡ is_graph_content content.now }
 {
@@ -115,7 +118,8 @@ fn is_graph_content(content: &Content) -> bool
     }
 }
 
-/// Whether the content is bytes with a content type of the right form.
+/// Whether a row's content is bytes with a content type of the right form, which its kind may need
+/// in a well-formed pod.
 fn is_bytes_content(content: &Content) -> bool
     ensures { result ≡ is_bytes_content content.now }
 {
@@ -125,21 +129,23 @@ fn is_bytes_content(content: &Content) -> bool
     }
 }
 
-/// Whether the text has at most [`CONTENT_TYPE_BYTES_LIMIT`] bytes, each from space to `~`.
+/// Whether the text is a well-formed content type, of at most [`CONTENT_TYPE_BYTES_LIMIT`] bytes,
+/// each from space to `~`.
 fn is_content_type(ctype: &str) -> bool
     ensures { result ≡ is_content_type ctype.now }
 {
     ctype.len() <= CONTENT_TYPE_BYTES_LIMIT && are_printable(ctype.as_bytes())
 }
 
-/// Whether the bytes are from space to `~`.
+/// Whether the bytes of a content type are from space to `~`.
 fn are_printable(bytes: &[u8]) -> bool
     ensures { result ≡ list_all is_printable bytes.now }
 {
     bytes.iter().all(|&byte| b' ' <= byte && byte <= b'~')
 }
 
-/// Whether the root is a container, and its access list passes the guard.
+/// Whether the first rows are well-formed, so that the root is a container, and its access list
+/// passes the guard.
 #[tactic(auto, unfolding(crate::specs::WellFormed::has_first_rows))]
 pub(crate) fn has_first_rows(base: &Iri, owner: &Text, rows: &[Row]) -> bool
     requires { AreInOrder rows.now }
@@ -149,14 +155,14 @@ pub(crate) fn has_first_rows(base: &Iri, owner: &Text, rows: &[Row]) -> bool
     is_container_row(row_in(rows, "/")) && guards_row(base, owner, row_in(rows, "/.acl"))
 }
 
-/// Whether the kind is that of containers.
+/// Whether the kind is that of containers, as the root's is in a well-formed pod.
 fn is_container_kind(kind: Kind) -> bool
     ensures { result ≡ is_container_kind kind }
 {
     matches!(kind, Kind::Container)
 }
 
-/// Whether there is a row, and it is a container.
+/// Whether there is a row, and it is a container, as the root is in a well-formed pod.
 pub(crate) fn is_container_row(row: Option<&Row>) -> bool
     ensures { result ≡ is_container_row (option_copied row.entry) }
 {
@@ -166,7 +172,8 @@ pub(crate) fn is_container_row(row: Option<&Row>) -> bool
     }
 }
 
-/// Whether there is a row, and it passes the guard.
+/// Whether there is a row, and it passes the guard, as the root's access list does in a well-formed
+/// pod.
 pub(crate) fn guards_row(base: &Iri, owner: &Text, row: Option<&Row>) -> bool
     ensures { (rows : List RowValue) → result ≡ guards_row
         (record { base = base.now; owner = owner.now; rows = rows }) (option_copied row.entry) }
@@ -180,14 +187,15 @@ pub(crate) fn guards_row(base: &Iri, owner: &Text, row: Option<&Row>) -> bool
     }
 }
 
-/// Whether a path's parent is the known one, if one is known.
+/// Whether a row's parent is the one that is known to be a row, as in a well-formed pod.
 fn is_known_parent(known: &str, parent: &str) -> bool
     ensures { result ≡ (not (is_empty known.now) && bytes_eq known.now parent.now) }
 {
     !known.is_empty() && known == parent
 }
 
-/// Whether the row is the root, or its parent is a row. One that is known to be a row isn't sought.
+/// Whether the row is the root, or its parent is a row, as in a well-formed pod. One that is known
+/// to be a row isn't sought.
 #[tactic(auto, unfolding(crate::specs::WellFormed::has_parent))]
 fn has_parent(rows: &[Row], known: &str, row: &Row) -> bool
     requires order { AreInOrder rows.now }
@@ -204,8 +212,8 @@ fn has_parent(rows: &[Row], known: &str, row: &Row) -> bool
     is_row(rows, parent)
 }
 
-/// Whether the parent of each row but the root is a row. Rows of one container follow each other, so
-/// it is mostly the parent of the row before.
+/// Whether the parent of each row but the root is a row, as in a well-formed pod. Rows of one
+/// container follow each other, so it is mostly the parent of the row before.
 pub(crate) fn have_parents(rows: &[Row]) -> bool
     requires { AreInOrder rows.now }
     ensures { result ≡ list_all (has_parent rows.now) rows.now }
@@ -220,7 +228,7 @@ pub(crate) fn have_parents(rows: &[Row]) -> bool
     true
 }
 
-/// Whether the row's twin is no row.
+/// Whether the row's twin is no row, as in a well-formed pod.
 #[tactic(auto, unfolding(crate::specs::WellFormed::lacks_twin))]
 fn lacks_twin(alloc: Global, rows: &[Row], row: &Row) -> Mem<bool>
     requires { AreInOrder rows.now }
@@ -230,7 +238,7 @@ fn lacks_twin(alloc: Global, rows: &[Row], row: &Row) -> Mem<bool>
     Ok(!is_row_of(rows, &twin))
 }
 
-/// Whether the row is no container, or its twin is no row.
+/// Whether the row is no container, or its twin is no row, as in a well-formed pod.
 fn lacks_container_twin(alloc: Global, rows: &[Row], row: &Row) -> Mem<bool>
     requires { AreInOrder rows.now }
     ensures { IfOk result (λ r. r ≡ lacks_container_twin rows.now row.now) }
@@ -242,7 +250,7 @@ fn lacks_container_twin(alloc: Global, rows: &[Row], row: &Row) -> Mem<bool>
     }
 }
 
-/// Whether no container has a twin that is a row.
+/// Whether no container has a twin that is a row, as in a well-formed pod.
 fn containers_lack_twins(alloc: Global, rows: &[Row]) -> Mem<bool>
     requires { AreInOrder rows.now }
     ensures { IfOk result (λ r. r ≡ list_all (lacks_container_twin rows.now) rows.now) }
@@ -255,8 +263,8 @@ fn containers_lack_twins(alloc: Global, rows: &[Row]) -> Mem<bool>
     Ok(true)
 }
 
-/// Whether no row has a twin that is a row. Of two twins one is a container, so only containers are
-/// asked for theirs.
+/// Whether no row has a twin that is a row, as in a well-formed pod. Of two twins one is a
+/// container, so only containers are asked for theirs.
 pub(crate) fn lack_twins(alloc: Global, rows: &[Row]) -> Mem<bool>
     requires order { AreInOrder rows.now }
     requires paths { IsTrue (list_all has_normal_path rows.now) }
@@ -265,7 +273,7 @@ pub(crate) fn lack_twins(alloc: Global, rows: &[Row]) -> Mem<bool>
     containers_lack_twins(alloc, rows)
 }
 
-/// Whether the subject of each access list and each description is a row.
+/// Whether the subject of each access list and each description is a row, as in a well-formed pod.
 pub(crate) fn have_subjects(alloc: Global, rows: &[Row]) -> Mem<bool>
     requires { AreInOrder rows.now }
     ensures { IfOk result (λ r. r ≡ list_all (has_subject rows.now) rows.now) }
@@ -278,7 +286,8 @@ pub(crate) fn have_subjects(alloc: Global, rows: &[Row]) -> Mem<bool>
     Ok(true)
 }
 
-/// Whether the row is no access list and no description, or its subject is a row.
+/// Whether the row is no access list and no description, or its subject is a row, as in a
+/// well-formed pod.
 #[tactic(auto, unfolding(crate::specs::WellFormed::has_subject))]
 fn has_subject(alloc: Global, rows: &[Row], row: &Row) -> Mem<bool>
     requires { AreInOrder rows.now }
@@ -288,7 +297,7 @@ fn has_subject(alloc: Global, rows: &[Row], row: &Row) -> Mem<bool>
     Ok(is_subject_row(rows, &subject))
 }
 
-/// Whether there is no subject, or it is a row.
+/// Whether there is no subject, or it is a row, as in a well-formed pod.
 fn is_subject_row(rows: &[Row], subject: &Option<Path>) -> bool
     requires { AreInOrder rows.now }
     ensures { result ≡ is_subject_row rows.now subject.now }
@@ -299,21 +308,23 @@ fn is_subject_row(rows: &[Row], subject: &Option<Path>) -> bool
     }
 }
 
-/// Whether no container's own triples have the predicate `ldp:contains`.
+/// Whether no container's own triples have the predicate `ldp:contains`, as in a well-formed pod.
 pub(crate) fn lack_stored_containment(rows: &[Row]) -> bool
     ensures { result ≡ list_all lacks_stored_containment rows.now }
 {
     rows.iter().all(|row| lacks_stored_containment(row))
 }
 
-/// Whether the row is no container, or has no triple with the predicate `ldp:contains`.
+/// Whether the row is no container, or has no triple with the predicate `ldp:contains`, as in a
+/// well-formed pod.
 pub fn lacks_stored_containment(row: &Row) -> bool
     ensures { result ≡ lacks_stored_containment row.now }
 {
     !is_container_kind(row.kind) || lacks_contained(&row.content)
 }
 
-/// Whether the content has no triple with the predicate `ldp:contains`.
+/// Whether a row's content has no triple with the predicate `ldp:contains`, as a well-formed
+/// container's.
 fn lacks_contained(content: &Content) -> bool
     ensures { result ≡ lacks_contained content.now }
 {
@@ -323,7 +334,7 @@ fn lacks_contained(content: &Content) -> bool
     }
 }
 
-/// Whether no triple has the predicate `ldp:contains`.
+/// Whether no triple has the predicate `ldp:contains`, as in a well-formed container.
 #[tactic(auto, unfolding(crate::specs::Vocabulary::ldp_contains))]
 pub fn lacks_containment(triples: &[Triple]) -> bool
     ensures { result ≡ lacks_containment triples.now }
@@ -333,7 +344,7 @@ pub fn lacks_containment(triples: &[Triple]) -> bool
         .all(|triple| !is_iri(&triple.p, LDP_CONTAINS))
 }
 
-/// Whether each row is right by itself.
+/// Whether each row is well-formed by itself.
 #[tactic(auto, unfolding(crate::specs::WellFormedTests::are_rows_right))]
 fn are_rows_right(rows: &[Row]) -> bool
     ensures { result ≡ are_rows_right rows.now }
@@ -341,7 +352,8 @@ fn are_rows_right(rows: &[Row]) -> bool
     have_normal_paths(rows) && have_right_kinds(rows) && lack_stored_containment(rows)
 }
 
-/// Whether the rows that rows need are there, and no others.
+/// Whether the rows are well-formed together, so that those are there that others need, and no
+/// twins.
 #[tactic(auto, unfolding(crate::specs::WellFormedTests::are_rows_related))]
 fn are_rows_related(alloc: Global, rows: &[Row]) -> Mem<bool>
     requires order { AreInOrder rows.now }
@@ -351,7 +363,7 @@ fn are_rows_related(alloc: Global, rows: &[Row]) -> Mem<bool>
     Ok(have_parents(rows) && lack_twins(alloc, rows)? && have_subjects(alloc, rows)?)
 }
 
-/// Whether the number of rows, the base and the first rows are right.
+/// Whether a pod's number of rows, its base and its first rows are well-formed.
 #[tactic(auto, unfolding(crate::specs::WellFormedTests::is_pod_right))]
 fn is_pod_right(base: &Iri, owner: &Text, rows: &[Row]) -> bool
     requires { AreInOrder rows.now }

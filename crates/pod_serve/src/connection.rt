@@ -29,7 +29,7 @@ use std::sync::Wait;
 /// The most bytes that one read requests.
 const PIECE_LIMIT: usize = 16_384;
 
-/// The end where the input ended after so many bytes of an unfinished message.
+/// Ends the serving of a connection whose input ended after so many bytes of an unfinished message.
 fn at_end(rest: usize) -> RequestsEnd
     ensures { result ≡ (if rest == 0 then RequestsEnd.PeerEnded else RequestsEnd.CutShort rest) }
 {
@@ -40,7 +40,7 @@ fn at_end(rest: usize) -> RequestsEnd
     }
 }
 
-/// The end of a connection whose events ended so.
+/// Ends the serving of a connection whose events ended so.
 fn end_of_requests(end: TalkEnd) -> RequestsEnd
     ensures { result ≡ requests_end_of end }
 {
@@ -55,7 +55,7 @@ fn end_of_requests(end: TalkEnd) -> RequestsEnd
     }
 }
 
-/// The end of a connection whose last bytes weren't sent.
+/// Ends the serving of a connection whose last bytes weren't sent.
 fn unsent(end: TalkEnd) -> RequestsEnd
     ensures { result ≡ unsent_end end }
 {
@@ -65,7 +65,7 @@ fn unsent(end: TalkEnd) -> RequestsEnd
     }
 }
 
-/// Sends what waits after the last event, unless a write failed.
+/// Sends what waits after the last event of a served connection, unless a write failed.
 fn finish<'a, L: Link>(output: &mut LinkOutput<'a, L>, end: TalkEnd) -> RequestsEnd
     ensures same { output.old.link.ghost_name ≡ output.new.link.ghost_name }
     ensures taken { taken_with (drop output.new.from output.new.held.now.items) (L.sent
@@ -95,7 +95,7 @@ struct Reading {
     quiet: u64,
 }
 
-/// Answers a piece that was read, where nothing waits to be sent.
+/// Answers a piece that was read from a served connection, where nothing waits to be sent.
 fn take_piece<'a, A: Answers, L: Link, C: Clock>(
     alloc: Global,
     reading: &mut Reading,
@@ -140,7 +140,7 @@ fn take_piece<'a, A: Answers, L: Link, C: Clock>(
     }
 }
 
-/// Counts one more quiet time in a row.
+/// Counts one more quiet time in a row of a served connection.
 fn count_quiet(reading: &mut Reading) -> Option<RequestsEnd>
     requires { reading.old.quiet < QUIET_LIMIT }
     ensures parser { reading.new.parser ≡ reading.old.parser }
@@ -157,7 +157,7 @@ fn count_quiet(reading: &mut Reading) -> Option<RequestsEnd>
     }
 }
 
-/// Reads a piece and answers it, where nothing waits to be sent.
+/// Reads a piece from a served connection and answers it, where nothing waits to be sent.
 fn read_turn<'a, A: Answers, L: Link, C: Clock>(
     alloc: Global,
     reading: &mut Reading,
@@ -211,7 +211,8 @@ fn read_turn<'a, A: Answers, L: Link, C: Clock>(
     }
 }
 
-/// Sends what waits, reads a piece and answers it. Returns how the connection ended, where it did.
+/// Does one turn of a served connection: sends what waits, reads a piece and answers it. Returns
+/// how the connection ended, where it did.
 fn turn<'a, A: Answers, L: Link, C: Clock>(
     alloc: Global,
     reading: &mut Reading,
@@ -289,8 +290,8 @@ fn serve_link<'a, A: Answers, L: Link, C: Clock, R: Wait>(
     unreachable!()
 }
 
-/// Serves the requests of a link, as the connection of that number, and notes what the last one
-/// switched to.
+/// Serves the requests of a connection over a link, as the one of that number, and notes what the
+/// last one switched to.
 fn serve_requests<
     N: ViewName<CommittedEntry> + StoreName,
     L: Rounds<N>,
@@ -318,7 +319,7 @@ fn serve_requests<
     serve_link(rt, alloc, conn, &mut seated, agents, &mut output, clock)
 }
 
-/// How a connection ended whose requests did, without a switch of protocols.
+/// Ends a served connection whose requests ended, without a switch of protocols.
 fn plain_end(end: RequestsEnd) -> Option<ConnEnd>
     ensures some { IfSome result (λ told. requests_end told ≡ end) }
     ensures plain { IfSome result IsPlainEnd }

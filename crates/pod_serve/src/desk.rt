@@ -41,7 +41,7 @@ pub struct Post<G: Gate> {
 /// A session with the gate whose connections it serves.
 pub type Desk<G, N> = Seat<Post<G>, N>;
 
-/// Whether a connection has been out of memory, where the last one ended so.
+/// Whether a connection of a desk has been out of memory, where the last one ended so.
 fn has_starved(before: bool, end: ConnEnd) -> bool
     ensures none { result ≡ false → (before ≡ false) × (end ≢ ConnEnd.NoMemory) }
     ensures some { result ≡ true → (before ≡ true) ⊎ (end ≡ ConnEnd.NoMemory) }
@@ -69,7 +69,7 @@ enum Next {
     Over(DeskEnd),
 }
 
-/// Serves the next connection of a gate, as the one of that number.
+/// Serves the next connection of a desk's gate, as the one of that number.
 fn serve_next<N: ViewName<CommittedEntry> + StoreName, L: Rounds<N>, G: Gate, C: Clock, R: Wait>(
     rt: &R,
     alloc: Global,
@@ -100,7 +100,7 @@ fn serve_next<N: ViewName<CommittedEntry> + StoreName, L: Rounds<N>, G: Gate, C:
     }
 }
 
-/// Serves the connections of one gate, until it ends or fails.
+/// Serves the connections of a desk's gate, until it ends or fails.
 fn serve_gate<N: ViewName<CommittedEntry> + StoreName, L: Rounds<N>, G: Gate, C: Clock, R: Wait>(
     rt: &R,
     alloc: Global,

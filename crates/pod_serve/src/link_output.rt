@@ -17,7 +17,7 @@ struct Sent {
     whole: bool,
 }
 
-/// Sends a text from a position on.
+/// Sends a text to a link from a position on.
 fn send_from<L: Link>(link: &mut L, text: &[u8], from: usize) -> Sent
     ensures whole { result.whole ≡ true → drop result.at text.now ≡ [] }
     ensures taken { taken_with (drop result.at text.now) (L.sent link.new)
@@ -37,8 +37,8 @@ fn send_from<L: Link>(link: &mut L, text: &[u8], from: usize) -> Sent
     Sent { at, whole: true }
 }
 
-/// Appends a text to those that wait, where none of them was sent and there is room for it. It
-/// takes no memory.
+/// Appends a text to those that wait in a link's buffer, where none of them was sent and there is
+/// room for it. It takes no memory.
 fn hold(held: &mut Vec<u8>, from: usize, text: &[u8]) -> bool
     ensures whole { result ≡ true → from ≡ 0 }
     ensures held { result ≡ true → held.new.items ≡ held.old.items ++ text.now }
@@ -61,7 +61,7 @@ pub(crate) struct LinkOutput<'a, L> {
 }
 
 impl<'a, L: Link> LinkOutput<'a, L> {
-    /// That link, with that buffer, which it empties. Nothing waits.
+    /// The output to that link, with that buffer, which it empties. Nothing waits.
     pub(crate) fn new(link: &'a mut L, held: &'a mut Vec<u8>) -> LinkOutput<'a, L>
         ensures same { result.link.ghost_name ≡ link.entry.ghost_name }
         ensures link { result.link.now ≡ link.entry.now }
@@ -76,7 +76,7 @@ impl<'a, L: Link> LinkOutput<'a, L> {
         }
     }
 
-    /// Reads from the link. What waits stays.
+    /// Reads from the link of this output. What waits stays.
     pub(crate) fn receive(&mut self, into: &mut [u8]) -> Result<usize, LinkFailed>
         requires { 0 < length into.old }
         ensures same { self.old.link.ghost_name ≡ self.new.link.ghost_name }

@@ -15,7 +15,7 @@ use socket_wire::{SocketWire, Wires};
 use std::alloc::Global;
 use std::sync::Wait;
 
-/// Serves the feed of an upgrade, over a WebSocket on a link.
+/// Serves the notices of an upgrade, by a feed over a WebSocket on a link.
 fn serve_upgrade<N: ViewName<CommittedEntry> + StoreName, K: Link, R: Wait>(
     rt: &R,
     alloc: Global,
@@ -41,7 +41,8 @@ fn serve_upgrade<N: ViewName<CommittedEntry> + StoreName, K: Link, R: Wait>(
     )
 }
 
-/// Serves the feed of what was noted. Where nothing was, memory had run out.
+/// Serves the notices for the switch of protocols that was noted. Where nothing was, memory had run
+/// out.
 pub(crate) fn serve_notices<N: ViewName<CommittedEntry> + StoreName, K: Link, R: Wait>(
     rt: &R,
     alloc: Global,

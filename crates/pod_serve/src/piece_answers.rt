@@ -11,7 +11,7 @@ use http_conn::{Conn, REQUEST_LIMIT};
 use pod_io::Clock;
 use std::alloc::Global;
 
-/// Parses the next piece of a connection's bytes, and answers its events in order.
+/// Answers the next piece of a connection's bytes: parses it, and answers its events in order.
 ///
 /// # Errors
 ///

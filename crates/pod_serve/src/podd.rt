@@ -35,7 +35,7 @@ use std::sync::Wait;
 use std::thread::Threads;
 use token_table::Tokens;
 
-/// A list with room for that many items.
+/// A list with room for that many desks of `podd`.
 fn room_for<T: Drop>(alloc: Global, count: usize) -> Mem<List<T>>
     ensures items { IfOk result (λ list. list.items ≡ []) }
     ensures room { IfOk result (λ list. count ≤ list.room) }
@@ -45,7 +45,7 @@ fn room_for<T: Drop>(alloc: Global, count: usize) -> Mem<List<T>>
     Ok(list)
 }
 
-/// The gates in the opposite order.
+/// The gates of `podd` in the opposite order.
 fn turned<G>(gates: List<G>) -> List<G>
     ensures { result.items ≡ reverse gates.items }
 {
@@ -54,7 +54,8 @@ fn turned<G>(gates: List<G>) -> List<G>
     gates
 }
 
-/// Desks for these sessions and gates, in the order of the gates, in a list that has the room.
+/// Makes the desks of `podd` for these sessions and gates, in the order of the gates, in a list
+/// that has the room.
 fn make_desks<N: ViewName<CommittedEntry> + StoreName, G: Gate>(
     alloc: Global,
     sessions: List<Session<N>>,
@@ -81,7 +82,7 @@ fn make_desks<N: ViewName<CommittedEntry> + StoreName, G: Gate>(
     desks
 }
 
-/// Gives gates back, from the last to the first.
+/// Gives the gates of `podd` back to the listener, from the last to the first.
 fn close_gates<O: Listen>(listen: &mut O, gates: List<O::Gate>)
     requires room { length gates.items ≤ O.room listen.old }
     ensures back { GivesBack gates.items (listen_view_of O.back O.faults listen.old)
@@ -93,7 +94,7 @@ fn close_gates<O: Listen>(listen: &mut O, gates: List<O::Gate>)
     }
 }
 
-/// Gives the gates of desks back, from the last to the first.
+/// Gives the gates of `podd`'s desks back to the listener, from the last to the first.
 fn close_desks<N: ViewName<CommittedEntry> + StoreName, O: Listen>(
     listen: &mut O,
     desks: List<Desk<O::Gate, N>>,
@@ -108,7 +109,7 @@ fn close_desks<N: ViewName<CommittedEntry> + StoreName, O: Listen>(
     }
 }
 
-/// The status of a desk that ended so.
+/// The status of `podd` by a desk that ended so.
 fn status_of_desk(end: Option<DeskEnd>) -> u8
     ensures { result ≡ told_status end }
 {
@@ -120,7 +121,7 @@ fn status_of_desk(end: Option<DeskEnd>) -> u8
     }
 }
 
-/// The greatest status of these desks.
+/// The status of `podd` by these desks, which is their greatest.
 fn status_of_desks<N: ViewName<CommittedEntry> + StoreName, G: Gate>(desks: &[Desk<G, N>]) -> u8
     ensures { result ≡ told_statuses (map (λ desk. desk.rest.end) desks.now) }
 {
@@ -130,7 +131,7 @@ fn status_of_desks<N: ViewName<CommittedEntry> + StoreName, G: Gate>(desks: &[De
     }
 }
 
-/// The status where the listener opened no gates.
+/// The status of `podd` where the listener opened no gates.
 fn status_of_listen(fault: ListenFault) -> Status
     ensures { result.0 ≡ listen_status fault }
 {
@@ -140,7 +141,7 @@ fn status_of_listen(fault: ListenFault) -> Status
     }
 }
 
-/// The status where the versions of the pod aren't published.
+/// The status of `podd` where the versions of the pod aren't published.
 fn status_of_view(fault: ViewFault) -> Status
     ensures { result.0 ≡ view_status fault }
 {
@@ -150,7 +151,7 @@ fn status_of_view(fault: ViewFault) -> Status
     }
 }
 
-/// Serves all desks, closes the store, and returns its keeper.
+/// Serves all desks of `podd`, closes the store, and returns its keeper.
 fn serve_desks<
     N: ViewName<CommittedEntry> + StoreName + KeeperName<D> + Send + Sync,
     D: Disk + Send,
@@ -178,7 +179,8 @@ fn serve_desks<
     live.close(rt, desks)
 }
 
-/// Serves gates by the sessions of a store, closes the store, and gives the gates back.
+/// Serves the gates of `podd` by the sessions of a store, closes the store, and gives the gates
+/// back.
 fn serve_live<
     N: ViewName<CommittedEntry> + StoreName + KeeperName<D> + Send + Sync,
     D: Disk + Send,
@@ -220,7 +222,8 @@ where
     (Status(status), keeper)
 }
 
-/// Publishes the versions of a keeper under these names, and serves gates by its sessions.
+/// Publishes the versions of a keeper under these names, and serves the gates of `podd` by its
+/// sessions.
 fn serve_gates<
     N: ViewName<CommittedEntry> + StoreName + KeeperName<D> + Send + Sync,
     D: Disk + Send,
@@ -282,7 +285,7 @@ where
     }
 }
 
-/// Serves the pod of a keeper over gates, under names that are new.
+/// Runs `podd` on the pod of a keeper over gates, under names that are new.
 fn run_gates<D: Disk + Send, O: Listen, C: Clock + Sync, R: Threads + Wait + Sync>(
     rt: &R,
     alloc: Global,
@@ -319,7 +322,7 @@ where
     )
 }
 
-/// Opens the gates of a listener, and serves the pod of a keeper over them.
+/// Opens the gates of a listener, and runs `podd` on the pod of a keeper over them.
 fn run_listener<D: Disk + Send, O: Listen, C: Clock + Sync, R: Threads + Wait + Sync>(
     rt: &R,
     alloc: Global,
@@ -347,7 +350,7 @@ where
     }
 }
 
-/// Reads the token table, and serves the pod of a keeper by it.
+/// Reads the token table, and runs `podd` on the pod of a keeper by it.
 fn run_keeper<
     D: Disk + Send,
     T: Source,
@@ -385,7 +388,7 @@ where
     }
 }
 
-/// Opens a store, and serves its pod. Returns the disks.
+/// Opens a store, and runs `podd` on its pod. Returns the disks.
 fn run_store<
     D: Disk + Send,
     T: Source,

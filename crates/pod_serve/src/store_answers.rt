@@ -16,7 +16,7 @@ use std::alloc::Global;
 use std::sync::Wait;
 use token_table::Asked;
 
-/// Answers a request that is no change, from what is published.
+/// Answers a connection's read from the store, by what is published.
 fn answer_read<N: ViewName<CommittedEntry> + StoreName>(
     alloc: Global,
     session: &mut Session<N>,
@@ -37,7 +37,7 @@ fn answer_read<N: ViewName<CommittedEntry> + StoreName>(
     }
 }
 
-/// Answers a change under the store's lock.
+/// Answers a connection's change from the store, under its lock.
 fn answer_change<N: ViewName<CommittedEntry> + StoreName, L: Rounds<N>, R: Wait>(
     rt: &R,
     alloc: Global,
@@ -60,7 +60,7 @@ fn answer_change<N: ViewName<CommittedEntry> + StoreName, L: Rounds<N>, R: Wait>
     }
 }
 
-/// Answers a request.
+/// Answers a connection's request from the store.
 fn answer_request<N: ViewName<CommittedEntry> + StoreName, L: Rounds<N>, R: Wait>(
     rt: &R,
     alloc: Global,
@@ -93,7 +93,8 @@ pub(crate) struct StoreAnswers<'a, N: ViewName<CommittedEntry> + StoreName, L, R
 }
 
 impl<'a, N: ViewName<CommittedEntry> + StoreName, L: Rounds<N>, R: Wait> StoreAnswers<'a, N, L, R> {
-    /// That session. What the last answer switched to is noted in `upgrade`.
+    /// Answers a connection's requests from the store, by that session. What the last answer
+    /// switched to is noted in `upgrade`.
     pub(crate) fn new(
         rt: &'a R,
         live: &'a L,

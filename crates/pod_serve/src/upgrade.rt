@@ -25,7 +25,7 @@ pub(crate) struct Upgrade {
     pub last: u64,
 }
 
-/// The agent of a request.
+/// The agent of a request that is answered by an upgrade.
 fn agent_of(alloc: Global, asked: &Asked<'_>) -> Mem<Agent>
     ensures { IfOk result (λ agent. agent ≡ agent_of (asked_view asked.now)) }
 {
@@ -39,7 +39,7 @@ fn agent_of(alloc: Global, asked: &Asked<'_>) -> Mem<Agent>
     }
 }
 
-/// What the answer at a place is for; nothing where memory runs out.
+/// The upgrade that the answer at a place is for; nothing where memory runs out.
 fn upgrade_to(
     alloc: Global,
     base: &Iri,
@@ -62,7 +62,7 @@ fn upgrade_to(
     }
 }
 
-/// What an answer is for, where it switches protocols; nothing where memory runs out.
+/// The upgrade that an answer is for, where it switches protocols; nothing where memory runs out.
 pub(crate) fn upgrade_in(
     alloc: Global,
     base: &Iri,

@@ -9,7 +9,8 @@ use pod_pipe::Status;
 use podctl_commands::follow;
 use std::alloc::Global;
 
-/// Reads frames, keeps the pod that they give, and writes the response to each read.
+/// Runs the tool's command `follow` over its streams: reads frames, keeps the pod that they give,
+/// and writes the response to each read.
 pub(crate) fn follow_streams<S: Source, K: Sink, E: Sink>(
     alloc: Global,
     input: &mut S,

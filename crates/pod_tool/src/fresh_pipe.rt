@@ -18,7 +18,7 @@ use std::alloc::Global;
 /// The base of a pod in memory.
 const FRESH_BASE: &str = "http://127.0.0.1:8080/";
 
-/// That base.
+/// The base of the new pod in memory of `pipe --fresh`.
 fn base(alloc: Global) -> Mem<Iri>
     ensures { IfOk result (λ base. base ≡ fresh_base) }
 {
@@ -28,7 +28,7 @@ fn base(alloc: Global) -> Mem<Iri>
     }
 }
 
-/// The state of a new pod with that owner, whose rows have that moment.
+/// The state of a new pod for `pipe --fresh` with that owner, whose rows have that moment.
 fn first_state(alloc: Global, owner: &Iri, moment: Moment) -> Mem<Version>
     ensures pod { IfOk result (λ state. state.pod ≡ first_pod fresh_base owner.now moment) }
     ensures next { IfOk result (λ state. state.next ≡ 0) }
@@ -44,7 +44,7 @@ fn first_state(alloc: Global, owner: &Iri, moment: Moment) -> Mem<Version>
     }
 }
 
-/// A new pod in memory with that owner, whose rows have that moment.
+/// The new pod in memory of `pipe --fresh` with that owner, whose rows have that moment.
 fn fresh_pod(alloc: Global, owner: &Iri, moment: Moment) -> Mem<MemoryPod>
     ensures { IfOk result (λ pod. memory_stands pod (fresh_history owner.now moment.0) None) }
 {
@@ -56,7 +56,7 @@ fn fresh_pod(alloc: Global, owner: &Iri, moment: Moment) -> Mem<MemoryPod>
     })
 }
 
-/// That pod, and that every request is its owner's.
+/// The new pod of `pipe --fresh`, and that every request is its owner's.
 pub(crate) fn fresh_start(
     alloc: Global,
     owner: &Iri,
@@ -77,8 +77,8 @@ pub(crate) fn fresh_start(
     Ok((pod, options))
 }
 
-/// Serves the input as one connection of a new pod in memory with that owner, whose rows have the
-/// clock's moment.
+/// Serves the input as one connection of a new pod in memory (`pipe --fresh`) with that owner,
+/// whose rows have the clock's moment.
 pub(crate) fn pipe_fresh<S: Source, K: Sink, E: Sink, C: Clock>(
     alloc: Global,
     owner: &Iri,

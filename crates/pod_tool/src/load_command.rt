@@ -24,7 +24,7 @@ pub struct Loaded {
     pub rows: usize,
 }
 
-/// Whether all events were served on a connection that ended so.
+/// Whether all events of the command `load` were served on a connection that ended so.
 fn is_served(end: PipeEnd) -> bool
     ensures { IsTrue result → IsTold end }
 {
@@ -37,8 +37,8 @@ fn is_served(end: PipeEnd) -> bool
     }
 }
 
-/// Serves the stream of so many requests as a connection of a new pod. It is out of memory also
-/// where one of the requests was.
+/// Serves the stream of the command `load`, of so many requests, as a connection of a new pod. It
+/// is out of memory also where one of the requests was.
 fn serve(alloc: Global, bytes: Vec<u8>, requests: u16) -> Mem<Loaded>
     requires { bytes.items ≡ spec.stream requests }
     ensures { IfOk result (λ loaded. IsLoaded requests loaded.output.taken loaded.rows) }
@@ -67,7 +67,7 @@ fn serve(alloc: Global, bytes: Vec<u8>, requests: u16) -> Mem<Loaded>
     Ok(Loaded { output, rows })
 }
 
-/// The line of a run of so many requests.
+/// The line of the command `load` of so many requests.
 fn load_line(alloc: Global, requests: u16) -> Mem<String>
     ensures { IfOk result (λ line. IsLoadLine requests (string_bytes line)) }
 {
@@ -77,8 +77,8 @@ fn load_line(alloc: Global, requests: u16) -> Mem<String>
     summary_line(alloc, requests, bytes_in, output.taken(), rows)
 }
 
-/// Runs the requests of the load generator on a new pod in memory, and prints its line. Out of
-/// memory, nothing is printed.
+/// Runs the command `load`: the requests of the load generator on a new pod in memory, and prints
+/// its line. Out of memory, nothing is printed.
 pub(crate) fn load<K: Sink>(alloc: Global, requests: u16, output: &mut K) -> Status
     ensures prints { PrintsLoad requests (K.taken output.old) (K.taken output.new) result.0 }
     ensures write_fault { result.0 ≡ 4

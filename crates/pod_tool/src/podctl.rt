@@ -22,7 +22,8 @@ use std::alloc::Global;
 /// The status of invalid arguments.
 const NO_READING: u8 = 2;
 
-/// Serves the input as one connection: of a new pod in memory, or of the pod of the store.
+/// Runs `podctl pipe`, which serves the input as one connection: of a new pod in memory, or of the
+/// pod of the store.
 fn pipe_asked<S: Source, K: Sink, E: Sink, D: Disk, T: Source, C: Clock>(
     alloc: Global,
     asking: Asking,
@@ -66,7 +67,7 @@ fn pipe_asked<S: Source, K: Sink, E: Sink, D: Disk, T: Source, C: Clock>(
     }
 }
 
-/// Carries out a command.
+/// Carries out a command of `podctl`.
 fn run<S: Source, K: Sink, E: Sink, D: Disk, T: Source, C: Clock>(
     alloc: Global,
     command: Command,

@@ -32,7 +32,8 @@ pub enum Printing {
     Report(Agent),
 }
 
-/// Makes a store on two disks, at the clock's moment, and returns them.
+/// Makes the store of the store command `init` on two disks, at the clock's moment, and returns
+/// them.
 fn make<D: Disk, C: Clock>(
     alloc: Global,
     base: Iri,
@@ -56,8 +57,8 @@ fn make<D: Disk, C: Clock>(
     (Status(end.status()), disks)
 }
 
-/// Makes a store in a place, with the two first rows of a pod of that base and that owner, which
-/// have the clock's moment. The disks are put back.
+/// Runs the store command `init`: makes a store in a place, with the two first rows of a pod of
+/// that base and that owner, which have the clock's moment. The disks are put back.
 pub(crate) fn init_store<D: Disk, T: Source, C: Clock>(
     alloc: Global,
     base: Iri,
@@ -91,7 +92,7 @@ pub(crate) fn init_store<D: Disk, T: Source, C: Clock>(
     status
 }
 
-/// Prints of the store on two disks, and returns them.
+/// Runs a store command that prints of the store on two disks, and returns them.
 fn print<D: Disk, K: Sink, E: Sink>(
     alloc: Global,
     printing: &Printing,
@@ -120,7 +121,7 @@ fn print<D: Disk, K: Sink, E: Sink>(
     }
 }
 
-/// Prints of the store in a place. The disks are put back.
+/// Runs a store command that prints of the store in a place. The disks are put back.
 pub(crate) fn print_store<D: Disk, T: Source, K: Sink, E: Sink>(
     alloc: Global,
     printing: &Printing,
@@ -153,7 +154,7 @@ pub(crate) fn print_store<D: Disk, T: Source, K: Sink, E: Sink>(
     Status(end.status())
 }
 
-/// The agent of a report: everyone, where none is named.
+/// The agent of the store command `report`: everyone, where none is named.
 fn reported_agent(alloc: Global, agent: Option<Iri>) -> Mem<Agent>
     ensures { IfOk result (λ found. found ≡ agent_in agent) }
 {
@@ -166,7 +167,8 @@ fn reported_agent(alloc: Global, agent: Option<Iri>) -> Mem<Agent>
     }
 }
 
-/// Prints what an agent may do in the store in a place. The disks are put back.
+/// Runs the store command `report`, which prints what an agent may do in the store in a place. The
+/// disks are put back.
 pub(crate) fn report_store<D: Disk, T: Source, K: Sink, E: Sink>(
     alloc: Global,
     agent: Option<Iri>,
@@ -197,7 +199,8 @@ pub(crate) fn report_store<D: Disk, T: Source, K: Sink, E: Sink>(
     print_store(alloc, &Printing::Report(agent), output, errors, place)
 }
 
-/// Writes the records of the store in a place as frames. The disks are put back.
+/// Runs the store command `ship`, which writes the records of the store in a place as frames. The
+/// disks are put back.
 pub(crate) fn ship_store<D: Disk, T: Source, K: Sink, E: Sink>(
     alloc: Global,
     output: &mut K,

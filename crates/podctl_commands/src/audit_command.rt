@@ -25,7 +25,7 @@ use stored_forms::{ReadBack, decode_entry, decode_entry_1};
 /// The first byte of an entry in the format that is only read.
 const OLD_FORMAT: u8 = 1;
 
-/// Whether a record is an entry in the format that is only read.
+/// Whether a record that `podctl audit` prints is an entry in the format that is only read.
 fn is_old(body: &[u8]) -> bool
     ensures yes { IsTrue result → (rest : ListOf ℕ) × (body.now ≡ 1 ∷ rest) }
     ensures no { result ≡ false → (rest : ListOf ℕ) → body.now ≡ 1 ∷ rest → ⊥ }
@@ -36,7 +36,7 @@ fn is_old(body: &[u8]) -> bool
     }
 }
 
-/// The entry of a record of format 1.
+/// The entry of a record that `podctl audit` prints, which has format 1.
 fn old_entry(alloc: Global, body: &[u8]) -> Mem<Entry>
     requires { (entry : EntryValue) × IsEntryOf 1 body.now entry }
     ensures { IfOk result (λ found. (entry : EntryValue) → IsEntryOf 1 body.now entry
@@ -49,7 +49,7 @@ fn old_entry(alloc: Global, body: &[u8]) -> Mem<Entry>
     }
 }
 
-/// The entry of a record of format 2.
+/// The entry of a record that `podctl audit` prints, which has format 2.
 fn new_entry(alloc: Global, body: &[u8]) -> Mem<Entry>
     requires { (entry : EntryValue) × IsEntryOf 2 body.now entry }
     ensures { IfOk result (λ found. (entry : EntryValue) → IsEntryOf 2 body.now entry
@@ -62,7 +62,7 @@ fn new_entry(alloc: Global, body: &[u8]) -> Mem<Entry>
     }
 }
 
-/// The entry of a record.
+/// The entry of a record that `podctl audit` prints.
 fn entry_of(alloc: Global, body: &[u8]) -> Mem<Entry>
     requires { (entry : EntryValue) × IsRecordOf body.now entry }
     ensures { IfOk result (λ found. (entry : EntryValue) → IsRecordOf body.now entry
@@ -75,7 +75,7 @@ fn entry_of(alloc: Global, body: &[u8]) -> Mem<Entry>
     }
 }
 
-/// Prints the line of a record's entry.
+/// Prints the line that `podctl audit` has of a record's entry.
 fn print_entry<K: Sink>(alloc: Global, body: &[u8], output: &mut K) -> Result<(), PrintFault>
     requires { (line : ListOf ℕ) × HasLine body.now line }
     ensures writes { (line : ListOf ℕ) → HasLine body.now line
@@ -90,7 +90,7 @@ fn print_entry<K: Sink>(alloc: Global, body: &[u8], output: &mut K) -> Result<()
     Ok(())
 }
 
-/// Prints the line of each record's entry.
+/// Prints the line that `podctl audit` has of each record's entry.
 fn print_entries<K: Sink>(
     alloc: Global,
     records: &[Bytes],
@@ -109,8 +109,9 @@ fn print_entries<K: Sink>(
     Ok(())
 }
 
-/// Opens a store and prints a line for each entry of its active journal, in their order: what
-/// changed the pod since the snapshot that the journal begins with, by whom, and by which rules.
+/// Audits a store, which it opens, by a line for each entry of its active journal, in their order:
+/// what changed the pod since the snapshot that the journal begins with, by whom, and by which
+/// rules.
 ///
 /// The ends are those of [`check`](crate::check). Where a write fails or memory runs out, what was
 /// printed is a prefix of the lines.

@@ -16,7 +16,7 @@ use pod_keeper::Keeper;
 use pod_rows::PodState;
 use std::alloc::Global;
 
-/// Writes the three counts.
+/// Writes the three counts that `podctl check` prints.
 fn write_counts<K: Sink>(output: &mut K, rows: u64, entries: u64, next: u64) -> Result<(), Failed>
     ensures writes { Writes result (counts_line rows entries next)
         (K.taken output.old) (K.taken output.new) }
@@ -28,7 +28,7 @@ fn write_counts<K: Sink>(output: &mut K, rows: u64, entries: u64, next: u64) -> 
     write_all(output, b"\n")
 }
 
-/// Prints the counts of a store whose entries are in these records.
+/// Prints the counts that `podctl check` has of a store whose entries are in these records.
 fn print_counts<D: Disk, K: Sink>(
     keeper: &Keeper<D>,
     entries: &[Bytes],
@@ -48,9 +48,9 @@ fn print_counts<D: Disk, K: Sink>(
     }
 }
 
-/// Opens a store and prints `rows=R entries=E next=N`: how many rows its pod has, how many entries
-/// its active journal has, and the number of the next change. Opening decodes every record, so a
-/// store with this line is undamaged.
+/// Checks a store, which it opens, and prints `rows=R entries=E next=N`: how many rows its pod has,
+/// how many entries its active journal has, and the number of the next change. Opening decodes
+/// every record, so a store with this line is undamaged.
 ///
 /// `Damaged` comes exactly where the store is damaged, and is printed to the error sink, as
 /// `damaged first 16`; a failure of that line changes nothing. `Empty` comes exactly where both

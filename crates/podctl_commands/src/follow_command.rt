@@ -16,7 +16,7 @@ const PIECE_LIMIT: usize = 65_536;
 /// The most reads of one input.
 const READ_LIMIT: u64 = 1 << 40;
 
-/// The end of a run where the input ended: after whole frames alone, or not.
+/// Ends the command `follow` where the input ended: after whole frames alone, or not.
 fn at_end(following: &Following, is_whole: bool) -> FollowEnd
     ensures { result ≡ end_at following.now is_whole }
 {
@@ -30,7 +30,7 @@ fn at_end(following: &Following, is_whole: bool) -> FollowEnd
     }
 }
 
-/// The end of a run where frames are no longer taken.
+/// Ends the command `follow` where frames are no longer taken.
 fn fault_end(fault: FrameFault, frames: u64) -> FollowEnd
     ensures { result ≡ fault_end fault frames }
 {
@@ -42,7 +42,8 @@ fn fault_end(fault: FrameFault, frames: u64) -> FollowEnd
     }
 }
 
-/// Takes the frames of an input. Each piece is taken before the next one is read.
+/// Takes the frames of the input of the command `follow`. Each piece is taken before the next one
+/// is read.
 fn take_input<S: Source, K: Sink>(alloc: Global, input: &mut S, output: &mut K) -> FollowEnd
     ensures follows { FollowsInput result (S.rest input.old) (S.rest input.new)
         (K.taken output.old) (K.taken output.new) }
@@ -76,10 +77,11 @@ fn take_input<S: Source, K: Sink>(alloc: Global, input: &mut S, output: &mut K) 
     FollowEnd::ReadLimit
 }
 
-/// Reads frames, keeps the pod that they give, and writes the response to each read. A last line on
-/// the error sink reports how that ended: `follow: next=N`, or `frame K` for the frame that was
-/// refused, isn't whole, or is missing. What is kept of a frame that isn't whole yet is what came of
-/// it, and one longer than any record is refused by its first byte.
+/// Follows a pod by the frames of an input: reads frames, keeps the pod that they give, and writes
+/// the response to each read. A last line on the error sink reports how that ended:
+/// `follow: next=N`, or `frame K` for the frame that was refused, isn't whole, or is missing. What
+/// is kept of a frame that isn't whole yet is what came of it, and one longer than any record is
+/// refused by its first byte.
 ///
 /// A snapshot starts the follower, or starts it anew. An entry that isn't the next one is passed
 /// over. Each response is written before the next piece of the input is read.

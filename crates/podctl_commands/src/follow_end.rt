@@ -23,7 +23,7 @@ pub enum FollowEnd {
 }
 
 impl FollowEnd {
-    /// Its status.
+    /// The status of a `follow` that ended so.
     pub fn status(self) -> Status
         ensures { result.0 ≡ status_of_follow_end self }
     {

@@ -6,9 +6,9 @@ ghost use Rattle.podctl_commands.specs.FollowEnds.{ComesOf, ReportsFollowEnd};
 use crate::follow_end::FollowEnd;
 use pod_io::{Failed, Sink, write_number_line};
 
-/// Reports by a last line how a run ended, unless a fault, out of memory or the limit on reads ended
-/// it. It takes no memory. A failure of the line of status 0 is a write fault, and another one
-/// changes nothing.
+/// Writes the last line of a `follow`, which reports its end, unless a fault, out of memory or the
+/// limit on reads ended it. It takes no memory. A failure of the line of status 0 is a write fault,
+/// and another one changes nothing.
 pub(crate) fn write_end_line<E: Sink>(end: FollowEnd, errors: &mut E) -> FollowEnd
     ensures end { ComesOf end result }
     ensures told { ReportsFollowEnd result (E.taken errors.old) (E.taken errors.new) (E.faults errors.old)

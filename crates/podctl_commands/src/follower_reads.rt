@@ -33,7 +33,7 @@ struct Read {
     request: Request,
 }
 
-/// Whether a request changes nothing, and asks for no switch of protocols.
+/// Whether a request is a follower's read: it changes nothing, and asks for no switch of protocols.
 fn is_read(request: &Request) -> bool
     ensures no_change { IsTrue result → granted.is_change request.now.method ≡ false }
     ensures no_upgrade { IsTrue result → upgrades.upgrade_key request.now ≡ None }
@@ -49,7 +49,7 @@ fn is_read(request: &Request) -> bool
     }
 }
 
-/// The request of a read that these bytes are.
+/// The request in a follower's read, which these bytes are.
 fn request_of(alloc: Global, bytes: &[u8]) -> Result<Request, ReadBack>
     ensures some { IfOk result (IsReadRequest bytes.now) }
     ensures none { IsErrOf result NotCanonical
@@ -68,7 +68,7 @@ fn request_of(alloc: Global, bytes: &[u8]) -> Result<Request, ReadBack>
     }
 }
 
-/// The read that the body of a frame is.
+/// The follower's read that the body of a frame is.
 fn read_of(alloc: Global, body: &[u8]) -> Result<Read, ReadBack>
     ensures some { IfOk result (λ read. IsRead body.now read.agent read.moment read.request) }
     ensures none { IsErrOf result NotCanonical
@@ -84,7 +84,7 @@ fn read_of(alloc: Global, body: &[u8]) -> Result<Read, ReadBack>
     })
 }
 
-/// How the agent of a read was authenticated: by whoever sent the frame.
+/// How the agent of a follower's read was authenticated: by whoever sent the frame.
 fn asked_of(agent: &Agent) -> Asked<'_>
     ensures { asked_view result ≡ asked_as agent.now }
 {
@@ -94,7 +94,7 @@ fn asked_of(agent: &Agent) -> Asked<'_>
     }
 }
 
-/// The bytes of a response, on a connection that stays open.
+/// The bytes of the response to a follower's read, on a connection that stays open.
 fn sent_text(alloc: Global, response: &Response, moment: Moment) -> Mem<Bytes>
     requires { IsSent response.now }
     ensures { IfOk result (λ text. text
@@ -103,7 +103,7 @@ fn sent_text(alloc: Global, response: &Response, moment: Moment) -> Mem<Bytes>
     bytes_of(alloc, response, moment, false)
 }
 
-/// The bytes of the response to a read.
+/// The bytes of the response to a follower's read.
 fn response_text(alloc: Global, follower: &Follower, read: &Read) -> Mem<Bytes>
     requires { granted.is_change read.now.request.method ≡ false }
     ensures { IfOk result (λ text. IsResponseText follower.now read.now.agent read.now.moment
@@ -114,7 +114,8 @@ fn response_text(alloc: Global, follower: &Follower, read: &Read) -> Mem<Bytes>
     sent_text(alloc, &response, read.moment)
 }
 
-/// The bytes of the response to the read that the body of a frame is; none where it is no read.
+/// The bytes of the response to the follower's read that the body of a frame is; none where it is
+/// no read.
 pub(crate) fn answer_read(alloc: Global, follower: &Follower, body: &[u8]) -> Mem<Option<Bytes>>
     ensures some { IfOk result (λ found. IfSome found
         (λ text. IsReadText follower.now body.now text)) }

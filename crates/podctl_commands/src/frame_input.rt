@@ -34,7 +34,7 @@ pub struct Following {
 }
 
 impl Following {
-    /// Takes a frame, and writes the response where it is a read.
+    /// Takes a frame of the input, and writes the response where it is a read.
     fn take_frame<K: Sink>(
         &mut self,
         alloc: Global,
@@ -70,7 +70,8 @@ impl Following {
         }
     }
 
-    /// Takes the whole frames with which bytes begin, and returns how many bytes are left.
+    /// Takes the whole frames with which bytes of the input begin, and returns how many bytes are
+    /// left.
     fn take_frames<K: Sink>(
         &mut self,
         alloc: Global,
@@ -133,8 +134,7 @@ impl Following {
     }
 }
 
-/// Whether a frame with which bytes begin is longer than any record, as the first byte of its length
-/// shows.
+/// Whether a frame of the input is longer than any record, as the first byte of its length shows.
 fn is_too_long(bytes: &[u8]) -> bool
     ensures yes { IsTrue result → IsTooLong bytes.now }
     ensures no { result ≡ false → IsTooLong bytes.now → ⊥ }
@@ -145,7 +145,8 @@ fn is_too_long(bytes: &[u8]) -> bool
     }
 }
 
-/// Keeps the last bytes, as many as `left`. It copies them only where others come before them.
+/// Keeps the last bytes of the input of frames, as many as `left`. It copies them only where others
+/// come before them.
 fn keep_last(alloc: Global, kept: &mut Vec<u8>, left: usize) -> Mem<()>
     requires { left ≤ length kept.old.items }
     ensures { OnOk result (kept.new.items

@@ -21,7 +21,7 @@ use pod_io::Failed;
 use pod_keeper::{CommitFault, Keeper};
 use std::alloc::Global;
 
-/// Whether a disk is empty.
+/// Whether a disk for `init` is empty.
 fn is_empty<D: Disk>(disk: &mut D) -> Result<bool, Failed>
     ensures yes { IfOk result (λ empty. IsTrue empty
         → IfVisible (D.content disk.old) (λ b. b ≡ [])) }
@@ -35,7 +35,7 @@ fn is_empty<D: Disk>(disk: &mut D) -> Result<bool, Failed>
     Ok(len == 0)
 }
 
-/// Whether both disks are empty. The second isn't queried where the first isn't.
+/// Whether both disks for `init` are empty. The second isn't queried where the first isn't.
 fn are_empty<D: Disk>(disks: &mut Disks<D>) -> Result<bool, Failed>
     ensures first { IfOk result (λ empty. IsTrue empty
         → IfVisible (D.content disks.old.first) (λ b. b ≡ [])) }
@@ -62,7 +62,7 @@ fn are_empty<D: Disk>(disks: &mut Disks<D>) -> Result<bool, Failed>
     }
 }
 
-/// Makes a store on two empty disks.
+/// Makes the store of `init` on two empty disks.
 fn make<D: Disk>(
     alloc: Global,
     disks: &mut Disks<D>,
@@ -96,9 +96,9 @@ fn make<D: Disk>(
     }
 }
 
-/// Makes a store on two empty disks, with the two first rows of a pod of that base and that owner,
-/// which have that moment. It prints nothing. A crash inside it may leave anything, but an existing
-/// store stays as it is.
+/// Makes a store on two empty disks for `podctl init`, with the two first rows of a pod of that
+/// base and that owner, which have that moment. It prints nothing. A crash inside it may leave
+/// anything, but an existing store stays as it is.
 ///
 /// `NotEmpty` comes exactly where a disk isn't empty, and `DiskFault` only where a disk's count of
 /// faults increased. Where it ends with `NotEmpty` or `NoMemory`, nothing was written.

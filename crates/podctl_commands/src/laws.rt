@@ -7,7 +7,7 @@ use journal_pair::{
     store_damaged_once, store_empty_only, store_stands_once, store_stands_or_damaged,
 };
 
-/// Disks that hold a store aren't damaged.
+/// A command that finds a store on its disks can't find them damaged, too.
 pub fn store_or_damaged()
     ensures { StoreOrDamaged }
 {
@@ -15,21 +15,21 @@ pub fn store_or_damaged()
     store_stands_or_damaged();
 }
 
-/// Disks that hold a store aren't both empty.
+/// A command that finds a store on its disks can't find both empty, too.
 pub fn store_or_empty()
     ensures { StoreOrEmpty }
 {
     store_empty_only();
 }
 
-/// Two empty disks aren't damaged.
+/// A command that finds both of its disks empty can't find them damaged, too.
 pub fn damaged_or_empty()
     ensures { DamagedOrEmpty }
 {
     store_empty_only();
 }
 
-/// Two disks are damaged at one place at most.
+/// A command finds its two disks damaged at one place at most.
 pub fn damaged_once()
     ensures { DamagedOnce }
 {

@@ -11,7 +11,7 @@ use pod_base::{Bytes, Mem, NoMemory};
 use pod_follow::{Follower, StartFault, Took};
 use std::alloc::Global;
 
-/// Starts the follower, or starts it anew, where the body of a frame is a snapshot.
+/// Starts the follower by one frame whose body is a snapshot, or starts it anew.
 fn start(alloc: Global, follower: &mut Option<Follower>, body: &[u8]) -> Mem<bool>
     ensures yes { IfOk result (λ started. IsTrue started → IsStarted body.now follower.new) }
     ensures no { IfOk result (λ started. started ≡ false
@@ -28,7 +28,7 @@ fn start(alloc: Global, follower: &mut Option<Follower>, body: &[u8]) -> Mem<boo
     }
 }
 
-/// Takes the entry or answers the read that the body of a frame is: the bytes to write, or none
+/// Takes the entry or answers the read that the body of one frame is: the bytes to write, or none
 /// where the frame is refused.
 fn take_or_answer(alloc: Global, follower: &mut Follower, body: &[u8]) -> Mem<Option<Bytes>>
     ensures some { IfOk result (λ found. IfSome found
@@ -45,7 +45,7 @@ fn take_or_answer(alloc: Global, follower: &mut Follower, body: &[u8]) -> Mem<Op
     }
 }
 
-/// Takes the body of a frame: the bytes to write, or none where the frame is refused.
+/// Takes the body of one frame: the bytes to write, or none where the frame is refused.
 pub(crate) fn take_body(
     alloc: Global,
     follower: &mut Option<Follower>,

@@ -5,7 +5,7 @@ ghost use Rattle.podctl_commands.specs.Endings.{written_end};
 use crate::StoreEnd;
 use pod_io::Failed;
 
-/// The end of a command whose output was written, or not all of it.
+/// The end of a command by whether all of its output was written.
 pub(crate) fn written_end(written: Result<(), Failed>) -> StoreEnd
     ensures { result ≡ written_end written }
 {

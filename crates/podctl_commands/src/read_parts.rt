@@ -13,7 +13,7 @@ use stored_forms::ReadBack;
 /// The first byte of a read.
 const READ: u8 = 3;
 
-/// The first byte.
+/// The first byte of a part of a read.
 fn byte_of(bytes: &[u8]) -> Result<(u8, &[u8]), ReadBack>
     ensures { Gives (λ x. (x.0, x.1.now)) result (byte_at bytes.now) }
 {
@@ -23,7 +23,7 @@ fn byte_of(bytes: &[u8]) -> Result<(u8, &[u8]), ReadBack>
     }
 }
 
-/// A number.
+/// The number that is the next part of a read.
 fn number_of(bytes: &[u8]) -> Result<(u64, &[u8]), ReadBack>
     ensures { Gives (λ x. (x.0, x.1.now)) result (number_at bytes.now) }
 {
@@ -33,7 +33,7 @@ fn number_of(bytes: &[u8]) -> Result<(u64, &[u8]), ReadBack>
     }
 }
 
-/// Bytes after their number.
+/// The bytes after their number that are the next part of a read.
 fn piece_of(bytes: &[u8]) -> Result<(&[u8], &[u8]), ReadBack>
     ensures { Gives (λ x. (x.0.now, x.1.now)) result (piece_at bytes.now) }
 {
@@ -43,7 +43,7 @@ fn piece_of(bytes: &[u8]) -> Result<(&[u8], &[u8]), ReadBack>
     }
 }
 
-/// A text, lent by the bytes.
+/// The text that is the next part of a read, lent by the bytes.
 #[tactic(auto, unfolding(stored_forms::specs::Reading::text_at))]
 fn str_of(bytes: &[u8]) -> Result<(&str, &[u8]), ReadBack>
     ensures { Gives (λ x. (x.0.now, x.1.now)) result (text_at bytes.now) }
@@ -55,7 +55,7 @@ fn str_of(bytes: &[u8]) -> Result<(&str, &[u8]), ReadBack>
     }
 }
 
-/// A text.
+/// The text that is the next part of a read.
 fn text_of(alloc: Global, bytes: &[u8]) -> Result<(Text, &[u8]), ReadBack>
     ensures { Gives (λ x. (x.0, x.1.now)) result (text_at bytes.now) }
 {
@@ -64,7 +64,7 @@ fn text_of(alloc: Global, bytes: &[u8]) -> Result<(Text, &[u8]), ReadBack>
     Ok((text, rest))
 }
 
-/// An agent after its first byte.
+/// The agent that is the next part of a read, after its first byte.
 #[tactic(auto, unfolding(stored_forms::specs::Reading::agent_after))]
 fn agent_after(alloc: Global, tag: u8, bytes: &[u8]) -> Result<(Agent, &[u8]), ReadBack>
     ensures { Gives (λ x. (x.0, x.1.now)) result (agent_after tag bytes.now) }
@@ -79,7 +79,7 @@ fn agent_after(alloc: Global, tag: u8, bytes: &[u8]) -> Result<(Agent, &[u8]), R
     }
 }
 
-/// An agent.
+/// The agent that is the next part of a read.
 #[tactic(auto, unfolding(stored_forms::specs::Reading::agent_at))]
 fn agent_of(alloc: Global, bytes: &[u8]) -> Result<(Agent, &[u8]), ReadBack>
     ensures { Gives (λ x. (x.0, x.1.now)) result (agent_at bytes.now) }
@@ -88,7 +88,8 @@ fn agent_of(alloc: Global, bytes: &[u8]) -> Result<(Agent, &[u8]), ReadBack>
     agent_after(alloc, tag, rest)
 }
 
-/// The agent and the moment of a read, and the bytes of its request.
+/// The parts of a read before its request, which are the agent and the moment, and the bytes of the
+/// request.
 #[tactic(auto, unfolding(crate::specs::Heads::read_head_at))]
 pub(crate) fn read_head(alloc: Global, body: &[u8]) -> Result<(Agent, u64, &[u8]), ReadBack>
     ensures { Gives (λ x. (head_of (x.0, x.1), x.2.now)) result (read_head_at body.now) }

@@ -16,7 +16,7 @@ use pod_io::{Sink, write_all};
 use pod_keeper::Keeper;
 use std::alloc::Global;
 
-/// Prints what an agent may do in the pod of a store, and returns how that ended.
+/// Prints the report of what an agent may do in the pod of a store, and returns how that ended.
 fn print_report<D: Disk, K: Sink>(
     alloc: Global,
     keeper: &Keeper<D>,
@@ -35,9 +35,9 @@ fn print_report<D: Disk, K: Sink>(
     }
 }
 
-/// Opens a store and prints a line for each mode that an agent has on each row that is no access
-/// list: the path, the mode, and the rule that grants it, in byte order of the paths and in the
-/// order read, write, append, control.
+/// Opens a store and reports what an agent may do in its pod, by a line for each mode that the
+/// agent has on each row that is no access list: the path, the mode, and the rule that grants it,
+/// in byte order of the paths and in the order read, write, append, control.
 ///
 /// The ends are those of [`check`](podctl_commands::check). Where a write fails, what was printed is
 /// a prefix of the lines; out of memory, nothing was.

@@ -10,7 +10,7 @@ use pod_base::{Agent, Mem, Mode};
 use pod_rows::PodState;
 use std::alloc::Global;
 
-/// The word of a mode.
+/// The word of a mode in a line that `podctl report` prints.
 fn mode_word(mode: Mode) -> &'static [u8]
     ensures { result.now ≡ spec.mode_word mode }
 {
@@ -22,7 +22,8 @@ fn mode_word(mode: Mode) -> &'static [u8]
     }
 }
 
-/// Appends a line: the path, the mode and the basis, one space between, and LF.
+/// Appends one of the lines that `podctl report` prints: the path, the mode and the basis, one
+/// space between, and LF.
 fn append_line(alloc: Global, text: &mut Vec<u8>, line: &Line) -> Mem<()>
     ensures { OnOk result (text.new.items ≡ text.old.items ++ spec.report_line line.now) }
 {
@@ -35,7 +36,7 @@ fn append_line(alloc: Global, text: &mut Vec<u8>, line: &Line) -> Mem<()>
     Ok(())
 }
 
-/// Appends the lines, in their order.
+/// Appends the lines that `podctl report` prints, in their order.
 fn append_lines(alloc: Global, text: &mut Vec<u8>, lines: &[Line]) -> Mem<()>
     ensures { OnOk result (text.new.items
         ≡ text.old.items ++ flat_map spec.report_line lines.now) }
@@ -46,7 +47,7 @@ fn append_lines(alloc: Global, text: &mut Vec<u8>, lines: &[Line]) -> Mem<()>
     Ok(())
 }
 
-/// The lines of what an agent may do in a pod.
+/// The lines that `podctl report` prints of what an agent may do in a pod.
 pub(crate) fn report_text<S: PodState>(alloc: Global, state: &S, agent: &Agent) -> Mem<Vec<u8>>
     ensures { IfOk result (λ text. text.items
         ≡ spec.report_lines (report_of (S.pod state.now) agent.now)) }

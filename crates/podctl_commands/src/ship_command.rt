@@ -20,7 +20,7 @@ use pod_io::{Failed, Sink, write_all};
 use pod_keeper::{Keeper, NotOpened};
 use std::alloc::Global;
 
-/// Writes the frame of a record.
+/// Ships a record by its frame, which it writes.
 fn write_frame<K: Sink>(output: &mut K, body: &[u8]) -> Result<(), Failed>
     ensures writes { Writes result (frame_of body.now) (K.taken output.old) (K.taken output.new) }
     ensures faults { CountsFaults result (K.faults output.old) (K.faults output.new) }
@@ -29,7 +29,7 @@ fn write_frame<K: Sink>(output: &mut K, body: &[u8]) -> Result<(), Failed>
     write_all(output, body)
 }
 
-/// Writes the frame of each record, in their order. It takes no memory.
+/// Ships each record by its frame, in their order. It takes no memory.
 fn write_frames<K: Sink>(output: &mut K, records: &[Bytes]) -> Result<(), Failed>
     ensures writes { Writes result (frames_of records.now)
         (K.taken output.old) (K.taken output.new) }
@@ -41,6 +41,7 @@ fn write_frames<K: Sink>(output: &mut K, records: &[Bytes]) -> Result<(), Failed
     Ok(())
 }
 
+/// Opens the store that is to be shipped.
 /// The records of a store's active journal, and the disks as an opening leaves them.
 fn stored_records<D: Disk>(
     alloc: Global,
@@ -66,9 +67,9 @@ fn stored_records<D: Disk>(
     }
 }
 
-/// Opens a store and writes the frame of each record of its active journal: first the snapshot with
-/// which the journal begins, and then its entries in their order. A follower that takes them has
-/// the pod of the store, and takes what is shipped later from there on.
+/// Ships a store, which it opens, by the frame of each record of its active journal: first the
+/// snapshot with which the journal begins, and then its entries in their order. A follower that
+/// takes them has the pod of the store, and takes what is shipped later from there on.
 ///
 /// The ends are those of [`check`](podctl_commands::check). Where a write fails, what was written is
 /// a prefix of the frames.

@@ -25,7 +25,7 @@ pub enum StoreEnd {
 }
 
 impl StoreEnd {
-    /// Its status.
+    /// The status of a command of a store that ended so.
     pub fn status(self) -> u8
         ensures { result ≡ status_of_store_end self }
     {

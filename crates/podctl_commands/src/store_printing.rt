@@ -36,7 +36,8 @@ impl From<NoMemory> for PrintFault {
     }
 }
 
-/// The records of the entries among those of a journal, of which the first is the snapshot.
+/// The records of the entries to print among those of a store's journal, of which the first is the
+/// snapshot.
 pub(crate) fn entries_in(records: &[Bytes]) -> &[Bytes]
     ensures { (snapshot : ListOf ℕ) (entries : ListOf (ListOf ℕ))
         → records.now ≡ snapshot ∷ entries → result.now ≡ entries }
@@ -47,7 +48,7 @@ pub(crate) fn entries_in(records: &[Bytes]) -> &[Bytes]
     }
 }
 
-/// The end of a command whose printing ended so.
+/// Ends the printing of a store by how it was printed.
 fn end_of_printing(printed: Result<(), PrintFault>) -> StoreEnd
     ensures { result ≡ printed_end printed }
 {
@@ -58,7 +59,7 @@ fn end_of_printing(printed: Result<(), PrintFault>) -> StoreEnd
     }
 }
 
-/// Closes a store of which a command has printed.
+/// Ends the printing of a store, which it closes.
 pub(crate) fn finish<D: Disk>(keeper: Keeper<D>, printed: Result<(), PrintFault>) -> Ended<D>
     ensures end { result.end ≡ printed_end printed }
     ensures first { result.disks.first ≡ keeper.first }
@@ -70,7 +71,7 @@ pub(crate) fn finish<D: Disk>(keeper: Keeper<D>, printed: Result<(), PrintFault>
     }
 }
 
-/// The end of a command whose store wasn't opened.
+/// Ends the printing of a store that wasn't opened.
 fn refused_end(fault: OpenFault) -> StoreEnd
     ensures { result ≡ refused_end fault }
 {
@@ -82,7 +83,7 @@ fn refused_end(fault: OpenFault) -> StoreEnd
     }
 }
 
-/// The end of a command whose store wasn't opened, and its line where it is damaged.
+/// Ends the printing of a store that wasn't opened, with its line where it is damaged.
 fn report_fault<E: Sink>(errors: &mut E, fault: OpenFault) -> StoreEnd
     ensures end { result ≡ refused_end fault }
     ensures told { ReportsDamage result (E.taken errors.old) (E.taken errors.new)
@@ -93,7 +94,7 @@ fn report_fault<E: Sink>(errors: &mut E, fault: OpenFault) -> StoreEnd
     refused_end(fault)
 }
 
-/// Ends a command whose store wasn't opened, with its line where it is damaged.
+/// Refuses to print of a store that wasn't opened, with its line where it is damaged.
 pub(crate) fn refuse<D: Disk, E: Sink>(refused: NotOpened<D>, errors: &mut E) -> Ended<D>
     ensures end { result.end ≡ refused_end refused.fault }
     ensures first { result.disks.first ≡ refused.disks.first }

@@ -7,7 +7,7 @@ use Rattle.std.specs.List.{list_all}
 use Rattle.std.specs.Result.{OkIff}
 use Rattle.std.specs.Str.Parse.{ParsesUnsigned}
 use Rattle.program_words.specs.Readings.{is_number, number_after}
-use Rattle.program_words.specs.declared.number.TheConstants.{DIGITS_LIMIT}
+use Rattle.program_words.specs.declared.numeric_word.TheConstants.{DIGITS_LIMIT}
 
 pub own : IsNumeralModel (λ ds. list_all is_ascii_digit ds ≡ true) (number_after 0)
 own = numerals_by_fold _ (search rules) number_after (search rules)

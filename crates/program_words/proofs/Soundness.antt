@@ -8,7 +8,7 @@ use Rattle.program_words.specs.Readings.{IsSound, agent_of, asking_of, command_a
 use Rattle.program_words.specs.declared.command.Asking.{Asking}
 use Rattle.program_words.specs.declared.command.Command.{Command}
 use Rattle.program_words.specs.declared.command.Command.TheVariants as commands
-use Rattle.program_words.specs.declared.number.TheConstants.{LOAD_LIMIT}
+use Rattle.program_words.specs.declared.numeric_word.TheConstants.{LOAD_LIMIT}
 use Rattle.program_words.specs.declared.subcommand.Subcommand.{Subcommand}
 use Rattle.program_words.specs.declared.subcommand.Subcommand.TheVariants as subcommands
 use Rattle.program_words.proofs.Numbers.{and_right}

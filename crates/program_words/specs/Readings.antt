@@ -14,7 +14,7 @@ use Rattle.program_words.specs.declared.command.Command.{Command}
 use Rattle.program_words.specs.declared.command.Command.TheVariants as commands
 use Rattle.program_words.specs.declared.podctl_options.Mode.{Mode}
 use Rattle.program_words.specs.declared.podctl_options.Mode.TheVariants.{Value}
-use Rattle.program_words.specs.declared.number.TheConstants.{LOAD_LIMIT, DIGITS_LIMIT}
+use Rattle.program_words.specs.declared.numeric_word.TheConstants.{LOAD_LIMIT, DIGITS_LIMIT}
 use Rattle.program_words.specs.declared.subcommand.Subcommand.{Subcommand}
 use Rattle.program_words.specs.declared.subcommand.Subcommand.TheVariants as subcommands
 

@@ -25,7 +25,7 @@
 
 mod command;
 pub mod laws;
-mod number;
+mod numeric_word;
 mod podctl_options;
 mod podctl_reader;
 mod podd_options;
@@ -33,7 +33,7 @@ mod podd_reader;
 mod subcommand;
 
 pub use command::{Asking, Command};
-pub use number::{DIGITS_LIMIT, LOAD_LIMIT, number_up_to};
+pub use numeric_word::{DIGITS_LIMIT, LOAD_LIMIT, number_up_to};
 pub use podctl_options::{Mode, is_dashed};
 pub use podctl_reader::read;
 pub use podd_reader::{

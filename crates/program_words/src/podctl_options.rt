@@ -31,15 +31,15 @@ pub(crate) struct Given<'a> {
     pub(crate) mode: Mode,
 }
 
-/// Whether a word begins with `-`, as no value does.
+/// Whether a word of `podctl` begins with `-`, as no value of an option does.
 pub fn is_dashed(word: &str) -> bool
     ensures { result ≡ spec.is_dashed word.now }
 {
     word.as_bytes().starts_with(b"-")
 }
 
-/// The new value of an option, where it had none before.
-fn first<'a>(before: Option<&'a str>, value: &'a str) -> Option<&'a str>
+/// The new value of an option of `podctl`, where it had none before.
+fn first_value<'a>(before: Option<&'a str>, value: &'a str) -> Option<&'a str>
     ensures { option_map (λ word. word.now) result
         ≡ (if is_some before.entry then None else Some value.now) }
 {
@@ -50,7 +50,7 @@ fn first<'a>(before: Option<&'a str>, value: &'a str) -> Option<&'a str>
 }
 
 impl<'a> Given<'a> {
-    /// Nothing is set.
+    /// What is set before any word of `podctl` sets an option.
     pub(crate) fn nothing() -> Given<'a>
         ensures { given_of result ≡ spec.nothing_given }
     {
@@ -66,35 +66,35 @@ impl<'a> Given<'a> {
         }
     }
 
-    /// Sets an option's value, where it has none yet.
+    /// Sets the value of an option of `podctl`, where it has none yet.
     fn with_parameter(self, parameter: Parameter, value: &'a str) -> Option<Given<'a>>
         ensures { option_map given_of result
             ≡ spec.with_parameter parameter value.now (given_of self.entry) }
     {
         match parameter {
             Parameter::Base => {
-                let base = first(self.base, value)?;
+                let base = first_value(self.base, value)?;
                 Some(Given {
                     base: Some(base),
                     ..self
                 })
             }
             Parameter::Owner => {
-                let owner = first(self.owner, value)?;
+                let owner = first_value(self.owner, value)?;
                 Some(Given {
                     owner: Some(owner),
                     ..self
                 })
             }
             Parameter::Fresh => {
-                let fresh = first(self.fresh, value)?;
+                let fresh = first_value(self.fresh, value)?;
                 Some(Given {
                     fresh: Some(fresh),
                     ..self
                 })
             }
             Parameter::Agent => {
-                let agent = first(self.agent, value)?;
+                let agent = first_value(self.agent, value)?;
                 Some(Given {
                     agent: Some(agent),
                     ..self
@@ -103,7 +103,7 @@ impl<'a> Given<'a> {
         }
     }
 
-    /// The same, where the value is no option.
+    /// Sets the value of an option of `podctl`, where it has none yet and the value is no option.
     fn with_value(self, parameter: Parameter, value: &'a str) -> Option<Given<'a>>
         ensures { option_map given_of result
             ≡ spec.with_value parameter value.now (given_of self.entry) }
@@ -115,7 +115,7 @@ impl<'a> Given<'a> {
         }
     }
 
-    /// Sets a flag, where it isn't set yet.
+    /// Sets a flag of `podctl`, where it isn't set yet.
     fn with_flag(self, flag: Flag) -> Option<Given<'a>>
         ensures { option_map given_of result ≡ spec.with_flag flag (given_of self.entry) }
     {
@@ -143,7 +143,7 @@ impl<'a> Given<'a> {
         }
     }
 
-    /// Sets the operand, where the subcommand has one and it isn't set yet.
+    /// Sets the operand of a subcommand of `podctl`, where it has one and it isn't set yet.
     fn with_operand(self, subcommand: Subcommand, word: &'a str) -> Option<Given<'a>>
         ensures { option_map given_of result
             ≡ spec.with_operand subcommand word.now (given_of self.entry) }
@@ -158,7 +158,7 @@ impl<'a> Given<'a> {
         }
     }
 
-    /// Reads a word where options may be.
+    /// Reads a word of `podctl` where options may be.
     fn after_option(self, subcommand: Subcommand, word: &'a str) -> Option<Given<'a>>
         ensures { option_map given_of result
             ≡ spec.after_option subcommand word.now (given_of self.entry) }
@@ -184,7 +184,7 @@ impl<'a> Given<'a> {
         }
     }
 
-    /// Reads one more word.
+    /// Reads one more word after a subcommand of `podctl`.
     fn after_word(self, subcommand: Subcommand, word: &'a str) -> Option<Given<'a>>
         ensures { option_map given_of result
             ≡ spec.after_word subcommand (given_of self.entry) word.now }
@@ -203,8 +203,8 @@ impl<'a> Given<'a> {
     }
 }
 
-/// Reads these words, after those that set this. Each option is set once, so the depth of the
-/// recursion is bounded by the number of options.
+/// Reads these words after a subcommand of `podctl`, after those that set this. Each option is set
+/// once, so the depth of the recursion is bounded by the number of options.
 fn given_after<'a>(
     words: &'a [String],
     subcommand: Subcommand,
@@ -222,7 +222,7 @@ fn given_after<'a>(
     }
 }
 
-/// What the words after a subcommand set.
+/// What the words after a subcommand of `podctl` set of its options.
 pub(crate) fn given_by<'a>(subcommand: Subcommand, words: &'a [String]) -> Option<Given<'a>>
     ensures { option_map given_of result
         ≡ spec.given_after subcommand spec.nothing_given (map string_bytes words.now) }

@@ -7,7 +7,7 @@ ghost use Rattle.program_words.specs.Readings.{IsSound, reading};
 ghost use Rattle.program_words.specs.Readings as spec;
 
 use crate::command::{Asking, Command};
-use crate::number::{LOAD_LIMIT, number_up_to};
+use crate::numeric_word::{LOAD_LIMIT, number_up_to};
 use crate::podctl_options::{Given, Mode, given_by};
 use crate::subcommand::Subcommand;
 use iri_ref::{Iri, IriFault};
@@ -16,7 +16,7 @@ use pod_rows::is_base;
 use std::alloc::Global;
 use token_table::laws::agents_are_absolute;
 
-/// The agent whom a word names, where it is an absolute IRI.
+/// Reads the agent whom a word of `podctl` names, where it is an absolute IRI.
 fn agent_of(alloc: Global, word: &str) -> Mem<Option<Iri>>
     ensures agent { IfOk result (λ found. found ≡ spec.agent_of word.now) }
     ensures out_of_memory { IfErr result (λ _. is_some (spec.agent_of word.now) ≡ true) }
@@ -29,7 +29,7 @@ fn agent_of(alloc: Global, word: &str) -> Mem<Option<Iri>>
     }
 }
 
-/// A store with that base, where the word is one.
+/// Reads the command `podctl init` of a store with that base, where the word is one.
 fn init_of(alloc: Global, base: &str, owner: &str) -> Mem<Option<Command>>
     ensures command { IfOk result (λ found. found ≡ spec.init_of base.now owner.now) }
     ensures out_of_memory { IfErr result (λ _.
@@ -48,7 +48,7 @@ fn init_of(alloc: Global, base: &str, owner: &str) -> Mem<Option<Command>>
     }
 }
 
-/// A store, where base and owner are given.
+/// Reads the command `podctl init` of a store, where base and owner are given.
 fn init_from(alloc: Global, base: Option<&str>, owner: Option<&str>) -> Mem<Option<Command>>
     ensures command { IfOk result (λ found. found ≡ spec.init_from
         (option_copied base.entry) (option_copied owner.entry)) }
@@ -64,7 +64,7 @@ fn init_from(alloc: Global, base: Option<&str>, owner: Option<&str>) -> Mem<Opti
     }
 }
 
-/// The owner of a new pod in memory.
+/// Reads the owner of a new pod in memory, for the command `podctl pipe --fresh`.
 fn fresh_of(alloc: Global, owner: &str) -> Mem<Option<Asking>>
     ensures asking { IfOk result (λ found. found ≡ spec.asking_of false (Some owner.now)) }
     ensures out_of_memory { IfErr result (λ _.
@@ -77,7 +77,7 @@ fn fresh_of(alloc: Global, owner: &str) -> Mem<Option<Asking>>
     }
 }
 
-/// How the requests of a connection are authenticated; none where both options are set.
+/// Reads how the requests of `podctl pipe` are authenticated; none where both options are set.
 fn asking_of(alloc: Global, as_owner: bool, fresh: Option<&str>) -> Mem<Option<Asking>>
     ensures asking { IfOk result (λ found. found
         ≡ spec.asking_of as_owner (option_copied fresh.entry)) }
@@ -102,7 +102,7 @@ fn asking_of(alloc: Global, as_owner: bool, fresh: Option<&str>) -> Mem<Option<A
     }
 }
 
-/// A connection whose requests are authenticated so.
+/// Reads the command `podctl pipe` of a connection whose requests are authenticated so.
 fn pipe_from(trail: bool, asking: Option<Asking>) -> Option<Command>
     ensures { result ≡ spec.pipe_from trail asking }
 {
@@ -112,7 +112,7 @@ fn pipe_from(trail: bool, asking: Option<Asking>) -> Option<Command>
     }
 }
 
-/// A connection.
+/// Reads the command `podctl pipe` of a connection.
 fn pipe_of(alloc: Global, as_owner: bool, fresh: Option<&str>, trail: bool) -> Mem<Option<Command>>
     ensures command { IfOk result (λ found. found
         ≡ spec.pipe_from trail (spec.asking_of as_owner (option_copied fresh.entry))) }
@@ -125,7 +125,7 @@ fn pipe_of(alloc: Global, as_owner: bool, fresh: Option<&str>, trail: bool) -> M
     }
 }
 
-/// A run of the load generator, where its number of requests is given.
+/// Reads the command `podctl load`, where its number of requests is given.
 fn load_from(operand: Option<&str>) -> Option<Command>
     ensures { result ≡ spec.load_from (option_copied operand.entry) }
 {
@@ -133,7 +133,7 @@ fn load_from(operand: Option<&str>) -> Option<Command>
     Some(Command::Load(requests))
 }
 
-/// The report of the agent whom a word names, where it is an absolute IRI.
+/// Reads the command `podctl report` on the agent whom a word names, where it is an absolute IRI.
 fn report_on(alloc: Global, agent: &str) -> Mem<Option<Command>>
     ensures command { IfOk result (λ found. found ≡ spec.report_from (Some agent.now)) }
     ensures out_of_memory { IfErr result (λ _.
@@ -146,7 +146,7 @@ fn report_on(alloc: Global, agent: &str) -> Mem<Option<Command>>
     }
 }
 
-/// A report: of an agent where one is given, and else of everyone.
+/// Reads the command `podctl report`: of an agent where one is given, and else of everyone.
 fn report_from(alloc: Global, agent: Option<&str>) -> Mem<Option<Command>>
     ensures command { IfOk result (λ found. found ≡ spec.report_from (option_copied agent.entry)) }
     ensures out_of_memory { IfErr result (λ _.
@@ -158,7 +158,7 @@ fn report_from(alloc: Global, agent: Option<&str>) -> Mem<Option<Command>>
     }
 }
 
-/// The command of a subcommand whose words set this.
+/// Reads the command of a subcommand of `podctl` whose words set this.
 fn command_of(alloc: Global, subcommand: Subcommand, given: Given) -> Mem<Option<Command>>
     ensures command { IfOk result (λ found. found
         ≡ spec.command_of subcommand (given_of given.entry)) }
@@ -177,7 +177,8 @@ fn command_of(alloc: Global, subcommand: Subcommand, given: Given) -> Mem<Option
     }
 }
 
-/// The same, where no option is without its value.
+/// Reads the command of a subcommand of `podctl` whose words set this, where no option is without
+/// its value.
 fn command_from(alloc: Global, subcommand: Subcommand, given: Given) -> Mem<Option<Command>>
     ensures command { IfOk result (λ found. found
         ≡ spec.command_from subcommand (given_of given.entry)) }
@@ -191,7 +192,7 @@ fn command_from(alloc: Global, subcommand: Subcommand, given: Given) -> Mem<Opti
     }
 }
 
-/// The command of a subcommand with these words after it.
+/// Reads the command of a subcommand of `podctl` with these words after it.
 fn command_after(alloc: Global, words: &[String], subcommand: Subcommand) -> Mem<Option<Command>>
     ensures command { IfOk result (λ found. found
         ≡ spec.command_after (map string_bytes words.now) subcommand) }
@@ -204,7 +205,7 @@ fn command_after(alloc: Global, words: &[String], subcommand: Subcommand) -> Mem
     }
 }
 
-/// The same of a first word.
+/// Reads the command of `podctl` whose subcommand the first word names, with these words after it.
 fn command_named(alloc: Global, word: &str, words: &[String]) -> Mem<Option<Command>>
     ensures command { IfOk result (λ found. found
         ≡ spec.command_named word.now (map string_bytes words.now)) }
@@ -217,8 +218,9 @@ fn command_named(alloc: Global, word: &str, words: &[String]) -> Mem<Option<Comm
     }
 }
 
-/// The command of the words after the program's name; none where they have no reading. Whether they
-/// have one is decided without memory, so the call is out of memory only where they do.
+/// Reads the command of `podctl` from the words after the program's name; none where they are
+/// invalid. Whether they are is decided without memory, so the call is out of memory only where
+/// they are valid.
 #[tactic(auto, unfolding(crate::specs::Readings::reading))]
 pub fn read(alloc: Global, words: &[String]) -> Mem<Option<Command>>
     ensures reading { IfOk result (λ found. found ≡ reading (map string_bytes words.now)) }

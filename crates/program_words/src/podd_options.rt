@@ -35,7 +35,7 @@ pub struct Given {
     pub mode: Mode,
 }
 
-/// The option that a word is.
+/// The option of `podd` that a word is.
 fn parameter_of(word: &str) -> Option<Parameter>
     ensures { result ≡ spec.parameter_of word.now }
 {
@@ -46,7 +46,7 @@ fn parameter_of(word: &str) -> Option<Parameter>
     }
 }
 
-/// The option that a word names together with its value.
+/// The option of `podd` that a word names together with its value.
 fn assigned_of(word: &str) -> Option<(Parameter, &str)>
     ensures { option_map (λ p. (p.0, p.1.now)) result ≡ spec.assigned_of word.now }
 {
@@ -55,7 +55,7 @@ fn assigned_of(word: &str) -> Option<(Parameter, &str)>
     Some((parameter, value))
 }
 
-/// The number that a word is, from 1 to a limit.
+/// The number that the value of an option of `podd` is, from 1 to a limit.
 fn positive(word: &str, most: u16) -> Option<u16>
     ensures { result ≡ spec.positive most word.now }
 {
@@ -63,7 +63,7 @@ fn positive(word: &str, most: u16) -> Option<u16>
     if number == 0 { None } else { Some(number) }
 }
 
-/// The new value of an option, where it had none before.
+/// The new value of an option of `podd`, where it had none before.
 fn first_setting(before: Option<u16>, value: Option<u16>) -> Option<u16>
     ensures { result ≡ (if is_some before then None else value) }
 {
@@ -74,7 +74,7 @@ fn first_setting(before: Option<u16>, value: Option<u16>) -> Option<u16>
 }
 
 impl Given {
-    /// Nothing is set.
+    /// What is set before any word of `podd` sets an option.
     pub(crate) fn nothing() -> Given
         ensures { result ≡ spec.nothing_given }
     {
@@ -85,7 +85,7 @@ impl Given {
         }
     }
 
-    /// Sets an option's value, where it has none yet.
+    /// Sets the value of an option of `podd`, where it has none yet.
     fn with_value(self, parameter: Parameter, value: &str) -> Option<Given>
         ensures { result ≡ spec.with_value parameter value.now self }
     {
@@ -109,7 +109,7 @@ impl Given {
         }
     }
 
-    /// Reads a word where options may be.
+    /// Reads a word of `podd` where options may be.
     fn after_option(self, word: &str) -> Option<Given>
         ensures { result ≡ spec.after_option word.now self }
     {
@@ -131,7 +131,7 @@ impl Given {
         }
     }
 
-    /// Reads one more word.
+    /// Reads one more word of `podd`.
     fn after_word(self, word: &str) -> Option<Given>
         ensures { result ≡ spec.after_word self word.now }
     {
@@ -143,8 +143,8 @@ impl Given {
     }
 }
 
-/// Reads these words, after those that set this. Each option is set once, so the depth of the
-/// recursion is bounded by the number of options.
+/// Reads these words of `podd`, after those that set this. Each option is set once, so the depth of
+/// the recursion is bounded by the number of options.
 pub(crate) fn given_after(words: &[String], given: Given) -> Option<Given>
     ensures { result ≡ spec.given_after given (map string_bytes words.now) }
 {

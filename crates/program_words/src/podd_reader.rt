@@ -27,7 +27,8 @@ pub struct Settings {
     pub workers: u16,
 }
 
-/// The settings of what words have set; none where an option is without its value.
+/// Reads the settings of `podd` from what its words have set; none where an option is without its
+/// value.
 fn settings_of(given: Given) -> Option<Settings>
     ensures { result ≡ spec.settings_of given }
 {
@@ -42,7 +43,7 @@ fn settings_of(given: Given) -> Option<Settings>
     }
 }
 
-/// The settings of words, by what these have set.
+/// Reads the settings of `podd` from its words, by what these have set.
 fn settings_in(words: &[String]) -> Option<Settings>
     ensures { result ≡ option_and_then spec.settings_of
         (spec.given_after spec.nothing_given (map string_bytes words.now)) }
@@ -50,10 +51,10 @@ fn settings_in(words: &[String]) -> Option<Settings>
     settings_of(given_after(words, Given::nothing())?)
 }
 
-/// The settings of the words after the program's name: `--port P`, from 1 to [`PORT_LIMIT`] and
-/// [`DEFAULT_PORT`] where it is absent, and `--workers W`, from 1 to [`WORKERS_LIMIT`] and
-/// [`DEFAULT_WORKERS`] where it is absent, each at most once, in two words or as `--name=value`.
-/// None where the words are invalid.
+/// Reads the settings of `podd` from the words after the program's name: `--port P`, from 1 to
+/// [`PORT_LIMIT`] and [`DEFAULT_PORT`] where it is absent, and `--workers W`, from 1 to
+/// [`WORKERS_LIMIT`] and [`DEFAULT_WORKERS`] where it is absent, each at most once, in two words or
+/// as `--name=value`. None where the words are invalid.
 #[tactic(auto, unfolding(crate::specs::PoddReadings::reading))]
 pub fn read_settings(words: &[String]) -> Option<Settings>
     ensures reading { result ≡ reading (map string_bytes words.now) }

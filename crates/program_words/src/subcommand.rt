@@ -39,7 +39,7 @@ pub enum Flag {
     Trail,
 }
 
-/// What precedes the first `=` of a word, and what follows it.
+/// Splits a word such as `--base=B` of a subcommand at its first `=`.
 pub fn split_value(word: &str) -> Option<(&str, &str)>
     ensures { option_map (λ p. (p.0.now, p.1.now)) result ≡ spec.split_value word.now }
 {
@@ -64,14 +64,14 @@ impl Subcommand {
         }
     }
 
-    /// Whether it has an operand.
+    /// Whether the subcommand has an operand.
     pub(crate) fn has_operand(self) -> bool
         ensures { result ≡ spec.has_operand self }
     {
         matches!(self, Subcommand::Load)
     }
 
-    /// The flag that a word is.
+    /// The flag of the subcommand that a word is.
     pub(crate) fn flag_of(self, word: &str) -> Option<Flag>
         ensures { result ≡ spec.flag_of self word.now }
     {
@@ -85,7 +85,7 @@ impl Subcommand {
         }
     }
 
-    /// The parameter whose word it is: its value is the next word.
+    /// The parameter of the subcommand whose word it is: its value is the next word.
     pub(crate) fn parameter_of(self, word: &str) -> Option<Parameter>
         ensures { result ≡ spec.parameter_of self word.now }
     {
@@ -107,7 +107,7 @@ impl Subcommand {
         }
     }
 
-    /// The parameter that a word names together with its value.
+    /// The parameter of the subcommand that a word names together with its value.
     pub(crate) fn assigned_of<'a>(self, word: &'a str) -> Option<(Parameter, &'a str)>
         ensures { option_map (λ p. (p.0, p.1.now)) result ≡ spec.assigned_of self word.now }
     {

@@ -24,11 +24,10 @@
 #![tactic(auto)]
 
 mod fault;
-mod front;
+mod list_prefix;
 mod list_rule;
 mod look_counter;
 mod looker;
-mod open;
 mod publisher;
 mod refused_openings;
 mod represented_list;
@@ -36,13 +35,14 @@ mod represented_list;
 mod tests;
 mod version_with_list;
 mod view_name;
+mod view_opening;
 
 pub use fault::ViewFault;
-pub use front::{Front, NewList};
+pub use list_prefix::{Front, NewList};
 pub use looker::Looker;
-pub use open::{READERS_LIMIT, open_view};
 pub use publisher::Publisher;
 pub use refused_openings::Places;
 pub use represented_list::Told;
 pub use version_with_list::{KeptTwice, VersionWithList};
 pub use view_name::ViewName;
+pub use view_opening::{READERS_LIMIT, open_view};

@@ -6,7 +6,7 @@ ghost use Rattle.published_view.specs.LookerState.{IsOneLook, IsRefusedLook, OnN
 ghost use Rattle.published_view.specs.LookSteps.{looks_of, given_of};
 
 use crate::fault::ViewFault;
-use crate::front::Front;
+use crate::list_prefix::Front;
 use crate::look_counter::{LookCounter, LookRecord, LookStep};
 use crate::represented_list::Told;
 use crate::version_with_list::VersionWithList;
@@ -50,7 +50,8 @@ struct Found<V: Told, N: ViewName<V::Item>> {
     front: Front<V::Item, N>,
 }
 
-/// Makes one entry, and returns what is published then. `None` where `left_right` refused it.
+/// Makes one entry of a looker, and returns what is published then. `None` where `left_right`
+/// refused it.
 fn enter<V: Told, N: ViewName<V::Item>>(
     reader: Reader<VersionWithList<V, N>, LookRecord<V::Item>, LookCounter>,
 ) -> (
@@ -76,7 +77,7 @@ fn enter<V: Told, N: ViewName<V::Item>>(
 }
 
 impl<V: Told, N: ViewName<V::Item>> Looker<V, N> {
-    /// A looker that has seen this front.
+    /// A looker that has seen this prefix of the view's list.
     pub(crate) fn of(
         reader: Reader<VersionWithList<V, N>, LookRecord<V::Item>, LookCounter>,
         front: &Front<V::Item, N>,
@@ -95,9 +96,10 @@ impl<V: Told, N: ViewName<V::Item>> Looker<V, N> {
         }
     }
 
-    /// Makes one entry, and returns the version that is published then. It waits for nobody and
-    /// takes no memory: `NoMemory` says that the `Arc` has as many owners as it can count.
-    /// `NoPlace` says that `left_right` refused the entry, as it does once the view has ended.
+    /// Makes one look, which is one entry, and returns the version that is published then. It waits
+    /// for nobody and takes no memory: `NoMemory` says that the `Arc` has as many owners as it can
+    /// count. `NoPlace` says that `left_right` refused the entry, as it does once the view has
+    /// ended.
     pub fn look(&mut self) -> Result<Arc<V>, ViewFault>
         ensures version { IfOk result
             (λ version. V.stands (arc_value version) N.first_number self.new.seen) }
@@ -130,7 +132,7 @@ impl<V: Told, N: ViewName<V::Item>> Looker<V, N> {
         }
     }
 
-    /// Later looks hold at least this front.
+    /// Has later looks of the looker hold at least this front.
     pub fn learn(&mut self, front: Front<V::Item, N>)
         ensures told { IsPrefix front self.new.told }
         ensures kept { IsPrefix self.old.told self.new.told }
@@ -140,14 +142,14 @@ impl<V: Told, N: ViewName<V::Item>> Looker<V, N> {
         self.told = self.told.longer(&front);
     }
 
-    /// The list that it has seen.
+    /// The list that the looker has seen.
     pub fn seen(&self) -> &Front<V::Item, N>
         ensures { result.now ≡ self.now.seen }
     {
         &self.seen
     }
 
-    /// How many entries were refused. The count stands still at its last value.
+    /// How many entries of the looker were refused. The count stands still at its last value.
     pub fn refused(&self) -> u64
         ensures { result ≡ self.now.refused }
     {

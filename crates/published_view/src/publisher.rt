@@ -9,7 +9,7 @@ ghost use Rattle.published_view.specs.LookerState.{IsNewLooker, CountIncreasedBy
 ghost use Rattle.published_view.specs.LookerState.{OnNoPlace, NotNoPlace};
 
 use crate::fault::ViewFault;
-use crate::front::{Front, LengthWord, NewList};
+use crate::list_prefix::{Front, LengthWord, NewList};
 use crate::look_counter::{LookCounter, LookRecord, PublishStep};
 use crate::looker::Looker;
 use crate::refused_openings::Places;
@@ -64,7 +64,7 @@ where
 }
 
 impl<V: Told, N: ViewName<V::Item>> Publisher<V, N> {
-    /// Makes the two copies of this version, with room for so many readers.
+    /// Opens the publisher of a view with two copies of this version, and room for so many readers.
     pub(crate) fn open(
         alloc: Global,
         list: NewList<V::Item>,
@@ -96,7 +96,7 @@ impl<V: Told, N: ViewName<V::Item>> Publisher<V, N> {
         })
     }
 
-    /// A looker that has seen what is published, if `left_right` has a place for it.
+    /// A looker that has seen what the publisher has published, if `left_right` has a place for it.
     pub(crate) fn looker(&self, places: &mut Places) -> Result<Looker<V, N>, ViewFault>
         ensures looker { IfOk result (λ looker. IsNewLooker self.now.list looker) }
         ensures table { IfOk result (λ looker. looker.table ≡ self.now.table) }
@@ -112,7 +112,8 @@ impl<V: Told, N: ViewName<V::Item>> Publisher<V, N> {
         }
     }
 
-    /// The next publication gives this version, whatever was prepared before. It takes no memory.
+    /// Prepares the version that the publisher publishes next, whatever was prepared before. It
+    /// takes no memory.
     pub fn prepare(&mut self, next: Arc<V>)
         ensures next { self.new.next ≡ Some (arc_value next) }
         ensures rest { record self.new { next = self.old.next } ≡ self.old }
@@ -120,7 +121,7 @@ impl<V: Told, N: ViewName<V::Item>> Publisher<V, N> {
         self.next = Some(next);
     }
 
-    /// What is published, for a looker to learn.
+    /// The list that the publisher has published, for a looker to learn.
     pub fn tell(&self) -> Front<V::Item, N>
         ensures list { result ≡ self.now.list }
         ensures stands { V.stands self.now.version N.first_number self.now.list }
@@ -154,8 +155,8 @@ impl<V: Told, N: ViewName<V::Item>> Publisher<V, N> {
         publish_appended(rt, &mut self.copies);
     }
 
-    /// Ends the view, and gives the version that was published last. It waits for the readers;
-    /// looks that come later answer `NoPlace`.
+    /// Ends the publisher's view, and returns the version that was published last. It waits for the
+    /// readers; looks that come later answer `NoPlace`.
     pub fn close<R: Wait>(self, rt: &R) -> Arc<V>
         ensures { arc_value result ≡ self.version }
     {
@@ -169,7 +170,7 @@ impl<V: Told, N: ViewName<V::Item>> Publisher<V, N> {
     }
 }
 
-/// Makes the two copies.
+/// Makes the two copies of what a publisher has published.
 fn make_copies<V: Told, N: ViewName<V::Item>>(
     alloc: Global,
     first: VersionWithList<V, N>,
@@ -183,7 +184,7 @@ fn make_copies<V: Told, N: ViewName<V::Item>>(
     Ok(Writer::new(alloc, first, second, readers)?)
 }
 
-/// The list with this item appended.
+/// The published list with this item appended.
 fn extend_list<I, N: ViewName<I>, R: Wait>(
     rt: &R,
     length: &LengthWord<I, N>,
@@ -201,7 +202,7 @@ fn extend_list<I, N: ViewName<I>, R: Wait>(
     unreachable!()
 }
 
-/// Appends a version to those that wait to be shown, however often memory is missing.
+/// Appends a version to those that wait to be published, however often memory is missing.
 fn append_until<V: Told, N: ViewName<V::Item>, R: Wait>(
     rt: &R,
     copies: &mut Copies<V, N>,
@@ -221,7 +222,7 @@ fn append_until<V: Told, N: ViewName<V::Item>, R: Wait>(
     unreachable!()
 }
 
-/// Makes one try to show the versions that wait.
+/// Makes one try to publish the versions that wait.
 fn try_publish<V: Told, N: ViewName<V::Item>, R: Wait>(
     rt: &R,
     copies: Copies<V, N>,
@@ -235,7 +236,7 @@ fn try_publish<V: Told, N: ViewName<V::Item>, R: Wait>(
     copies.publish_as::<PublishStep, R>(rt)
 }
 
-/// Shows the versions that wait, however often memory is missing.
+/// Publishes the versions that wait, however often memory is missing.
 fn publish_until<V: Told, N: ViewName<V::Item>, R: Wait>(
     rt: &R,
     copies: Copies<V, N>,
@@ -254,7 +255,7 @@ fn publish_until<V: Told, N: ViewName<V::Item>, R: Wait>(
     unreachable!()
 }
 
-/// The same in place.
+/// Publishes the versions that wait, in place, however often memory is missing.
 fn publish_appended<V: Told, N: ViewName<V::Item>, R: Wait>(rt: &R, copies: &mut Copies<V, N>)
     ensures shown { shown_in copies.new ≡ last_of (shown_in copies.old) (waiting_in copies.old) }
     ensures waiting { waiting_in copies.new ≡ [] }

@@ -19,21 +19,21 @@ impl Model for Places {
 }
 
 impl Places {
-    /// A count at 0.
+    /// A count of refused openings, at 0.
     pub fn new() -> Places
         ensures { result ≡ 0 }
     {
         Places { refused: 0 }
     }
 
-    /// How many openings were refused.
+    /// How many openings of a view were refused.
     pub fn refused(&self) -> u64
         ensures { result ≡ self.now }
     {
         self.refused
     }
 
-    /// Counts a refusal.
+    /// Counts an opening of a view that was refused.
     pub(crate) fn count_refusal(&mut self)
         ensures { CountIncreasedByOne self.old self.new }
     {

@@ -1,5 +1,5 @@
 //! What each of the two copies under a view holds.
-use crate::front::Front;
+use crate::list_prefix::Front;
 use crate::represented_list::Told;
 use crate::view_name::ViewName;
 use left_right::Absorb;

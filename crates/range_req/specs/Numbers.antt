@@ -3,7 +3,7 @@ use Rattle.std.specs.Prelude.{ℕ, ◌+◌, ◌-◌, ◌*◌, Bool, ◌&&◌, mi
 use Rattle.std.specs.Prelude.{◌∷◌, length, Option, Some, None}
 use Rattle.std.specs.List.{list_all}
 use Rattle.std.specs.Char.{is_ascii_digit}
-use Rattle.range_req.specs.declared.number.TheConstants.{NUMBER_LIMIT}
+use Rattle.range_req.specs.declared.position_number.TheConstants.{NUMBER_LIMIT}
 
 -- one digit or more, and nothing else
 abbrev pub is_number : List ℕ → Bool

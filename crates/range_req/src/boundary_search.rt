@@ -10,7 +10,7 @@ use memchr::memmem;
 use pod_base::Mem;
 use std::alloc::{AllocError, Global};
 
-/// Whether the bytes stand somewhere in a body.
+/// Whether a search finds the bytes of a delimiter somewhere in a body.
 fn occurs(body: &[u8], needle: &[u8]) -> bool
     ensures yes { result ≡ true → spec.Occurs body.now needle.now }
     ensures no { result ≡ false → spec.Occurs body.now needle.now → ⊥ }
@@ -21,7 +21,7 @@ fn occurs(body: &[u8], needle: &[u8]) -> bool
     }
 }
 
-/// The boundary with that number.
+/// The boundary with that number, in the order of the search.
 fn boundary(alloc: Global, number: u64) -> Result<String, AllocError>
     ensures { IfOk result (λ text. string_bytes text ≡ spec.boundary number) }
 {
@@ -32,8 +32,8 @@ fn boundary(alloc: Global, number: u64) -> Result<String, AllocError>
     Ok(text)
 }
 
-/// Notes the numbers in decimal digits that begin with those of a number and go on with a text, as
-/// far as the notes go.
+/// Notes the numbers of boundaries whose decimal digits begin with those of a number and go on with
+/// a text, as far as the notes go.
 fn note_longer(noted: &mut [bool], from: usize, text: &[u8])
     requires { 1 ≤ from }
     ensures { numbers.AreNoted noted.old noted.new (numbers.longer_numbers from text.now) }
@@ -56,7 +56,7 @@ fn note_longer(noted: &mut [bool], from: usize, text: &[u8])
     }
 }
 
-/// Notes the numbers whose decimal digits begin a text, as far as the notes go.
+/// Notes the numbers of boundaries whose decimal digits begin a text, as far as the notes go.
 fn note_numbers(noted: &mut [bool], text: &[u8])
     ensures { numbers.AreNoted noted.old noted.new (numbers.first_numbers text.now) }
 {
@@ -77,7 +77,7 @@ fn note_numbers(noted: &mut [bool], text: &[u8])
     note_longer(noted, number, rest);
 }
 
-/// Notes the numbers whose delimiters begin a text.
+/// Notes the numbers of boundaries whose delimiters begin a text.
 fn note_delimiters(noted: &mut [bool], text: &[u8])
     ensures { numbers.AreNoted noted.old noted.new (numbers.delimiter_numbers text.now) }
 {
@@ -86,7 +86,7 @@ fn note_delimiters(noted: &mut [bool], text: &[u8])
     }
 }
 
-/// Notes the numbers whose delimiters are in a body, in one pass.
+/// Searches a body and notes the numbers of boundaries whose delimiters are in it, in one pass.
 fn note_body(noted: &mut [bool], body: &[u8])
     ensures { numbers.AreNoted noted.old noted.new (numbers.body_numbers body.now) }
 {
@@ -97,15 +97,15 @@ fn note_body(noted: &mut [bool], body: &[u8])
     }
 }
 
-/// The first number that isn't noted.
+/// The first number of a boundary that isn't noted.
 fn first_not_noted(noted: &[bool]) -> Option<usize>
     ensures { result ≡ position (λ b. not b) noted.now }
 {
     noted.iter().position(|noted| !*noted)
 }
 
-/// The number of the first boundary whose delimiter isn't in a body. Each one that is ends at a
-/// position of its own, so there are at most as many as bytes.
+/// The number of the first boundary whose delimiter isn't in the searched body. Each one that is
+/// ends at a position of its own, so there are at most as many as bytes.
 fn free_number(alloc: Global, body: &[u8]) -> Mem<u64>
     ensures first { IfOk result (λ number. spec.IsFirstFree body.now number) }
     ensures number { IfOk result (λ number. number ≡ spec.free_number body.now) }
@@ -121,8 +121,8 @@ fn free_number(alloc: Global, body: &[u8]) -> Mem<u64>
     }
 }
 
-/// The first boundary whose delimiter isn't in a body. It takes memory for a note a byte of the
-/// body, but none where the first one is free.
+/// Searches for the first boundary whose delimiter isn't in a body. It takes memory for a note a
+/// byte of the body, but none where the first one is free.
 pub(crate) fn free_boundary(alloc: Global, body: &[u8]) -> Mem<String>
     ensures free { IfOk result (λ text. spec.IsFreeBoundary body.now (string_bytes text)) }
     ensures named { IfOk result (λ text. string_bytes text ≡ spec.free_boundary body.now) }

@@ -3,7 +3,7 @@
 ghost use Rattle.std.specs.Prelude.{◌≡◌, ◌<◌, Some, None};
 ghost use Rattle.range_req.specs.ByteRanges as spec;
 
-use crate::number::number;
+use crate::position_number::number;
 use field_list::{Quoting, split_pair};
 
 /// One range of a Range field (RFC 9110, section 14.1.2).
@@ -24,7 +24,7 @@ pub struct Part {
     pub last: u64,
 }
 
-/// The range of two numbers, where the first isn't the greater one.
+/// The byte range between two positions, where the first isn't the greater one.
 fn between(first: &[u8], last: &[u8]) -> Option<ByteRange>
     ensures { result ≡ spec.between (spec.number first.now) (spec.number last.now) }
 {
@@ -43,7 +43,7 @@ fn between(first: &[u8], last: &[u8]) -> Option<ByteRange>
     }
 }
 
-/// The range from a number on.
+/// The byte range from a position on.
 fn from(first: &[u8]) -> Option<ByteRange>
     ensures { result ≡ spec.from (spec.number first.now) }
 {
@@ -53,7 +53,7 @@ fn from(first: &[u8]) -> Option<ByteRange>
     }
 }
 
-/// The range of the last bytes.
+/// The byte range of so many last bytes.
 fn last_bytes(count: &[u8]) -> Option<ByteRange>
     ensures { result ≡ spec.last_bytes (spec.number count.now) }
 {
@@ -63,7 +63,7 @@ fn last_bytes(count: &[u8]) -> Option<ByteRange>
     }
 }
 
-/// The range that an element is; none where it is malformed.
+/// The byte range that an element is; none where it is malformed.
 pub(crate) fn byte_range(element: &[u8]) -> Option<ByteRange>
     ensures { result ≡ spec.byte_range element.now }
 {
@@ -81,7 +81,8 @@ pub(crate) fn byte_range(element: &[u8]) -> Option<ByteRange>
     }
 }
 
-/// The part of a body of that size that begins at a position and ends at another, or with the body.
+/// The part of a body of that size that a byte range from one position to another is, up to the
+/// body's end.
 fn part_up_to(first: u64, last: u64, size: u64) -> Option<Part>
     ensures { result ≡ spec.part_up_to first last size }
 {
@@ -95,7 +96,7 @@ fn part_up_to(first: u64, last: u64, size: u64) -> Option<Part>
     }
 }
 
-/// The part of a body of that size that a range is; none where it has no byte there.
+/// The part of a body of that size that a byte range is; none where it has no byte there.
 pub(crate) fn part_in(size: u64, range: ByteRange) -> Option<Part>
     ensures { result ≡ spec.part_in size range }
 {

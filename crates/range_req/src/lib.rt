@@ -22,10 +22,10 @@
 mod boundary_search;
 mod byte_range;
 mod multipart_body;
-mod number;
+mod position_number;
 mod range_set;
 
 pub use byte_range::{ByteRange, Part};
 pub use multipart_body::{multipart, part_bytes};
-pub use number::NUMBER_LIMIT;
+pub use position_number::NUMBER_LIMIT;
 pub use range_set::{RANGE_LIMIT, RangeSet, ranges};

@@ -12,7 +12,7 @@ use itoa::Buffer;
 use pod_base::{Bytes, BytesBuilder, List, Mem, Rope, Text};
 use std::alloc::Global;
 
-/// Appends pieces one after another.
+/// Appends pieces of text to a multipart body, one after another.
 fn append_all(alloc: Global, text: &mut BytesBuilder, pieces: &[&[u8]]) -> Mem<()>
     ensures { IfOk result (λ _. text.new ≡ text.old ++ flat_map (λ p. p.now) pieces.now) }
 {
@@ -22,7 +22,7 @@ fn append_all(alloc: Global, text: &mut BytesBuilder, pieces: &[&[u8]]) -> Mem<(
     Ok(())
 }
 
-/// Appends the fields of a part.
+/// Appends the fields of a part of a multipart body.
 fn append_fields(
     alloc: Global,
     text: &mut BytesBuilder,
@@ -52,7 +52,8 @@ fn append_fields(
     )
 }
 
-/// The bytes of a part of a body, which share its block. It takes no memory.
+/// The bytes of one part of a body, alone or in a multipart body, which share the body's block. It
+/// takes no memory.
 pub fn part_bytes(alloc: Global, body: &Bytes, part: &Part) -> Mem<Bytes>
     requires { is_within (length body.now) part.now ≡ true }
     ensures { IfOk result (λ bytes. bytes ≡ slice_range body.now part.now.first (part.now.last + 1)) }
@@ -61,7 +62,7 @@ pub fn part_bytes(alloc: Global, body: &Bytes, part: &Part) -> Mem<Bytes>
     body.slice(alloc, part.first as usize, part.last as usize + 1)
 }
 
-/// What precedes the bytes of a part: its delimiter and its fields.
+/// What precedes the bytes of a part in a multipart body: its delimiter and its fields.
 fn part_head(alloc: Global, boundary: &str, ctype: &str, part: &Part, size: u64) -> Mem<Bytes>
     ensures { IfOk result (λ head. head
         ≡ spec.delimiter boundary.now ++ spec.part_fields ctype.now part.now size) }
@@ -72,7 +73,8 @@ fn part_head(alloc: Global, boundary: &str, ctype: &str, part: &Part, size: u64)
     head.freeze(alloc)
 }
 
-/// Appends a part: its delimiter, its fields and its bytes, which aren't copied.
+/// Appends a part to a multipart body: its delimiter, its fields and its bytes, which aren't
+/// copied.
 fn push_part(
     alloc: Global,
     text: &mut Rope,
@@ -92,7 +94,7 @@ fn push_part(
     Ok(())
 }
 
-/// Appends all parts.
+/// Appends all parts to a multipart body.
 fn push_parts(
     alloc: Global,
     text: &mut Rope,
@@ -112,7 +114,7 @@ fn push_parts(
     Ok(())
 }
 
-/// The last delimiter.
+/// The delimiter at the end of a multipart body.
 fn last_delimiter(alloc: Global, boundary: &str) -> Mem<Bytes>
     ensures { IfOk result (λ end. end ≡ spec.delimiter boundary.now ++ codes "--\r\n") }
 {
@@ -125,7 +127,8 @@ fn last_delimiter(alloc: Global, boundary: &str) -> Mem<Bytes>
     end.freeze(alloc)
 }
 
-/// The boundary and the body of a response with these parts of a body, whose bytes are shared.
+/// The boundary of a multipart body, and that body with these parts of a body, whose bytes are
+/// shared.
 ///
 /// The boundary is the first of `pod-0`, `pod-1`, .. whose delimiter isn't in the body. The content
 /// type of the response is `multipart/byteranges; boundary=` and the boundary.

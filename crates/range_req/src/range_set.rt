@@ -25,7 +25,7 @@ pub enum RangeSet {
     Parts(List<Part>),
 }
 
-/// What follows the unit, where that is bytes.
+/// The set of ranges after the unit of a Range field's value, where that is bytes.
 fn after_unit(value: &[u8]) -> Option<&[u8]>
     ensures some { IfSome result (λ rest. (spec.has_unit value.now ≡ true) × (rest.now ≡ spec.after_unit value.now)) }
     ensures none { IfNone result (spec.has_unit value.now ≡ false) }
@@ -41,7 +41,7 @@ fn after_unit(value: &[u8]) -> Option<&[u8]>
     }
 }
 
-/// Whether the first byte that isn't blank is a comma.
+/// Whether the first byte of a list of ranges that isn't blank is a comma.
 fn begins_with_comma(list: &[u8]) -> bool
     ensures { result ≡ spec.begins_with_comma list.now }
 {
@@ -51,7 +51,7 @@ fn begins_with_comma(list: &[u8]) -> bool
     }
 }
 
-/// Whether the last byte is a comma.
+/// Whether the last byte of a list of ranges is a comma.
 fn ends_with_comma(list: &[u8]) -> bool
     ensures { result ≡ spec.begins_with_comma (reverse list.now) }
 {
@@ -61,7 +61,7 @@ fn ends_with_comma(list: &[u8]) -> bool
     }
 }
 
-/// Whether a list begins with a blank only before a comma.
+/// Whether a list of ranges begins with a blank only before a comma.
 fn begins_tight(list: &[u8]) -> bool
     ensures { result ≡ spec.begins_tight list.now }
 {
@@ -69,7 +69,7 @@ fn begins_tight(list: &[u8]) -> bool
     rest.len() == list.len() || begins_with_comma(rest)
 }
 
-/// Whether a list ends with a blank only after a comma.
+/// Whether a list of ranges ends with a blank only after a comma.
 fn ends_tight(list: &[u8]) -> bool
     ensures { result ≡ spec.begins_tight (reverse list.now) }
 {
@@ -90,7 +90,7 @@ fn are_ranges(list: &[u8]) -> bool
     true
 }
 
-/// Whether a list has an element, and at most [`RANGE_LIMIT`].
+/// Whether a list has at least one range, and at most [`RANGE_LIMIT`].
 fn is_within_limit(list: &[u8]) -> bool
     ensures { result ≡ spec.is_within_limit (elements Strings list.now) }
 {
@@ -105,14 +105,14 @@ fn is_within_limit(list: &[u8]) -> bool
     count > 0
 }
 
-/// Whether a list is well-formed.
+/// Whether a list of ranges is well-formed.
 fn is_well_formed(list: &[u8]) -> bool
     ensures { result ≡ spec.is_range_list list.now }
 {
     begins_tight(list) && ends_tight(list) && are_ranges(list) && is_within_limit(list)
 }
 
-/// Appends the part that an element is, if it is one.
+/// Appends the part of a body that a range of the list is, if it is one.
 fn add_part(parts: &mut Vec<Part>, element: &[u8], size: u64) -> Mem<()>
     ensures { IfOk result (λ _. parts.new.items ≡ spec.with_element size parts.old.items element.now) }
 {
@@ -124,7 +124,7 @@ fn add_part(parts: &mut Vec<Part>, element: &[u8], size: u64) -> Mem<()>
     Ok(())
 }
 
-/// The parts of a body of that size that the elements of a list are.
+/// The parts of a body of that size that the ranges of a list are.
 fn parts_of(alloc: Global, list: &[u8], size: u64) -> Mem<Vec<Part>>
     ensures { IfOk result (λ parts. parts.items ≡ spec.parts_in size (elements Strings list.now)) }
 {
@@ -136,7 +136,7 @@ fn parts_of(alloc: Global, list: &[u8], size: u64) -> Mem<Vec<Part>>
     Ok(parts)
 }
 
-/// What the value of a Range field asks for, of a body of that size.
+/// What the set of ranges in a Range field's value asks for, of a body of that size.
 ///
 /// The value is `bytes=`, in any case, and a list of `a-b`, `a-` and `-n` (RFC 9110, section
 /// 14.1.2). The field is ignored where it is malformed, has no range or more than [`RANGE_LIMIT`],

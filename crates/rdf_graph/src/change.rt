@@ -19,7 +19,7 @@ pub struct Change {
 }
 
 impl Change {
-    /// An equal change.
+    /// A copy of the change.
     pub fn copy(&self, alloc: Global) -> Mem<Change>
         ensures { IfOk result (λ copy. copy ≡ self.now) }
     {
@@ -28,7 +28,8 @@ impl Change {
         Ok(Change { removed, added })
     }
 
-    /// Whether the graph has every triple that is removed. Takes no memory.
+    /// Whether the change fits the graph, which then has every triple that is removed. Takes no
+    /// memory.
     pub fn fits(&self, graph: &Graph) -> bool
         ensures { IsTrue result ↔ All (Contains graph.now) self.now.removed }
     {
@@ -36,7 +37,7 @@ impl Change {
     }
 }
 
-/// The graph after a change, which removes first and adds then.
+/// The graph after a change, which removes triples first and adds then.
 pub fn changed(alloc: Global, graph: &Graph, change: &Change) -> Mem<Graph>
     ensures { IfOk result (IsChanged graph.now change.now.removed change.now.added) }
 {
@@ -45,7 +46,8 @@ pub fn changed(alloc: Global, graph: &Graph, change: &Change) -> Mem<Graph>
     Ok(Graph::in_order(List::from_vec(triples)))
 }
 
-/// The old triples without the removed ones, and the added ones, in one pass over the three.
+/// The graph's old triples after a change, without the removed ones and with the added ones, in one
+/// pass over the three lists.
 fn merge(alloc: Global, old: &[Triple], removed: &[Triple], added: &[Triple]) -> Mem<Vec<Triple>>
     requires old { IsOrdered old.now }
     requires removed { IsOrdered removed.now }
@@ -77,8 +79,8 @@ fn merge(alloc: Global, old: &[Triple], removed: &[Triple], added: &[Triple]) ->
     Ok(new)
 }
 
-/// Whether the first list has a triple at position k, and it is below all of the second from
-/// position i on.
+/// Whether in the merge of a change the first list has a triple at position k, and it is below all
+/// of the second from position i on.
 fn comes_first(first: &[Triple], k: usize, second: &[Triple], i: usize) -> bool
     requires { IsOrdered second.now }
     ensures first { IsTrue result ↔ ComesFirst first.now k second.now i }
@@ -92,7 +94,8 @@ fn comes_first(first: &[Triple], k: usize, second: &[Triple], i: usize) -> bool
     }
 }
 
-/// Whether one of the lists has the triple at its position.
+/// Whether in the merge of a change the removed or the added triples have the triple at their
+/// position.
 fn is_at_either(removed: &[Triple], j: usize, added: &[Triple], k: usize, triple: &Triple) -> bool
     ensures { IsTrue result
         ↔ ((slice_get removed.now j ≡ Some triple.now)
@@ -101,7 +104,7 @@ fn is_at_either(removed: &[Triple], j: usize, added: &[Triple], k: usize, triple
     is_at(removed, j, triple) || is_at(added, k, triple)
 }
 
-/// Whether the list has the triple at this position.
+/// Whether in the merge of a change a list has the triple at this position.
 fn is_at(triples: &[Triple], position: usize, triple: &Triple) -> bool
     ensures { IsTrue result ↔ (slice_get triples.now position ≡ Some triple.now) }
 {

@@ -67,7 +67,7 @@ impl Graph {
         }
     }
 
-    /// The triples as a list, in strict byte order of their lines. Takes no memory.
+    /// The graph's triples as a list, in strict byte order of their lines. Takes no memory.
     pub fn into_list(self) -> List<Triple>
         ensures triples { result.items ≡ self }
         ensures graph { IsGraph result.items }
@@ -75,7 +75,7 @@ impl Graph {
         List::from_vec(self.triples)
     }
 
-    /// The number of triples.
+    /// The number of the graph's triples.
     pub fn len(&self) -> usize
         ensures { result ≡ length self.now }
     {
@@ -89,7 +89,7 @@ impl Graph {
         self.triples.is_empty()
     }
 
-    /// The triple at this position of the order.
+    /// The graph's triple at this position of its order.
     pub fn at(&self, i: usize) -> &Triple
         requires { i < length self.now }
         ensures { slice_get self.now i ≡ Some result.now }
@@ -97,7 +97,7 @@ impl Graph {
         &self.triples[i]
     }
 
-    /// The triples, in strict byte order of their lines.
+    /// The graph's triples as a slice, in strict byte order of their lines.
     pub fn as_slice(&self) -> &[Triple]
         ensures triples { result.now ≡ self.now }
         ensures graph { IsGraph result.now }
@@ -105,7 +105,7 @@ impl Graph {
         self.triples.as_slice()
     }
 
-    /// An equal graph.
+    /// A copy of the graph.
     pub fn copy(&self, alloc: Global) -> Mem<Graph>
         ensures { IfOk result (λ copy. copy ≡ self.now) }
     {
@@ -174,7 +174,7 @@ impl Graph {
     }
 }
 
-/// Copies of the triples.
+/// Copies of a graph's triples.
 fn copy_triples(alloc: Global, triples: &[Triple]) -> Mem<Vec<Triple>>
     ensures { IfOk result (λ copies. copies.items ≡ triples.now) }
 {
@@ -186,7 +186,7 @@ fn copy_triples(alloc: Global, triples: &[Triple]) -> Mem<Vec<Triple>>
     Ok(copies)
 }
 
-/// The position of the triple, or else where to insert it.
+/// The position of a triple in a graph, or else where to insert it.
 fn position(triples: &[Triple], triple: &Triple) -> Result<usize, usize>
     requires { IsOrdered triples.now }
     ensures found { MatchResult result (λ i. slice_get triples.now i ≡ Some triple.now)

@@ -13,7 +13,8 @@ use crate::triple_line::line_of_iris;
 use std::cmp::Ordering;
 
 impl Graph {
-    /// Whether the graph has the triple of these three IRIs. Takes no memory.
+    /// Whether the graph has the triple of these three IRIs, which is looked up by their texts.
+    /// Takes no memory.
     pub fn has_iris(&self, s: &str, p: &str, o: &str) -> bool
         ensures { IsTrue result ↔ Contains self.now (iri_triple s.now p.now o.now) }
     {
@@ -23,7 +24,7 @@ impl Graph {
     }
 }
 
-/// How a triple compares with that of three IRIs.
+/// How a triple compares with that of three IRIs, which is looked up by their texts.
 #[tactic(auto, unfolding(crate::specs::Triple::triple_cmp))]
 fn cmp_iris(triple: &Triple, s: &str, p: &str, o: &str) -> Ordering
     ensures { result ≡ triple_cmp triple.now (iri_triple s.now p.now o.now) }
@@ -37,7 +38,7 @@ fn cmp_iris(triple: &Triple, s: &str, p: &str, o: &str) -> Ordering
     }
 }
 
-/// How a triple's line compares with that of three IRIs.
+/// How a triple's line compares with that of three IRIs, given by their texts.
 #[tactic(auto, unfolding(crate::specs::Triple::line))]
 fn cmp_iri_line(triple: &Triple, s: &str, p: &str, o: &str) -> Ordering
     ensures { result ≡ bytes_cmp (line triple.now) (line (iri_triple s.now p.now o.now)) }
@@ -56,8 +57,8 @@ fn cmp_iri_line(triple: &Triple, s: &str, p: &str, o: &str) -> Ordering
     }
 }
 
-/// How texts compare that begin with those of a term and of an IRI and have a space after them.
-/// None where the pieces don't decide.
+/// How lines compare that begin with a term and with an IRI given by its text, each followed by a
+/// space. None where the pieces don't decide.
 fn cmp_iri(term: &Term, iri: &str) -> Option<Ordering>
     ensures { IfSome result (DecidesOrder 32 (text term.now) (text (IriTerm iri.now))) }
 {

@@ -7,9 +7,9 @@ ghost use Rattle.rdf_graph.specs.Laws.{TextsIdentifyGraphs, EmptyChangeKeepsGrap
 ghost use Rattle.rdf_graph.specs.Laws.{AddedTriplesRemain};
 ghost use Rattle.rdf_graph.specs.Triple.{triple_cmp};
 
-/// The order of triples is total, and triples that compare as equal are equal. It is the byte order
-/// of their lines, and different triples have different lines, where no label and no tag has a
-/// space.
+/// The law that the order of triples is total, and triples that compare as equal are equal. It is
+/// the byte order of their lines, and different triples have different lines, where no label and no
+/// tag has a space.
 pub fn order_law()
     ensures total { IsTotalOrder triple_cmp }
     ensures exact { OrderIsExact }
@@ -17,19 +17,21 @@ pub fn order_law()
     ensures identify { LinesIdentifyTriples }
 {}
 
-/// The triples of a subject are contiguous, where no label and no tag has a space.
+/// The law that the triples of a subject are contiguous in a graph, where no label and no tag has a
+/// space.
 pub fn subject_law()
     ensures { SubjectsAreContiguous }
 {}
 
-/// A graph is its set of triples: graphs with the same triples are equal. So are graphs with the
-/// same text, where no label and no tag has a space.
+/// The law that a graph is its set of triples: graphs with the same triples are equal. So are
+/// graphs with the same text, where no label and no tag has a space.
 pub fn set_law()
     ensures sets { SetsIdentifyGraphs }
     ensures texts { TextsIdentifyGraphs }
 {}
 
-/// An empty change keeps the graph, and the new graph has a triple that is both removed and added.
+/// The law that an empty change keeps the graph, and that the new graph has a triple which is both
+/// removed and added.
 pub fn change_law()
     ensures nothing { EmptyChangeKeepsGraph }
     ensures added { AddedTriplesRemain }

@@ -19,7 +19,6 @@
 //! What a patch means is `graph_patch`. The crate stands on `pod_base` and `iri_ref`.
 #![tactic(auto)]
 
-mod append;
 mod change;
 mod graph;
 mod iri_lookup;
@@ -31,6 +30,7 @@ mod term;
 mod term_order;
 #[cfg(test)]
 mod tests;
+mod text_append;
 mod triple;
 mod triple_line;
 mod triple_order;

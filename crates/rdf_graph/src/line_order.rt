@@ -17,7 +17,7 @@ use crate::triple_line::{
 use crate::triple_ref::TripleRef;
 use std::cmp::Ordering;
 
-/// The first byte of a text, or the mark that follows it.
+/// The first byte of a term's text, or the mark that follows it in a line.
 fn first_or(text: &[u8], mark: u8) -> u8
     ensures { result ≡ first_or mark text.now }
 {
@@ -27,8 +27,8 @@ fn first_or(text: &[u8], mark: u8) -> u8
     }
 }
 
-/// The order of texts by the first bytes of these two, each followed by the mark. None where those
-/// bytes are equal and not both the mark.
+/// The order of lines by the first bytes of these two texts, each followed by the mark. None where
+/// those bytes are equal and not both the mark.
 fn cmp_first(a: &[u8], b: &[u8], mark: u8) -> Option<Ordering>
     ensures { IfSome result (DecidesOrder mark a.now b.now) }
 {
@@ -41,7 +41,7 @@ fn cmp_first(a: &[u8], b: &[u8], mark: u8) -> Option<Ordering>
     }
 }
 
-/// The order of texts with these prefixes, each followed by the mark: `Equal` where the prefixes
+/// The order of lines with these prefixes, each followed by the mark: `Equal` where the prefixes
 /// are equal. None where the longer one begins with the shorter one and the mark.
 pub(crate) fn cmp_marked(a: &[u8], b: &[u8], mark: u8) -> Option<Ordering>
     ensures { IfSome result (DecidesOrder mark a.now b.now) }
@@ -53,8 +53,8 @@ pub(crate) fn cmp_marked(a: &[u8], b: &[u8], mark: u8) -> Option<Ordering>
     }
 }
 
-/// The order of texts whose prefixes are the texts of two terms, each followed by a space. None
-/// where this takes a comparison byte by byte.
+/// The order of lines that begin with two terms, each followed by a space. None where this takes a
+/// comparison byte by byte.
 pub(crate) fn cmp_terms(a: &Term, b: &Term) -> Option<Ordering>
     ensures { IfSome result (DecidesOrder 32 (text a.now) (text b.now)) }
 {
@@ -69,7 +69,8 @@ pub(crate) fn cmp_terms(a: &Term, b: &Term) -> Option<Ordering>
     }
 }
 
-/// The same for terms of any kind: `Equal` where they are equal, and else None.
+/// The order of lines that begin with two terms of any kind, each followed by a space: `Equal`
+/// where the terms are equal, and else None.
 fn cmp_equal(a: &Term, b: &Term) -> Option<Ordering>
     ensures { IfSome result (DecidesOrder 32 (text a.now) (text b.now)) }
 {
@@ -86,7 +87,7 @@ pub(crate) fn cmp_rest(a: Line<'_>, b: Line<'_>) -> Ordering
     a.cmp(b)
 }
 
-/// The order of the remaining bytes of two texts.
+/// The order of the remaining bytes of two terms' texts, as in the order of lines.
 pub(crate) fn cmp_written(a: Written<'_>, b: Written<'_>) -> Ordering
     ensures { result ≡ bytes_cmp (written_rest a.entry) (written_rest b.entry) }
 {
@@ -94,7 +95,7 @@ pub(crate) fn cmp_written(a: Written<'_>, b: Written<'_>) -> Ordering
 }
 
 impl Term {
-    /// The byte order of the terms' texts.
+    /// The order of two terms as in lines, which is the byte order of their texts.
     pub fn cmp_text(&self, other: &Term) -> Ordering
         ensures { result ≡ slice_cmp nat_cmp (text self.now) (text other.now) }
     {
@@ -105,8 +106,8 @@ impl Term {
     }
 }
 
-/// The byte order of the texts of two IRIs. None for other terms, and where this takes a comparison
-/// byte by byte.
+/// The order of two IRIs as in lines, which is the byte order of their texts. None for other terms,
+/// and where this takes a comparison byte by byte.
 fn cmp_iris(a: &Term, b: &Term) -> Option<Ordering>
     ensures { IfSome result (λ order. order ≡ bytes_cmp (text a.now) (text b.now)) }
 {
@@ -118,7 +119,7 @@ fn cmp_iris(a: &Term, b: &Term) -> Option<Ordering>
     }
 }
 
-/// The byte order of the terms' texts, byte by byte where they differ.
+/// The order of two terms as in lines, byte by byte where their texts differ.
 fn cmp_bytes(a: &Term, b: &Term) -> Ordering
     ensures { result ≡ bytes_cmp (text a.now) (text b.now) }
 {
@@ -129,7 +130,7 @@ fn cmp_bytes(a: &Term, b: &Term) -> Ordering
 }
 
 impl Triple {
-    /// The byte order of the triples' lines.
+    /// The order of two triples' lines, byte by byte only where their terms don't decide.
     pub fn cmp_line(&self, other: &Triple) -> Ordering
         ensures { result ≡ slice_cmp nat_cmp (line self.now) (line other.now) }
     {
@@ -147,7 +148,7 @@ impl Triple {
     }
 }
 
-/// The byte order of the lines of two triples.
+/// The order of the lines of two triples, given by references to their terms.
 #[tactic(auto, unfolding(crate::specs::Triple::line))]
 pub(crate) fn cmp_lines(a: &TripleRef<'_>, b: &TripleRef<'_>) -> Ordering
     ensures { result ≡ bytes_cmp (line (triple_of a.now)) (line (triple_of b.now)) }

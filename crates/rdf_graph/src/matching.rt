@@ -13,7 +13,7 @@ use pod_base::{List, Mem};
 use std::alloc::Global;
 
 impl Graph {
-    /// The triples that have these terms, where they are given, in order.
+    /// The triples of the graph that match these terms, where they are given, in order.
     pub fn matching(
         &self,
         alloc: Global,
@@ -39,7 +39,7 @@ impl Graph {
     }
 }
 
-/// The range with all triples of this subject, or all triples where none is given.
+/// The range of a graph's triples that match this subject, or all triples where none is given.
 pub fn subject_range<'a>(triples: &'a [Triple], subject: Option<&Term>) -> &'a [Triple]
     requires { IsOrdered triples.now }
     ensures subject_range { IsSubjectRange (option_copied subject.entry) triples.now result.now }
@@ -50,7 +50,7 @@ pub fn subject_range<'a>(triples: &'a [Triple], subject: Option<&Term>) -> &'a [
     }
 }
 
-/// The triples whose lines have the prefix of this subject.
+/// The triples of a graph that match this subject, by the prefix of their lines.
 fn subject_lines<'a>(triples: &'a [Triple], subject: &Term) -> &'a [Triple]
     requires { IsOrdered triples.now }
     ensures subject_range { IsSubjectRange (Some subject.now) triples.now result.now }
@@ -61,7 +61,7 @@ fn subject_lines<'a>(triples: &'a [Triple], subject: &Term) -> &'a [Triple]
     &rest[..count]
 }
 
-/// Whether the triple has these terms, where they are given.
+/// Whether the triple matches these terms, where they are given.
 pub fn has_terms(triple: &Triple, s: Option<&Term>, p: Option<&Term>, o: Option<&Term>) -> bool
     ensures { result
         ≡ has_terms (option_copied s.entry) (option_copied p.entry)
@@ -70,7 +70,7 @@ pub fn has_terms(triple: &Triple, s: Option<&Term>, p: Option<&Term>, o: Option<
     is_given_term(s, &triple.s) && is_given_term(p, &triple.p) && is_given_term(o, &triple.o)
 }
 
-/// Whether it is the given term, if one is given.
+/// Whether a triple's term matches the given one, if one is given.
 fn is_given_term(given: Option<&Term>, term: &Term) -> bool
     ensures { result ≡ is_given_term (option_copied given.entry) term.now }
 {

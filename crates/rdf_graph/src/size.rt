@@ -12,8 +12,8 @@ use crate::triple::Triple;
 pub const TRIPLES_LIMIT: u64 = 8_388_608;
 
 impl Term {
-    /// How many bytes the term's stored form has: one for its kind, and for each of its texts eight
-    /// and its bytes. At most 2^64 - 1.
+    /// The encoded size of the term, the bytes of its stored form: one for its kind, and for each
+    /// of its texts eight and its bytes. At most 2^64 - 1.
     pub fn encoded_size(&self) -> u64
         ensures { result ≡ saturated (term_size self.now) }
     {
@@ -36,7 +36,8 @@ impl Term {
 }
 
 impl Triple {
-    /// How many bytes the triple's stored form has: those of its terms. At most 2^64 - 1.
+    /// The encoded size of the triple, the bytes of its stored form: those of its terms. At most
+    /// 2^64 - 1.
     pub fn encoded_size(&self) -> u64
         ensures { result ≡ saturated (triple_size self.now) }
     {
@@ -45,8 +46,8 @@ impl Triple {
 }
 
 impl Graph {
-    /// How many bytes the graph's stored form has: eight for its count, and those of its triples.
-    /// At most 2^64 - 1.
+    /// The encoded size of the graph, the bytes of its stored form: eight for its count, and those
+    /// of its triples. At most 2^64 - 1.
     pub fn encoded_size(&self) -> u64
         ensures { result ≡ saturated (graph_size self.now) }
     {
@@ -55,7 +56,8 @@ impl Graph {
 }
 
 impl Change {
-    /// How many bytes the stored forms of both graphs have. At most 2^64 - 1.
+    /// The encoded size of the change, the bytes of the stored forms of both its graphs. At most
+    /// 2^64 - 1.
     pub fn encoded_size(&self) -> u64
         ensures { result ≡ saturated (change_size self.now.removed self.now.added) }
     {
@@ -63,7 +65,7 @@ impl Change {
     }
 }
 
-/// The size of the triple of these terms.
+/// The encoded size of the triple of these terms.
 pub(crate) fn parts_size(s: &Term, p: &Term, o: &Term) -> u64
     ensures { result ≡ saturated (term_size s.now + (term_size p.now + term_size o.now)) }
 {
@@ -71,7 +73,7 @@ pub(crate) fn parts_size(s: &Term, p: &Term, o: &Term) -> u64
     saturating_sum(s.encoded_size(), rest)
 }
 
-/// The sum of the triples' sizes.
+/// The sum of the triples' encoded sizes.
 fn sum_of_sizes(triples: &[Triple]) -> u64
     ensures { result ≡ saturated (triples_size triples.now) }
 {
@@ -82,14 +84,14 @@ fn sum_of_sizes(triples: &[Triple]) -> u64
     size
 }
 
-/// The size of a text: eight bytes for its length, and its bytes.
+/// The encoded size of a text: eight bytes for its length, and its bytes.
 fn text_size(text: &str) -> u64
     ensures { result ≡ saturated (text_size text.now) }
 {
     saturating_sum(size_of(8), size_of(text.len()))
 }
 
-/// The number as a size.
+/// The number as an encoded size.
 #[tactic(auto, unfolding(crate::specs::Size::saturated))]
 pub fn size_of(number: usize) -> u64
     ensures { result ≡ saturated number }
@@ -97,7 +99,7 @@ pub fn size_of(number: usize) -> u64
     number as u64
 }
 
-/// The sum of two sizes, at most 2^64 - 1.
+/// The sum of two encoded sizes, at most 2^64 - 1.
 pub fn saturating_sum(first: u64, second: u64) -> u64
     ensures { (m : ℕ) (n : ℕ) → first ≡ saturated m → second ≡ saturated n
         → result ≡ saturated (m + n) }

@@ -44,6 +44,7 @@ impl<'a> Iterator for Written<'a> {
 
     ghost remaining = { item_count written_rest };
 
+    /// The next byte of a term's text.
     fn next(&mut self) -> Option<u8> {
         if let Some((first, rest)) = self.plain.split_first() {
             self.plain = rest;
@@ -70,14 +71,14 @@ impl<'a> Iterator for Written<'a> {
 }
 
 impl<'a> Written<'a> {
-    /// These bytes, unchanged.
+    /// A term's text of these bytes, unchanged.
     pub(crate) fn plain(bytes: &'a [u8]) -> Written<'a>
         ensures { written_rest result ≡ bytes.now }
     {
         pieces(bytes, b"", b"", b"", b"")
     }
 
-    /// The bytes of an IRI's text.
+    /// The bytes of the text of an IRI as a term.
     #[tactic(auto, unfolding(crate::specs::Term::text))]
     pub(crate) fn iri(iri: &'a str) -> Written<'a>
         ensures { written_rest result ≡ text (IriTerm iri.now) }
@@ -86,7 +87,7 @@ impl<'a> Written<'a> {
     }
 }
 
-/// A byte of a literal, or the first byte of its escape, and the rest of the escape.
+/// A byte of a literal term's text, or the first byte of its escape, and the rest of the escape.
 pub(crate) fn escape(byte: u8) -> (u8, &'static [u8])
     ensures { result.0 ∷ result.1.now ≡ escaped_byte byte }
 {
@@ -100,7 +101,7 @@ pub(crate) fn escape(byte: u8) -> (u8, &'static [u8])
 }
 
 impl Term {
-    /// An equal term.
+    /// A copy of the term.
     pub fn copy(&self, alloc: Global) -> Mem<Term>
         ensures { IfOk result (λ copy. copy ≡ self.now) }
     {
@@ -164,7 +165,7 @@ impl Term {
     }
 }
 
-/// The same IRI, which shares the memory of this one, as terms hold it.
+/// The same IRI for another term, which shares the memory of this one.
 pub fn copy_iri(alloc: Global, iri: &Iri) -> Mem<Iri>
     ensures { IfOk result (λ copy. copy ≡ iri.now) }
 {
@@ -212,7 +213,8 @@ impl Eq for Term {
     ghost laws = { term_eq_laws };
 }
 
-/// The bytes of five pieces, of which the second is written with its escapes.
+/// The bytes of a term's text that has five pieces, of which the second is written with its
+/// escapes.
 fn pieces<'a>(
     plain: &'a [u8],
     quoted: &'a [u8],

@@ -15,7 +15,7 @@ pub struct Triple {
 }
 
 impl Triple {
-    /// An equal triple.
+    /// A copy of the triple.
     pub fn copy(&self, alloc: Global) -> Mem<Triple>
         ensures { IfOk result (λ copy. copy ≡ self.now) }
     {

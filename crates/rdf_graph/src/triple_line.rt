@@ -39,6 +39,7 @@ impl<'a> Iterator for Line<'a> {
 
     ghost remaining = { item_count line_rest };
 
+    /// The next byte of a triple's line.
     fn next(&mut self) -> Option<u8> {
         if let Some(byte) = self.now.next() {
             return Some(byte);
@@ -125,7 +126,7 @@ pub(crate) fn line_of_iris<'a>(s: &'a str, p: &'a str, o: &'a str) -> Line<'a>
     }
 }
 
-/// The prefix of the lines of this subject.
+/// The prefix of the lines of triples with this subject.
 #[tactic(auto, unfolding(crate::specs::Triple::subject_prefix))]
 pub(crate) fn line_prefix(subject: &Term) -> Line<'_>
     ensures { line_rest result ≡ subject_prefix subject.now }
@@ -136,7 +137,7 @@ pub(crate) fn line_prefix(subject: &Term) -> Line<'_>
     }
 }
 
-/// How a line compares with the lines that have this prefix.
+/// How a triple's line compares with the lines that have this prefix.
 pub(crate) fn cmp_prefix(mut line: Line<'_>, prefix: Line<'_>) -> Ordering
     ensures { result ≡ prefix_cmp (line_rest line.entry) (line_rest prefix.entry) }
 {

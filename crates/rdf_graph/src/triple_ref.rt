@@ -19,7 +19,7 @@ pub struct TripleRef<'a> {
 }
 
 impl Triple {
-    /// The references to its terms.
+    /// The triple as a `TripleRef`, by references to its terms.
     pub fn parts(&self) -> TripleRef<'_>
         ensures { triple_of result ≡ self.now }
     {
@@ -31,7 +31,7 @@ impl Triple {
     }
 }
 
-/// A triple of copies of these terms.
+/// The triple of copies of the terms that a `TripleRef` refers to.
 pub fn copy_parts(alloc: Global, triple: &TripleRef<'_>) -> Mem<Triple>
     ensures { IfOk result (λ copy. copy ≡ triple_of triple.now) }
 {
@@ -41,14 +41,14 @@ pub fn copy_parts(alloc: Global, triple: &TripleRef<'_>) -> Mem<Triple>
     Ok(Triple { s, p, o })
 }
 
-/// Whether these terms are a triple of RDF.
+/// Whether the terms that a `TripleRef` refers to are a triple of RDF.
 pub fn are_rdf_parts(triple: &TripleRef<'_>) -> bool
     ensures { IsTrue result ↔ IsRdf (triple_of triple.now) }
 {
     triple.p.is_iri() && !triple.s.is_literal()
 }
 
-/// The encoded size of the triple of these terms.
+/// The encoded size of the triple whose terms a `TripleRef` refers to.
 pub fn size_of_parts(triple: &TripleRef<'_>) -> u64
     ensures { result ≡ saturated (triple_size (triple_of triple.now)) }
 {

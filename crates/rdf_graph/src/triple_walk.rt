@@ -30,6 +30,7 @@ impl<'a> Iterator for Walk<'a> {
 
     ghost remaining = { item_count walk_rest };
 
+    /// The next triple of a walk that has the given terms.
     fn next(&mut self) -> Option<&'a Triple> {
         while let Some((first, rest)) = self.rest.split_first() {
             self.rest = rest;
@@ -42,8 +43,8 @@ impl<'a> Iterator for Walk<'a> {
 }
 
 impl Graph {
-    /// The triples that have these terms, where they are given, in order and by reference. With a
-    /// subject it looks at the triples of that subject alone.
+    /// A walk over the triples that have these terms, where they are given, in order and by
+    /// reference. With a subject it looks at the triples of that subject alone.
     pub fn walk<'a>(
         &'a self,
         s: Option<&'a Term>,

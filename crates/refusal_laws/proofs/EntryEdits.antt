@@ -1,7 +1,7 @@
 -- The edits of the entry of a reply, by the method and the body of its request.
 use Rattle.std.proofs.Common.{◌≡◌, ℕ, Bool, true, false, cond, List, Option, Some, None, Result, Ok, Err, refl, sym, ap, ◌∙◌}
 use Rattle.patch_outcome.specs.Outcomes.{HasGraphs}
-use Rattle.patch_outcome.specs.declared.refusal.PatchRefusal.{PatchRefusal}
+use Rattle.patch_outcome.specs.declared.patch_refusals.PatchRefusal.{PatchRefusal}
 use Rattle.pod_base.specs.declared.method.Method.{Method}
 use Rattle.pod_base.specs.declared.method.Method.TheVariants.{Get, Head, Options, Post, Put, Patch as PatchMethod, Delete, Other}
 use Rattle.pod_base.specs.declared.moment.Moment.{Moment}

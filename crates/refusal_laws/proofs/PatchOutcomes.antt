@@ -6,8 +6,8 @@ use Rattle.std.proofs.lemmas.Bool.{true≢false}
 use Rattle.std.proofs.lemmas.List.Elements.{All-contains}
 use Rattle.patch_outcome.specs.Outcomes.{HasFixedContainment, HasGraphs, HasSolvedContainment, IsOutcome, KeepsContainment, NamesContainment, TouchesContainment}
 use Rattle.patch_outcome.specs.Updates.{IsUpdateOutcome, names_containment}
-use Rattle.patch_outcome.specs.declared.refusal.PatchRefusal.{PatchRefusal}
-use Rattle.patch_outcome.specs.declared.refusal.PatchRefusal.TheVariants as refusals
+use Rattle.patch_outcome.specs.declared.patch_refusals.PatchRefusal.{PatchRefusal}
+use Rattle.patch_outcome.specs.declared.patch_refusals.PatchRefusal.TheVariants as refusals
 use Rattle.pod_base.specs.Listed.{listed}
 use Rattle.pod_rows.proofs.Sets.{graph_is, graph_same}
 use Rattle.pod_rows.specs.GraphSets.{graph_of}

@@ -3,11 +3,11 @@
 use Rattle.std.specs.Prelude.{ℕ, Bool, true, false, not, if◌then◌else◌, List, length, Option, Some}
 use Rattle.std.specs.Prelude.{None, Result, Ok, Err, codes}
 use Rattle.conditional_req.specs.Conditions.{conditions}
-use Rattle.conditional_req.specs.declared.preconditions.Verdict.{Verdict}
-use Rattle.conditional_req.specs.declared.preconditions.Verdict.TheVariants as verdicts
+use Rattle.conditional_req.specs.declared.precondition_verdict.Verdict.{Verdict}
+use Rattle.conditional_req.specs.declared.precondition_verdict.Verdict.TheVariants as verdicts
 use Rattle.patch_outcome.specs.Outcomes.{word_of}
-use Rattle.patch_outcome.specs.declared.refusal.PatchRefusal.{PatchRefusal}
-use Rattle.patch_outcome.specs.declared.refusal.PatchRefusal.TheVariants as patches
+use Rattle.patch_outcome.specs.declared.patch_refusals.PatchRefusal.{PatchRefusal}
+use Rattle.patch_outcome.specs.declared.patch_refusals.PatchRefusal.TheVariants as patches
 use Rattle.pod_base.specs.declared.method.Method.{Method}
 use Rattle.pod_base.specs.declared.method.Method.TheVariants as methods
 use Rattle.pod_base.specs.declared.request.Request.{Request}
@@ -34,7 +34,7 @@ use Rattle.pod_representations.specs.Offers.{chosen}
 use Rattle.pod_representations.specs.Preconditions.{read_verdict}
 use Rattle.pod_representations.specs.ReadResponses.{asked}
 use Rattle.pod_representations.specs.Representations.{represented}
-use Rattle.pod_representations.specs.declared.media.Media.{Media}
+use Rattle.pod_representations.specs.declared.row_offers.Media.{Media}
 use Rattle.pod_representations.specs.declared.representation.Shown.{Shown}
 use Rattle.pod_responses.specs.Responses.{changed, created, not_modified, options, refusal}
 use Rattle.pod_responses.specs.Responses.{unsatisfiable}

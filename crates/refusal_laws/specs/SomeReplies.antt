@@ -9,7 +9,7 @@ use Rattle.pod_command.specs.declared.row.Content.{Content}
 use Rattle.pod_command.specs.declared.row.Content.TheVariants as contents
 use Rattle.pod_command.specs.declared.row.Row.{Row}
 use Rattle.patch_outcome.specs.Outcomes.{HasGraphs}
-use Rattle.patch_outcome.specs.declared.refusal.PatchRefusal.{PatchRefusal}
+use Rattle.patch_outcome.specs.declared.patch_refusals.PatchRefusal.{PatchRefusal}
 use Rattle.pod_reply.specs.PatchReplies.{IsBodyOutcome, patched_triples}
 use Rattle.pod_reply.specs.Replies.{Reply}
 use Rattle.pod_reply.specs.Reply.{IsReply}

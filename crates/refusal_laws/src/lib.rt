@@ -33,7 +33,7 @@
 //! rows that an agent may not read is not revealed to it.
 #![tactic(auto)]
 
-mod paired;
+mod paired_run_laws;
 
 ghost use Rattle.refusal_laws.specs.Order.{AccessComesThird, AdmissionComesFirst};
 ghost use Rattle.refusal_laws.specs.Order.{BodyComesSecond};
@@ -42,7 +42,7 @@ ghost use Rattle.refusal_laws.specs.SomeReplies.{BodilessHaveReplies, PatchedHav
 ghost use Rattle.refusal_laws.specs.SomeReplies.{PatchesHaveOutcomes, PatchesHaveReplies};
 ghost use Rattle.refusal_laws.specs.SomeReplies.{PostsHaveReplies, PutsHaveReplies};
 
-pub use paired::paired_runs;
+pub use paired_run_laws::paired_runs;
 
 /// Refusals come in the order target, token, method, body, access, and only then what depends on
 /// the pod.
@@ -63,9 +63,9 @@ pub fn replies_by_rank()
     ensures fit { EntriesFit }
 {}
 
-/// Requests have replies: every one of a method that takes no body; every PUT, and on well-formed
-/// pods every POST, whose body is a content or has a fault; every PATCH whose body is a patch or an
-/// update or has a fault. Each has one at most, too.
+/// Requests have replies, refusals or successes: every one of a method that takes no body; every
+/// PUT, and on well-formed pods every POST, whose body is a content or has a fault; every PATCH
+/// whose body is a patch or an update or has a fault. Each has one at most, too.
 pub fn some_reply()
     ensures bodiless { BodilessHaveReplies }
     ensures puts { PutsHaveReplies }

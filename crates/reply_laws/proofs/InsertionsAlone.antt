@@ -4,7 +4,7 @@ use Rattle.std.specs.List.{Contains, list_any}
 use Rattle.std.proofs.lemmas.Bool.{true≢false}
 use Rattle.patch_outcome.specs.Outcomes.{IsOutcome, IsRefusedBy, TouchesContainment, fault_of}
 use Rattle.patch_outcome.specs.Updates.{IsSpelledOutcome, IsUpdateOutcome}
-use Rattle.patch_outcome.specs.declared.refusal.PatchRefusal.{PatchRefusal}
+use Rattle.patch_outcome.specs.declared.patch_refusals.PatchRefusal.{PatchRefusal}
 use Rattle.pod_reply.specs.PatchReplies.{IsBodyOutcome}
 use Rattle.pod_reply.specs.Shapes.{has_conditions, has_deletions, is_deletion, is_some_of}
 use Rattle.pod_path.specs.Hierarchy.{is_container}

@@ -29,7 +29,7 @@ use Rattle.pod_rows.specs.Pod.{Pod, is_row, row_at}
 use Rattle.pod_rows.specs.View.{triples_in}
 use Rattle.pod_rows.specs.WellFormed.{WellFormed}
 use Rattle.patch_outcome.specs.Outcomes.{word_of}
-use Rattle.patch_outcome.specs.declared.refusal.PatchRefusal.{PatchRefusal}
+use Rattle.patch_outcome.specs.declared.patch_refusals.PatchRefusal.{PatchRefusal}
 use Rattle.pod_reply.specs.DeleteReplies.{delete_edits, delete_refusal, delete_reply}
 use Rattle.pod_reply.specs.EntrySize.{size_refusal}
 use Rattle.pod_reply.specs.MemberNames.{IsMemberPath, IsNamed}

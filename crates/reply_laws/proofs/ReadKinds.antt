@@ -6,8 +6,8 @@ use Rattle.std.proofs.lemmas.Bool.{and_parts}
 use Rattle.std.proofs.lemmas.List.{take-append-drop}
 use Rattle.std.proofs.lemmas.Slice.Eq.{bytes_eq-Decides}
 use Rattle.conditional_req.specs.Conditions.{conditions}
-use Rattle.conditional_req.specs.declared.preconditions.Verdict.{Verdict}
-use Rattle.conditional_req.specs.declared.preconditions.Verdict.TheVariants.{Go, NotModified, Failed}
+use Rattle.conditional_req.specs.declared.precondition_verdict.Verdict.{Verdict}
+use Rattle.conditional_req.specs.declared.precondition_verdict.Verdict.TheVariants.{Go, NotModified, Failed}
 use Rattle.http_out.specs.Text.{AreFieldLines}
 use Rattle.pod_access.specs.AllowField.{allow_field, modes_at}
 use Rattle.pod_base.specs.declared.agent.Agent.{Agent}
@@ -32,8 +32,8 @@ use Rattle.pod_representations.specs.Offers.{chosen, turtle_type, json_ld_type}
 use Rattle.pod_representations.specs.Preconditions.{read_verdict}
 use Rattle.pod_representations.specs.ReadResponses.{asked, content_range, multipart_type, multipart_response, part_response, parts_response, read_response, representation, response_for, whole_response}
 use Rattle.pod_representations.specs.Representations.{content_as, graph_body, graph_mark, graph_shown, graph_type, represented, tag}
-use Rattle.pod_representations.specs.declared.media.Media.{Media}
-use Rattle.pod_representations.specs.declared.media.Media.TheVariants.{Turtle, JsonLd, Stored}
+use Rattle.pod_representations.specs.declared.row_offers.Media.{Media}
+use Rattle.pod_representations.specs.declared.row_offers.Media.TheVariants.{Turtle, JsonLd, Stored}
 use Rattle.pod_representations.specs.declared.representation.Shown.{Shown}
 use Rattle.pod_responses.specs.Links.{field}
 use Rattle.pod_responses.specs.Responses.{validators, vary}

@@ -37,7 +37,7 @@ use Rattle.reply_laws.proofs.SamePaths.{same_effective}
 use Rattle.reply_laws.specs.Alike.{Alike, NamesGroup}
 use Rattle.pod_access.proofs.Positions.{slice_get_member}
 use Rattle.pod_access.specs.Decision.{allow_modes, basis_at, covers, first_ground, ground_in, has_mode, has_subject, is_about, rule_grants, subjects_at, subjects_of}
-use Rattle.pod_access.specs.declared.decision.Ground.{Ground}
+use Rattle.pod_access.specs.declared.granting_rules.Ground.{Ground}
 use Rattle.pod_access.specs.declared.request_needs.Need.{Need}
 
 -- ---- a row that is found

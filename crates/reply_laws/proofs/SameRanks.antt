@@ -3,8 +3,8 @@ use Rattle.std.proofs.Common.{◌≡◌, ℕ, Bool, true, false, cond, not, ◌|
 use Rattle.std.specs.Prelude.{codes, is_some, unwrap_or}
 use Rattle.std.proofs.lemmas.Bool.{false≢true, true≢false}
 use Rattle.conditional_req.specs.Conditions.{conditions, needs_read}
-use Rattle.conditional_req.specs.declared.preconditions.Verdict.{Verdict}
-use Rattle.conditional_req.specs.declared.preconditions.Verdict.TheVariants.{Go, NotModified, Failed}
+use Rattle.conditional_req.specs.declared.precondition_verdict.Verdict.{Verdict}
+use Rattle.conditional_req.specs.declared.precondition_verdict.Verdict.TheVariants.{Go, NotModified, Failed}
 use Rattle.pod_base.specs.declared.agent.Agent.{Agent}
 use Rattle.pod_base.specs.declared.request.Request.{Request}
 use Rattle.pod_command.specs.declared.row.Row.{Row}
@@ -15,7 +15,7 @@ use Rattle.pod_representations.specs.Offers.{chosen}
 use Rattle.pod_representations.specs.Preconditions.{change_verdict, read_verdict}
 use Rattle.pod_representations.specs.ReadResponses.{read_response}
 use Rattle.pod_representations.specs.Representations.{represented}
-use Rattle.pod_representations.specs.declared.media.Media.{Media}
+use Rattle.pod_representations.specs.declared.row_offers.Media.{Media}
 use Rattle.pod_representations.specs.declared.representation.Shown.{Shown}
 use Rattle.pod_reply.specs.Obstacles.{condition_refusal, conflict, content_refusal, failed, first_of, new_path_refusal, no_room, refuse_if}
 use Rattle.pod_reply.specs.PutReplies.{place_refusal}

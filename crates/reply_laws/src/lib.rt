@@ -26,10 +26,10 @@
 //! `pod_path`, and on the definitions of responses.
 #![tactic(auto)]
 
-mod change;
-mod isolation;
+mod changing_methods;
+mod isolated_replies;
 mod laws;
 
-pub use change::is_change;
-pub use isolation::isolation_law;
+pub use changing_methods::is_change;
+pub use isolated_replies::isolation_law;
 pub use laws::{applies, bases, complete, encodable, sent, status};

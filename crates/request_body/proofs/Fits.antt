@@ -14,8 +14,8 @@ use Rattle.request_fields.specs.declared.media_types.MediaType.TheVariants as me
 use Rattle.request_body.specs.declared.body.RequestBody.TheVariants.{Nothing, Content}
 use Rattle.request_body.specs.declared.fault.BodyFault.{BodyFault}
 use Rattle.request_body.specs.declared.fault.BodyFault.TheVariants.{NoType, UnsupportedType}
-use Rattle.request_body.specs.declared.syntax.BodySyntax.{BodySyntax}
-use Rattle.request_body.specs.declared.syntax.BodySyntax.TheVariants as syntax
+use Rattle.request_body.specs.declared.syntax_choice.BodySyntax.{BodySyntax}
+use Rattle.request_body.specs.declared.syntax_choice.BodySyntax.TheVariants as syntax
 use Rattle.request_body.specs.Bodies.{Outcome, Means, MeansIn, opaque_type}
 use Rattle.request_body.specs.Laws.{IsGraphContent, PutsGraph, PostsGraph, HasContentType}
 use Rattle.request_body.specs.Syntaxes.{put_type, put_syntax, typed_syntax, syntax_by}

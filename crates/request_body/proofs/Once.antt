@@ -3,8 +3,8 @@ use Rattle.std.proofs.Common.{List, ℕ, Result, Ok, Err}
 use Rattle.pod_base.specs.declared.request.Request.{Request}
 use Rattle.request_body.specs.declared.body.RequestBody.TheVariants.{Nothing}
 use Rattle.request_body.specs.declared.fault.BodyFault.{BodyFault}
-use Rattle.request_body.specs.declared.syntax.BodySyntax.{BodySyntax}
-use Rattle.request_body.specs.declared.syntax.BodySyntax.TheVariants as syntax
+use Rattle.request_body.specs.declared.syntax_choice.BodySyntax.{BodySyntax}
+use Rattle.request_body.specs.declared.syntax_choice.BodySyntax.TheVariants as syntax
 use Rattle.request_body.specs.Bodies.{Outcome, Means, MeansIn}
 use Rattle.request_body.specs.Laws.{SameOutcome, MeansOne}
 use Rattle.request_body.specs.Syntaxes.{body_syntax}

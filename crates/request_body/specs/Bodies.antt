@@ -24,8 +24,8 @@ use Rattle.request_body.specs.declared.body.RequestBody.TheVariants.{Nothing, Co
 use Rattle.request_body.specs.declared.body.RequestBody.TheVariants.{Patch, Update}
 use Rattle.request_body.specs.declared.fault.BodyFault.{BodyFault}
 use Rattle.request_body.specs.declared.fault.BodyFault.TheVariants.{Syntax, Json, Rule, GraphSize}
-use Rattle.request_body.specs.declared.syntax.BodySyntax.{BodySyntax}
-use Rattle.request_body.specs.declared.syntax.BodySyntax.TheVariants as syntax
+use Rattle.request_body.specs.declared.syntax_choice.BodySyntax.{BodySyntax}
+use Rattle.request_body.specs.declared.syntax_choice.BodySyntax.TheVariants as syntax
 use Rattle.request_body.specs.Syntaxes.{body_syntax}
 
 -- what a body means, or its fault

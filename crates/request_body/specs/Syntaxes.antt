@@ -13,8 +13,8 @@ use Rattle.request_fields.specs.Links.{links_to_container}
 use Rattle.request_fields.specs.MediaTypes.{media_type}
 use Rattle.request_fields.specs.declared.media_types.MediaType.{MediaType}
 use Rattle.request_fields.specs.declared.media_types.MediaType.TheVariants as media
-use Rattle.request_body.specs.declared.syntax.BodySyntax.{BodySyntax}
-use Rattle.request_body.specs.declared.syntax.BodySyntax.TheVariants as syntax
+use Rattle.request_body.specs.declared.syntax_choice.BodySyntax.{BodySyntax}
+use Rattle.request_body.specs.declared.syntax_choice.BodySyntax.TheVariants as syntax
 use Rattle.request_body.specs.declared.fault.BodyFault.{BodyFault}
 use Rattle.request_body.specs.declared.fault.BodyFault.TheVariants.{NoType, UnsupportedType}
 

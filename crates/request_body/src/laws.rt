@@ -9,8 +9,8 @@ pub fn one_meaning()
     ensures { MeansOne }
 {}
 
-/// What is put or posted fits the row that it becomes: a container, an access list and a
-/// description get a graph, and bytes have a content type.
+/// What the body of a PUT or a POST means fits the row that it becomes: a container, an access list
+/// and a description get a graph, and bytes have a content type.
 pub fn content_fits()
     ensures put { PutsGraph }
     ensures posted { PostsGraph }

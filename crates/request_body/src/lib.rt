@@ -21,14 +21,14 @@
 #![tactic(auto)]
 
 mod body;
+mod body_meaning;
 mod fault;
+mod fault_responses;
 pub mod laws;
-mod reading;
-mod refusals;
-mod syntax;
+mod syntax_choice;
 
 pub use body::RequestBody;
+pub use body_meaning::read_body;
 pub use fault::BodyFault;
-pub use reading::read_body;
-pub use refusals::refused;
-pub use syntax::{BodySyntax, body_syntax};
+pub use fault_responses::refused;
+pub use syntax_choice::{BodySyntax, body_syntax};

@@ -2,8 +2,8 @@
 use Rattle.std.proofs.Common.{◌≡◌, ℕ, List, [], ◌∷◌, ◌++◌, refl, sym, ap, append_assoc, true, false, cond}
 use Rattle.std.specs.List.{onto_first}
 use Rattle.request_fields.specs.LinkValues.{link_parts_from, separates, next_place}
-use Rattle.request_fields.specs.declared.link_values.LinkPlace.{LinkPlace}
-use Rattle.request_fields.specs.declared.link_values.LinkPlace.TheVariants.{Start}
+use Rattle.request_fields.specs.declared.link_splitting.LinkPlace.{LinkPlace}
+use Rattle.request_fields.specs.declared.link_splitting.LinkPlace.TheVariants.{Start}
 
 -- the parts with a text before the first
 abbrev pub onto : List ℕ → List (List ℕ) → List (List ℕ)

@@ -2,10 +2,10 @@
 use Rattle.std.specs.Prelude.{ℕ, Bool, false, ◌==◌, if◌then◌else◌, List, [], ◌∷◌, map}
 use Rattle.std.specs.List.{onto_first}
 use Rattle.httparse.specs.Grammar.{is_ows, trim_ows}
-use Rattle.request_fields.specs.declared.link_values.LinkPlace.{LinkPlace}
-use Rattle.request_fields.specs.declared.link_values.LinkPlace.TheVariants.{Start, Reference}
-use Rattle.request_fields.specs.declared.link_values.LinkPlace.TheVariants.{Parameters, Quoted}
-use Rattle.request_fields.specs.declared.link_values.LinkPlace.TheVariants.{Escaped}
+use Rattle.request_fields.specs.declared.link_splitting.LinkPlace.{LinkPlace}
+use Rattle.request_fields.specs.declared.link_splitting.LinkPlace.TheVariants.{Start, Reference}
+use Rattle.request_fields.specs.declared.link_splitting.LinkPlace.TheVariants.{Parameters, Quoted}
+use Rattle.request_fields.specs.declared.link_splitting.LinkPlace.TheVariants.{Escaped}
 
 -- a quote outside of a reference opens a quoted string
 abbrev pub place_outside : ℕ → LinkPlace

@@ -14,7 +14,7 @@ use Rattle.pod_base.specs.declared.method.Method.TheVariants.{Delete, Other}
 use Rattle.pod_base.specs.declared.request.Request.{Request}
 use Rattle.field_list.specs.Values.{only_value}
 use Rattle.field_list.specs.Words.{some_has_word}
-use Rattle.request_fields.specs.declared.upgrade.TheConstants.{KEY_LEN}
+use Rattle.request_fields.specs.declared.websocket_upgrade.TheConstants.{KEY_LEN}
 
 abbrev pub is_get : Method → Bool
 is_get Get = true

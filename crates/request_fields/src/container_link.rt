@@ -7,7 +7,7 @@ ghost use Rattle.request_fields.specs.LinkParameters.{parameters, relation};
 ghost use Rattle.request_fields.specs.Links as spec;
 
 use crate::link_parameter::{are_parameters, relation};
-use crate::link_values::split_link;
+use crate::link_splitting::split_link;
 use crate::relation_type::has_relation_type;
 use field_list::{Parts, Quoting, trim};
 use pod_base::{Field, Fields};
@@ -31,7 +31,7 @@ fn has_container_type(link: &[u8]) -> bool
     }
 }
 
-/// Whether the first `rel` of a link has the relation type `type`.
+/// Whether the first `rel` of a link to a container has the relation type `type`.
 fn is_type_link(link: &[u8]) -> bool
     ensures { result ≡ spec.is_type_link link.now }
 {
@@ -48,7 +48,7 @@ fn is_container_link(link: &[u8]) -> bool
     has_container_type(link) && are_parameters(link) && is_type_link(link)
 }
 
-/// Whether a value has such a link.
+/// Whether the value of a Link field has a link that says that its context is a container.
 fn has_container_link(value: &[u8]) -> bool
     ensures { result ≡ spec.has_container_link value.now }
 {
@@ -62,14 +62,14 @@ fn has_container_link(value: &[u8]) -> bool
     is_container_link(trim(rest))
 }
 
-/// Whether a field is a Link with such a link.
+/// Whether a field is a Link that says that its context is a container.
 fn is_link_to_container(field: &Field) -> bool
     ensures { result ≡ spec.is_link_to_container field.now }
 {
     field.is_named("link") && has_container_link(field.value.as_slice())
 }
 
-/// Whether one of these fields is.
+/// Whether one of these fields is a Link that says that its context is a container.
 fn any_link_to_container(fields: &[Field]) -> bool
     ensures { result ≡ list_any spec.is_link_to_container fields.now }
 {

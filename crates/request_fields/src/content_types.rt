@@ -23,14 +23,14 @@ pub enum BodyType {
     Given(MediaType),
 }
 
-/// Whether a byte is a space or a visible character of ASCII.
+/// Whether a byte may be part of a content type: a space or a visible character of ASCII.
 fn is_printable(byte: u8) -> bool
     ensures { result ≡ spec.is_printable byte }
 {
     b' ' <= byte && byte <= b'~'
 }
 
-/// Whether each byte is printable.
+/// Whether each byte may be part of a content type.
 fn are_printable(text: &[u8]) -> bool
     ensures { result ≡ list_all spec.is_printable text.now }
 {
@@ -71,7 +71,7 @@ pub fn content_type<'a>(fields: &'a Fields) -> Option<&'a str>
     }
 }
 
-/// The type of a request's body.
+/// The type of a request's body, by its Content-Type fields.
 pub fn body_type(fields: &Fields) -> BodyType
     ensures { result ≡ spec.body_type fields.now }
 {

@@ -22,14 +22,14 @@
 mod container_link;
 mod content_types;
 mod link_parameter;
-mod link_values;
+mod link_splitting;
 mod media_types;
 mod relation_type;
 mod slug_and_range;
-mod upgrade;
+mod websocket_upgrade;
 
 pub use container_link::links_to_container;
 pub use content_types::{BodyType, CONTENT_TYPE_LIMIT, body_type, content_type};
 pub use media_types::{MediaType, media_type};
 pub use slug_and_range::{allows_ranges, range, slug};
-pub use upgrade::upgrade_key;
+pub use websocket_upgrade::upgrade_key;

@@ -10,14 +10,15 @@ ghost use Rattle.request_fields.specs.LinkParameters as spec;
 use field_list::{Parts, Quoting, is_quoted_string, split_pair, trim};
 use httparse::is_token;
 
-/// Whether a text is a token or a quoted string.
+/// Whether a text is the value of a link's parameter: a token or a quoted string.
 fn is_parameter_value(text: &[u8]) -> bool
     ensures { result ≡ spec.is_parameter_value text.now }
 {
     is_token(text) || is_quoted_string(text)
 }
 
-/// Whether a text is a name, `=` and a value, with blanks about the `=`.
+/// Whether a text is a link's parameter with a value: a name, `=` and the value, with blanks about
+/// the `=`.
 fn is_named_value(text: &[u8]) -> bool
     ensures { result ≡ spec.is_named_value text.now }
 {
@@ -27,14 +28,14 @@ fn is_named_value(text: &[u8]) -> bool
     }
 }
 
-/// Whether a text is a parameter: a name alone, or a name and a value.
+/// Whether a text is a link's parameter: a name alone, or a name and a value.
 fn is_parameter(text: &[u8]) -> bool
     ensures { result ≡ spec.is_parameter text.now }
 {
     is_token(text) || is_named_value(text)
 }
 
-/// The value of a parameter with that name; empty where the name stands alone.
+/// The value of a link's parameter with that name; empty where the name stands alone.
 fn value_named<'a>(text: &'a [u8], name: &str) -> Option<&'a [u8]>
     ensures { option_copied result ≡ spec.value_named name.now text.entry.now }
 {
@@ -56,7 +57,7 @@ fn value_named<'a>(text: &'a [u8], name: &str) -> Option<&'a [u8]>
     }
 }
 
-/// What follows the target of a link, not yet trimmed.
+/// The parameters of a link, which follow its target, not yet trimmed.
 fn parameter_parts(link: &[u8]) -> Parts<'_>
     ensures { parts_rest result ≡ drop 1 (parts Strings 59 link.now) }
 {

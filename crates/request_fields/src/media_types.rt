@@ -21,14 +21,14 @@ pub enum MediaType {
     Other,
 }
 
-/// The position of the first semicolon.
+/// The position of the first semicolon, at which the parameters of a media type begin.
 fn find_semicolon(value: &[u8]) -> Option<usize>
     ensures { result ≡ position spec.is_semicolon value.now }
 {
     value.iter().position(|byte| *byte == b';')
 }
 
-/// The text before the first semicolon, or the whole text.
+/// The media type without its parameters: the text before the first semicolon, or all of it.
 fn before_parameters(value: &[u8]) -> &[u8]
     ensures { result.now ≡ before_first spec.is_semicolon value.now }
 {
@@ -38,7 +38,7 @@ fn before_parameters(value: &[u8]) -> &[u8]
     }
 }
 
-/// The media type that a name without parameters is.
+/// The media type of a body that has this name, without parameters.
 fn type_named(name: &[u8]) -> MediaType
     ensures { result ≡ spec.type_named name.now }
 {

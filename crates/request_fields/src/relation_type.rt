@@ -10,7 +10,7 @@ ghost use Rattle.request_fields.specs.Progress as progress;
 use field_list::{QuotedBytes, is_quoted_string};
 use httparse::is_space_or_tab;
 
-/// What is left of a word after one more byte; none where the bytes differ.
+/// What is left of a relation type's word after one more byte; none where the bytes differ.
 fn rest_of_word<'a>(left: Option<&'a [u8]>, byte: u8) -> Option<&'a [u8]>
     ensures { option_copied result ≡ progress.left_after (option_copied left.entry) byte }
 {
@@ -26,7 +26,7 @@ fn rest_of_word<'a>(left: Option<&'a [u8]>, byte: u8) -> Option<&'a [u8]>
     }
 }
 
-/// Whether nothing is left of a word.
+/// Whether nothing is left of a relation type's word.
 fn is_complete(left: Option<&[u8]>) -> bool
     ensures { result ≡ progress.is_complete (option_copied left.entry) }
 {
@@ -36,7 +36,7 @@ fn is_complete(left: Option<&[u8]>) -> bool
     }
 }
 
-/// Whether what a quoted string means has the word.
+/// Whether a quoted string has the word of a relation type.
 fn quoted_has_word(text: &[u8], word: &[u8]) -> bool
     ensures { result ≡ spec.has_relation word.now (meaning text.now) }
 {
@@ -54,7 +54,7 @@ fn quoted_has_word(text: &[u8], word: &[u8]) -> bool
     is_complete(left)
 }
 
-/// Whether a token has the word.
+/// Whether a token is the word of a relation type.
 fn token_has_word(text: &[u8], word: &[u8]) -> bool
     ensures { result ≡ spec.has_relation word.now text.now }
 {

@@ -25,7 +25,7 @@ pub fn range<'a>(fields: &'a Fields) -> Option<&'a [u8]>
     only_value(fields, "range")
 }
 
-/// Whether a text ends in a quote, and is the tag before it.
+/// Whether what follows the first quote of the If-Range field is the tag and a quote.
 fn is_tag_and_quote(text: &[u8], tag: &[u8]) -> bool
     ensures { result ≡ spec.is_tag_and_quote tag.now text.now }
 {
@@ -35,7 +35,7 @@ fn is_tag_and_quote(text: &[u8], tag: &[u8]) -> bool
     }
 }
 
-/// Whether a text is the tag in quotes.
+/// Whether the value of the If-Range field is the tag in quotes.
 fn is_quoted(text: &[u8], tag: &[u8]) -> bool
     ensures { result ≡ spec.is_quoted tag.now text.now }
 {

@@ -11,7 +11,7 @@ use Rattle.request_history.specs.Connections.{Rests, fresh}
 use Rattle.request_history.specs.Keepers.{first_history, first_view}
 use Rattle.request_history.specs.Parts.{HasSeen, HoldsNext, IsWorld}
 use Rattle.request_history.specs.Worlds.{numbered, numbers_to, world_of}
-use Rattle.request_history.specs.declared.world_parts.Parts.{Parts}
+use Rattle.request_history.specs.declared.parts_and_events.Parts.{Parts}
 
 -- ---- its connections
 

@@ -19,7 +19,7 @@ use Rattle.request_history.proofs.Steps.{arrives}
 use Rattle.request_history.specs.Connections.{Rests, SettlesTo}
 use Rattle.request_history.specs.Parts.{HasSeen, HoldsNext, IsWorld, Replaces, ReplacesIfAny, TookEvent, with_new}
 use Rattle.request_history.specs.Worlds.{any_second, asking_of, numbered, world_of}
-use Rattle.request_history.specs.declared.world_parts.Parts.{Parts}
+use Rattle.request_history.specs.declared.parts_and_events.Parts.{Parts}
 
 numbered_other : (connections : List Connection) (conn n : ℕ) (new : Connection) → (n ≡ suc conn → ⊥) → numbered (set connections conn new) n ≡ numbered connections n
 numbered_other connections conn zero new h = refl

@@ -14,11 +14,11 @@ use Rattle.request_history.proofs.Keepers.{journal_longer, next_version, opened_
 use Rattle.request_history.proofs.MaySteps.{taken_holder, written_holder}
 use Rattle.request_history.specs.Keepers.{AppliesAtEnd, AreLater, IsKeeper, IsPending, IsVersionAt, Opens, history_of}
 use Rattle.request_history.specs.Phases.{MayStep, phase_of, step_event}
-use Rattle.request_history.specs.declared.keeper.Opening.{Opening}
-use Rattle.request_history.specs.declared.holder_phase.Stage.{Stage}
-use Rattle.request_history.specs.declared.holder_phase.Stage.TheVariants as stages
-use Rattle.request_history.specs.declared.holder_phase.Step.{Step}
-use Rattle.request_history.specs.declared.holder_phase.Step.TheVariants as steps
+use Rattle.request_history.specs.declared.world_keeper.Opening.{Opening}
+use Rattle.request_history.specs.declared.lock_holder_steps.Stage.{Stage}
+use Rattle.request_history.specs.declared.lock_holder_steps.Stage.TheVariants as stages
+use Rattle.request_history.specs.declared.lock_holder_steps.Step.{Step}
+use Rattle.request_history.specs.declared.lock_holder_steps.Step.TheVariants as steps
 
 -- the view of these parts
 abbrev pub view_of : History → Option Entry → keeper.Phase → KeeperView

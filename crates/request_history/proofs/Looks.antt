@@ -24,8 +24,8 @@ use Rattle.request_history.specs.Connections.{HasNext, SettlesTo}
 use Rattle.request_history.specs.Parts.{HasSeen, IsWorld, Replaces}
 use Rattle.request_history.specs.Reads.{Answers, IsAnswerAt, IsReadAnswer, IsNoChange, after_answer}
 use Rattle.request_history.specs.Worlds.{HasNoStep, any_second, asking_of}
-use Rattle.request_history.specs.declared.answer.Answer.{Answer}
-use Rattle.request_history.specs.declared.world_parts.Parts.{Parts}
+use Rattle.request_history.specs.declared.answer_bytes.Answer.{Answer}
+use Rattle.request_history.specs.declared.parts_and_events.Parts.{Parts}
 
 -- ---- the answer to what is next
 

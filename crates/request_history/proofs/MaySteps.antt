@@ -5,10 +5,10 @@ use Rattle.pod_core.specs.KeeperSteps as keeper
 use Rattle.pod_core.specs.KeeperSteps.{Holder, KeeperView}
 use Rattle.pod_core.specs.World.{holder_in}
 use Rattle.request_history.specs.Phases.{IsOpened, MayStep, is_opened, may_now, phase_of}
-use Rattle.request_history.specs.declared.holder_phase.Stage.{Stage}
-use Rattle.request_history.specs.declared.holder_phase.Stage.TheVariants as stages
-use Rattle.request_history.specs.declared.holder_phase.Step.{Step}
-use Rattle.request_history.specs.declared.holder_phase.Step.TheVariants as steps
+use Rattle.request_history.specs.declared.lock_holder_steps.Stage.{Stage}
+use Rattle.request_history.specs.declared.lock_holder_steps.Stage.TheVariants as stages
+use Rattle.request_history.specs.declared.lock_holder_steps.Step.{Step}
+use Rattle.request_history.specs.declared.lock_holder_steps.Step.TheVariants as steps
 
 -- ---- the holder of a phase
 

@@ -5,7 +5,7 @@ use Rattle.request_history.specs.Parts.{CameTo, IsWorld}
 use Rattle.request_history.specs.Worlds.{HasNoStep, Steps}
 use Rattle.request_history.specs.declared.event.StepFault.{StepFault}
 use Rattle.request_history.specs.declared.event.StepFault.TheVariants as faults
-use Rattle.request_history.specs.declared.world_parts.Parts.{Parts}
+use Rattle.request_history.specs.declared.parts_and_events.Parts.{Parts}
 
 module _ {T : Type 0} (old new : Parts) (event : world.Event) where
   pub came_fine : (r : Result T StepFault) → IsWorld old → CameTo r old event new → IsWorld new

@@ -20,10 +20,10 @@ use Rattle.request_history.specs.Connections.{Rests, SettlesTo, advanced}
 use Rattle.request_history.specs.Phases.{IsOpened, MayStep, step_event}
 use Rattle.request_history.specs.Parts.{AnswersHolder, HasSeen, HoldsNext, IsFaulted, IsFinished, IsWorld, TookEvent, faulted, finished}
 use Rattle.request_history.specs.Worlds.{HasNoStep, Steps, any_second, asking_of, holder_event, numbered, world_of}
-use Rattle.request_history.specs.declared.holder_phase.Step.{Step}
-use Rattle.request_history.specs.declared.holder_phase.Step.TheVariants as steps
-use Rattle.request_history.specs.declared.world_parts.Parts.{Parts}
-use Rattle.request_history.specs.declared.world_parts.Replaced.{Replaced}
+use Rattle.request_history.specs.declared.lock_holder_steps.Step.{Step}
+use Rattle.request_history.specs.declared.lock_holder_steps.Step.TheVariants as steps
+use Rattle.request_history.specs.declared.parts_and_events.Parts.{Parts}
+use Rattle.request_history.specs.declared.parts_and_events.Replaced.{Replaced}
 
 -- ---- whether there is a step
 

@@ -13,7 +13,7 @@ use Rattle.pod_core.specs.KeeperSteps.{Holder, item_at_end, stamp_at_end}
 use Rattle.pod_core.specs.Session.{Item, answered}
 use Rattle.pod_core.specs.World.{Connection, IsNextEvent, next_stamp, request_number}
 use Rattle.pod_reply.specs.Replies.{Reply, reply_of}
-use Rattle.pod_reply.specs.declared.replied.Replied.{Replied}
+use Rattle.pod_reply.specs.declared.response_and_entry.Replied.{Replied}
 use Rattle.pod_reply.specs.Reply.{IsReply}
 use Rattle.pod_rows.specs.Apply.{Applies}
 use Rattle.pod_rows.specs.Pod.{Pod}
@@ -21,8 +21,8 @@ use Rattle.reply_laws.specs.Granted.{is_change}
 use Rattle.token_table.specs.Credentials.{AskedAgent}
 use Rattle.request_history.specs.Answers.{item_of}
 use Rattle.request_history.specs.Reads.{Becomes, ChangesAs, ReplyBecomes}
-use Rattle.request_history.specs.declared.change_answers.Change.{Change}
-use Rattle.request_history.specs.declared.change_answers.Change.TheVariants as outcomes
+use Rattle.request_history.specs.declared.next_change.Change.{Change}
+use Rattle.request_history.specs.declared.next_change.Change.TheVariants as outcomes
 
 -- a pod, the agent, the number of the next change and the stamp
 abbrev Asking : Type 0

@@ -6,7 +6,7 @@ use Rattle.pod_core.specs.World as world
 use Rattle.pod_core.specs.World.{holder_in}
 use Rattle.request_history.specs.Parts.{HoldsNext, IsWorld}
 use Rattle.request_history.specs.Worlds.{StepsStorable}
-use Rattle.request_history.specs.declared.world_parts.Parts.{Parts}
+use Rattle.request_history.specs.declared.parts_and_events.Parts.{Parts}
 
 pub steps_storable : (old new : Parts) (event : world.Event) → IsWorld old → StepsStorable old event new
 steps_storable old new (world.body true) fine step =

@@ -24,10 +24,10 @@ use Rattle.request_history.specs.Parts.{HasSeen, HoldsNext, IsReady, TakesLock, 
 use Rattle.request_history.specs.Keepers.{AppliesAtEnd}
 use Rattle.request_history.specs.Reads.{ChangesAs, LacksChange, after_answer}
 use Rattle.request_history.specs.Worlds.{HasNoStep, any_second, asking_of, world_of}
-use Rattle.request_history.specs.declared.answer.Answer.{Answer}
-use Rattle.request_history.specs.declared.change_answers.Change.{Change}
-use Rattle.request_history.specs.declared.change_answers.Change.TheVariants as outcomes
-use Rattle.request_history.specs.declared.world_parts.Parts.{Parts}
+use Rattle.request_history.specs.declared.answer_bytes.Answer.{Answer}
+use Rattle.request_history.specs.declared.next_change.Change.{Change}
+use Rattle.request_history.specs.declared.next_change.Change.TheVariants as outcomes
+use Rattle.request_history.specs.declared.parts_and_events.Parts.{Parts}
 
 -- ---- where no change is next
 

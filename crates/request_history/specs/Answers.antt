@@ -8,8 +8,8 @@ use Rattle.pod_core.specs.KeeperSteps.{Holder}
 use Rattle.pod_core.specs.Session.{Item, answered}
 use Rattle.pod_reply.specs.Replies.{Reply}
 use Rattle.token_table.specs.Credentials.{AskedAgent, known, public, refused}
-use Rattle.request_history.specs.declared.answer.Requester.{Requester}
-use Rattle.request_history.specs.declared.answer.Requester.TheVariants as requesters
+use Rattle.request_history.specs.declared.answer_bytes.Requester.{Requester}
+use Rattle.request_history.specs.declared.answer_bytes.Requester.TheVariants as requesters
 
 -- the requesting agent
 abbrev pub asked_by : Requester → AskedAgent

@@ -9,7 +9,7 @@ use Rattle.pod_core.specs.WorldImages.{journal_of}
 use Rattle.pod_pages.specs.State.{VersionState}
 use Rattle.pod_rows.specs.Apply.{Applies}
 use Rattle.pod_rows.specs.WellFormed.{pod_of}
-use Rattle.request_history.specs.declared.keeper.Opening.{Opening}
+use Rattle.request_history.specs.declared.world_keeper.Opening.{Opening}
 
 -- the history that begins with this version
 abbrev pub history_of : VersionState → List Entry → History

@@ -16,12 +16,12 @@ use Rattle.request_history.specs.Connections.{Rests, SettlesTo}
 use Rattle.request_history.specs.Worlds.{HasNoStep, Steps, any_second, asking_of, numbered}
 use Rattle.request_history.specs.Worlds.{world_of}
 use Rattle.request_history.specs.Reads.{TakesAs}
-use Rattle.request_history.specs.declared.change_answers.Change.{Change}
-use Rattle.request_history.specs.declared.change_answers.Change.TheVariants as outcomes
+use Rattle.request_history.specs.declared.next_change.Change.{Change}
+use Rattle.request_history.specs.declared.next_change.Change.TheVariants as outcomes
 use Rattle.request_history.specs.declared.event.StepFault.{StepFault}
 use Rattle.request_history.specs.declared.event.StepFault.TheVariants as faults
-use Rattle.request_history.specs.declared.world_parts.Parts.{Parts}
-use Rattle.request_history.specs.declared.world_parts.Replaced.{Replaced}
+use Rattle.request_history.specs.declared.parts_and_events.Parts.{Parts}
+use Rattle.request_history.specs.declared.parts_and_events.Replaced.{Replaced}
 
 -- ---- what holds of them
 

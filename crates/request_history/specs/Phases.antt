@@ -3,10 +3,10 @@ use Rattle.std.specs.Prelude.{◌≡◌, Bool, true, false, not, Option, Some, N
 use Rattle.pod_command.specs.declared.entry.Entry.{Entry}
 use Rattle.pod_core.specs.KeeperSteps as keeper
 use Rattle.pod_core.specs.KeeperSteps.{Holder, KeeperEvent, KeeperView}
-use Rattle.request_history.specs.declared.holder_phase.Stage.{Stage}
-use Rattle.request_history.specs.declared.holder_phase.Stage.TheVariants as stages
-use Rattle.request_history.specs.declared.holder_phase.Step.{Step}
-use Rattle.request_history.specs.declared.holder_phase.Step.TheVariants as steps
+use Rattle.request_history.specs.declared.lock_holder_steps.Stage.{Stage}
+use Rattle.request_history.specs.declared.lock_holder_steps.Stage.TheVariants as stages
+use Rattle.request_history.specs.declared.lock_holder_steps.Step.{Step}
+use Rattle.request_history.specs.declared.lock_holder_steps.Step.TheVariants as steps
 
 -- the phase of a holder that has come so far
 abbrev pub phase_of : Option Holder → Stage → keeper.Phase

@@ -19,9 +19,9 @@ use Rattle.reply_laws.specs.Granted.{is_change}
 use Rattle.token_table.specs.Credentials.{AskedAgent}
 use Rattle.request_history.specs.Connections.{advanced}
 use Rattle.request_history.specs.Worlds.{any_second}
-use Rattle.request_history.specs.declared.answer.Answer.{Answer}
-use Rattle.request_history.specs.declared.change_answers.Change.{Change}
-use Rattle.request_history.specs.declared.change_answers.Change.TheVariants as outcomes
+use Rattle.request_history.specs.declared.answer_bytes.Answer.{Answer}
+use Rattle.request_history.specs.declared.next_change.Change.{Change}
+use Rattle.request_history.specs.declared.next_change.Change.TheVariants as outcomes
 
 -- ---- looks
 

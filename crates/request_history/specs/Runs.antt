@@ -10,7 +10,7 @@ use Rattle.request_history.specs.Keepers.{first_history}
 use Rattle.request_history.specs.Worlds.{Steps, StepsStorable, any_second, asking_of, event_of}
 use Rattle.request_history.specs.Worlds.{world_of}
 use Rattle.request_history.specs.declared.event.Event.{Event}
-use Rattle.request_history.specs.declared.world_parts.Parts.{Parts}
+use Rattle.request_history.specs.declared.parts_and_events.Parts.{Parts}
 use Rattle.world_laws.specs.CrashedWorlds.{AppendsStorable, ImageStandsFor, ImageStandsForMore}
 use Rattle.world_laws.specs.CrashedWorlds.{IsRecordableHistory}
 

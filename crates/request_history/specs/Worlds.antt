@@ -7,9 +7,9 @@ use Rattle.token_table.specs.Credentials.{AskedAgent, asked_of}
 use Rattle.token_table.specs.declared.table_line.TokenEntry.{TokenEntry}
 use Rattle.request_history.specs.declared.event.Event.{Event}
 use Rattle.request_history.specs.declared.event.Event.TheVariants as events
-use Rattle.request_history.specs.declared.holder_phase.Step.{Step}
-use Rattle.request_history.specs.declared.holder_phase.Step.TheVariants as steps
-use Rattle.request_history.specs.declared.world_parts.Parts.{Parts}
+use Rattle.request_history.specs.declared.lock_holder_steps.Step.{Step}
+use Rattle.request_history.specs.declared.lock_holder_steps.Step.TheVariants as steps
+use Rattle.request_history.specs.declared.parts_and_events.Parts.{Parts}
 use Rattle.world_laws.specs.CrashedWorlds.{WritesStorable}
 
 -- The clock may give any moment.

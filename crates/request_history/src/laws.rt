@@ -7,9 +7,9 @@ ghost use Rattle.world_laws.specs.OneHistory.{OneLegalHistory, OnlyGrows};
 
 use crate::any_clock::AnyClock;
 
-/// A world that began as the first one of a history, and took these events, is one to which the
-/// definition leads by them. So all that follows from events holds of it: each connection wrote the
-/// output of a session of its one history, which only grew, and which a crash keeps.
+/// A world as a value, which began as the first one of a history and took these events, is one to
+/// which the definition leads by them. So all that follows from events holds of it: each connection
+/// wrote the output of a session of its one history, which only grew, and which a crash keeps.
 pub fn after_events()
     ensures begins { BeginsWithNone }
     ensures takes { TakesOneMore }

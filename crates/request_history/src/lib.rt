@@ -21,21 +21,21 @@
 //! versions of a pod, which share their pages, and on `world_laws` for the laws.
 #![tactic(auto)]
 
-mod answer;
+mod answer_bytes;
 mod any_clock;
-mod change_answers;
-mod connection;
+mod connection_input;
 mod event;
-mod holder;
-mod holder_phase;
-mod input;
-mod journal;
-mod keeper;
 pub mod laws;
-mod read_answers;
+mod lock_holder;
+mod lock_holder_steps;
+mod next_change;
+mod next_read;
+mod parts_and_events;
 mod recorded_entry;
 mod world;
-mod world_parts;
+mod world_connection;
+mod world_journal;
+mod world_keeper;
 
 pub use event::{Event, StepFault};
 pub use world::World;

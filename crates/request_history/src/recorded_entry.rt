@@ -32,7 +32,7 @@ impl Model for Recorded {
 }
 
 impl Recorded {
-    /// An entry with its record.
+    /// A recorded entry: an entry with its record.
     pub(crate) fn of(alloc: Global, entry: &Entry) -> Mem<Recorded>
         requires { IsEncodable entry.now }
         ensures is { IfOk result (λ recorded. recorded ≡ bare_entry entry.now) }
@@ -43,7 +43,7 @@ impl Recorded {
         Ok(Recorded { entry, body })
     }
 
-    /// An equal entry.
+    /// A copy of the recorded entry.
     pub(crate) fn copy_entry(&self, alloc: Global) -> Mem<Entry>
         ensures { IfOk result (λ entry. entry ≡ self.now) }
     {
@@ -51,14 +51,14 @@ impl Recorded {
         Ok(entry)
     }
 
-    /// The entry.
+    /// The entry that is recorded.
     pub(crate) fn entry(&self) -> &Entry
         ensures { result.now ≡ self.now }
     {
         &self.entry
     }
 
-    /// The bytes of its record.
+    /// The bytes of the recorded entry's record.
     pub(crate) fn body(&self) -> &[u8]
         ensures { result.now ≡ entry_bytes self.now }
     {

@@ -11,10 +11,10 @@ ghost use Rattle.request_history.specs.Worlds.{HasNoStep, Steps, StepsStorable, 
 ghost use Rattle.request_history.specs.Worlds.{numbers_to, world_of};
 ghost use Rattle.world_laws.specs.CrashedWorlds.{IsRecordableHistory};
 
-use crate::connection::Connection;
 use crate::event::{Event, StepFault};
-use crate::keeper::Keeper;
-use crate::world_parts::Parts;
+use crate::parts_and_events::Parts;
+use crate::world_connection::Connection;
+use crate::world_keeper::Keeper;
 use pod_base::{Bytes, List, Mem, NoMemory};
 use pod_command::{Entry, Snapshot};
 use std::alloc::Global;
@@ -29,7 +29,7 @@ pub struct World {
 }
 
 impl Model for World {
-    ghost use Rattle.request_history.specs.declared.world_parts.Parts.{Parts};
+    ghost use Rattle.request_history.specs.declared.parts_and_events.Parts.{Parts};
 
     ghost Value = { Parts };
 
@@ -40,7 +40,7 @@ impl Model for World {
     ghost invariant = { λ w. IsWorld w.parts };
 }
 
-/// New connections, which have seen this place.
+/// The new connections of a world, which have seen this place.
 fn new_connections(alloc: Global, count: usize, seen: u64) -> Mem<Vec<Connection>>
     ensures fresh { IfOk result (λ connections. connections.items ≡ replicate count (fresh seen)) }
     ensures rests { IfOk result (λ connections. AllByRecursion Rests connections.items) }
@@ -95,7 +95,7 @@ impl World {
         })
     }
 
-    /// Takes an event.
+    /// Takes an event, as a step of the world.
     ///
     /// # Errors
     ///
@@ -115,14 +115,14 @@ impl World {
         self.parts.step(alloc, event)
     }
 
-    /// How many connections it has.
+    /// How many connections the world has.
     pub fn conns(&self) -> usize
         ensures { result ≡ length self.now.connections.items }
     {
         self.parts.connections.len()
     }
 
-    /// What a connection wrote.
+    /// What a connection of the world wrote.
     pub fn output(&self, conn: usize) -> &Bytes
         requires { conn < length self.now.connections.items }
         ensures { IfSome (slice_get self.now.connections.items conn)
@@ -131,14 +131,14 @@ impl World {
         self.parts.connections[conn].output()
     }
 
-    /// The entries of the history, in order.
+    /// The entries of the world's history, in order.
     pub fn entries(&self) -> &List<Entry>
         ensures { result.now.items ≡ self.now.keeper.history.entries }
     {
         self.parts.keeper.entries()
     }
 
-    /// The journal of the history in format 2 with epoch 1, up to its last gate.
+    /// The journal of the world's history in format 2 with epoch 1, up to its last gate.
     pub fn journal(&self) -> &Bytes
         ensures { result.now ≡ journal_of self.now.keeper.history }
     {

@@ -11,7 +11,7 @@ use pod_responses::{is_allowed, not_allowed, refusal, unauthorized};
 use std::alloc::Global;
 use token_table::Asked;
 
-/// The refusal of a token that isn't accepted.
+/// The refusal to admit a request whose token isn't accepted.
 fn refuse_token(alloc: Global, asked: &Asked<'_>) -> Mem<Option<Response>>
     ensures { IfOk result (λ response. response ≡ spec.token_refusal (asked_view asked.now)) }
 {
@@ -21,7 +21,7 @@ fn refuse_token(alloc: Global, asked: &Asked<'_>) -> Mem<Option<Response>>
     }
 }
 
-/// The refusal of a method that the target doesn't take.
+/// The refusal to admit a request whose method the target doesn't take.
 fn refuse_untaken(alloc: Global, target: &Target, method: Method) -> Mem<Option<Response>>
     ensures { IfOk result (λ response. response ≡ spec.untaken target.now method) }
 {
@@ -36,7 +36,7 @@ fn refuse_untaken(alloc: Global, target: &Target, method: Method) -> Mem<Option<
     }
 }
 
-/// The refusal of a method that isn't implemented, or that the target doesn't take.
+/// The refusal to admit a request whose method isn't implemented, or isn't taken by the target.
 fn refuse_method(alloc: Global, target: &Target, method: Method) -> Mem<Option<Response>>
     ensures { IfOk result (λ response. response ≡ spec.method_refusal target.now method) }
 {
@@ -46,7 +46,7 @@ fn refuse_method(alloc: Global, target: &Target, method: Method) -> Mem<Option<R
     }
 }
 
-/// The target, unless its token or its method is refused.
+/// The target of an admitted request, or the refusal of its token or its method.
 fn admit_to(
     alloc: Global,
     target: Target,
@@ -65,9 +65,10 @@ fn admit_to(
     Ok(Ok(target))
 }
 
-/// What a request is about, or the first refusal, in this order: 400 `path` and 414 `path-size` of
-/// a target that is no path, or is `*` without OPTIONS; 401 `token` of a token that isn't accepted;
-/// 501 `method` of one that isn't implemented; 405 `not-allowed` of one that the path doesn't take.
+/// Admits a request to its target, or returns the first refusal, in this order: 400 `path` and 414
+/// `path-size` of a target that is no path, or is `*` without OPTIONS; 401 `token` of a token that
+/// isn't accepted; 501 `method` of one that isn't implemented; 405 `not-allowed` of one that the
+/// path doesn't take.
 pub fn admit(
     alloc: Global,
     base: &Iri,

@@ -21,7 +21,7 @@ pub enum Target {
     Resource(Path),
 }
 
-/// The text before a slash at its end.
+/// The text of the base before a slash at its end, which a target in absolute form begins with.
 fn strip_slash<'a>(text: &'a str) -> Option<&'a str>
     ensures some { IfSome (option_copied result) (λ prefix. text.entry.now ≡ prefix ++ codes "/") }
     ensures none { IfNone (option_copied result) ((prefix : List ℕ)
@@ -30,7 +30,7 @@ fn strip_slash<'a>(text: &'a str) -> Option<&'a str>
     text.strip_suffix("/")
 }
 
-/// The text without one slash at its end.
+/// The text of the base without one slash at its end, which a target in absolute form begins with.
 fn trim_slash(text: &str) -> &str
     ensures { result.now ≡ without_last_slash text.now }
 {
@@ -83,7 +83,7 @@ fn read_resource(alloc: Global, base: &Iri, target: &[u8]) -> Mem<Result<Target,
     }
 }
 
-/// The server, where the method may have it as its target, or the refusal.
+/// The server as the target, where the method may have it, or the refusal.
 fn read_server(alloc: Global, method: Method) -> Mem<Result<Target, Response>>
     ensures { IfOk result (λ found. found ≡ spec.server_for method) }
 {

@@ -30,7 +30,7 @@ impl Model for Item {
 }
 
 impl Item {
-    /// The item of a row.
+    /// The item of a row, with the number of the list that governs it.
     pub fn new(alloc: Global, row: Row, list: u32, own: bool) -> Mem<Item>
         ensures { IfOk result (λ item. item ≡ record { row = row; list = list; own = own }) }
     {
@@ -51,35 +51,35 @@ impl Item {
         }
     }
 
-    /// The row.
+    /// The item's row.
     pub fn row(&self) -> &Row
         ensures { result.now ≡ self.now.row }
     {
         &self.row
     }
 
-    /// The number of the list that governs the row.
+    /// The number of the access list that governs the item's row.
     pub fn list(&self) -> u32
         ensures { result ≡ self.now.list }
     {
         self.list
     }
 
-    /// Whether that list is the row's own.
+    /// Whether the list that governs the item's row is the row's own.
     pub fn is_own(&self) -> bool
         ensures { result ≡ self.now.own }
     {
         self.own
     }
 
-    /// The path of the row.
+    /// The path of the item's row.
     pub(crate) fn path(&self) -> &[u8]
         ensures { result.now ≡ self.now.row.path }
     {
         self.row().path.as_str().as_bytes()
     }
 
-    /// An equal item, which shares the row.
+    /// A copy of the item, which shares the row.
     pub fn copy(&self) -> Mem<Item>
         ensures { IfOk result (λ copy. copy ≡ self.now) }
     {

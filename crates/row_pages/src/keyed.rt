@@ -10,7 +10,7 @@ pub trait Keyed {
     /// Its key.
     ghost key: { Self → List ℕ };
 
-    /// Its key: one step.
+    /// The key of the value, a path by which it is in order: one step.
     fn key<L: Ledger>(&self, steps: &mut Steps<L>) -> &[u8]
         ensures key { result.now ≡ key self.now }
         ensures cost { steps.new ≡ steps.old + 1 };

@@ -37,10 +37,10 @@
 mod item;
 mod keyed;
 mod limits;
-mod listing;
-mod node;
+mod page_node;
 mod part;
 mod part_list;
+mod prefix_listing;
 mod rows;
 mod search_steps;
 mod sought_path;

@@ -10,7 +10,7 @@ ghost use Rattle.row_pages.specs.Seeks.{IsListed};
 
 use crate::item::Item;
 use crate::keyed::Keyed;
-use crate::listing::list_item;
+use crate::prefix_listing::list_item;
 use crate::search_steps::Steps;
 use crate::sought_path::{Sought, text_is_before};
 use pod_base::Mem;
@@ -18,7 +18,7 @@ use std::alloc::Global;
 use std::cmp::Ordering;
 use std::sync::ledger::Ledger;
 
-/// Whether the item's path begins with the text.
+/// Whether the path of an item, as a part, begins with the text.
 pub(crate) fn begins_with(item: &Item, prefix: &[u8]) -> bool
     ensures { result ≡ begins_with prefix.now item.now }
 {
@@ -54,7 +54,7 @@ pub(crate) trait Part: Keyed + Drop {
     fn has_items(&self)
         ensures { 0 < length (items self.now) };
 
-    /// The item at a path.
+    /// The part's item at a path.
     fn find<P: Sought<L>, L: Ledger>(&self, path: &P, steps: &mut Steps<L>) -> Option<&Item>
         requires { AreItemsInOrder (items self.now) }
         ensures found { option_copied result ≡ item_at (items self.now) (P.text path.now) }
@@ -72,8 +72,8 @@ pub(crate) trait Part: Keyed + Drop {
         ensures { IfOk result (λ grown. items_of_both items grown.part grown.more
             ≡ put_item (items self) item) };
 
-    /// Puts an item in place of the one at its path. It is given back, and the part is as before,
-    /// where there is none, and where memory is shared.
+    /// Puts an item into the part in place of the one at its path. It is given back, and the part
+    /// is as before, where there is none, and where memory is shared.
     fn replace(&mut self, item: Item) -> Option<Item>
         requires { AreItemsInOrder (items self.old) }
         ensures put { IfNone result (items self.new ≡ put_item (items self.old) item) }
@@ -93,27 +93,27 @@ pub(crate) trait Part: Keyed + Drop {
 
 /// A part whose items are looked at in their order.
 pub(crate) trait Listed: Part {
-    /// Its first item.
+    /// The part's first item.
     fn first_item(&self) -> &Item
         ensures { first_item (Self.items self.now) ≡ Some result.now };
 
-    /// Whether the path of its first item begins with the text.
+    /// Whether the path of the part's first item begins with the text.
     fn begins_below(&self, prefix: &[u8]) -> bool
         ensures { first_begins prefix.now (Self.items self.now) ≡ Some result };
 
-    /// The first item whose path isn't before a text.
+    /// The part's first item whose path isn't before a text.
     fn first_from(&self, text: &[u8]) -> Option<&Item>
         requires { AreItemsInOrder (Self.items self.now) }
         ensures { option_copied result ≡ first_from (Self.items self.now) text.now };
 
-    /// Appends the items whose paths begin with a text.
+    /// Appends the part's items whose paths begin with a text.
     fn below(&self, prefix: &[u8], into: &mut Vec<Item>) -> Mem<()>
         requires { AreItemsInOrder (Self.items self.now) }
         ensures { OnOk result (into.new.items
             ≡ into.old.items ++ items_below (Self.items self.now) prefix.now) };
 
-    /// Appends the items directly below the prefix, of those that aren't before the text from which
-    /// a listing goes on, which is raised.
+    /// Appends the part's items directly below the prefix, of those that aren't before the text
+    /// from which a listing goes on, which is raised.
     fn list(&self, prefix: &[u8], from: &mut Vec<u8>, into: &mut Vec<Item>) -> Mem<()>
         requires order { AreItemsInOrder (Self.items self.now) }
         requires begins { starts_with nat_eq from.old.items prefix.now ≡ true }

@@ -20,7 +20,7 @@ use std::alloc::Global;
 use std::marker::Brand;
 use std::sync::ledger::{Blank, Ledger};
 
-/// Whether the path is before the key of the part.
+/// Whether the path is before the key of a part of the list.
 fn is_before_part<T: Part, P: Sought<L>, L: Ledger>(
     path: &P,
     part: &T,
@@ -36,8 +36,8 @@ fn is_before_part<T: Part, P: Sought<L>, L: Ledger>(
     path.is_before(part, steps)
 }
 
-/// How many of the parts begin at the path or before it. The first `low` parts do, and those from
-/// `high` on don't. It halves what is between.
+/// How many of the list's parts begin at the path or before it. The first `low` parts do, and those
+/// from `high` on don't. It halves what is between.
 fn place_between<T: Part, P: Sought<L>, L: Ledger>(
     parts: &[T],
     low: usize,
@@ -77,8 +77,9 @@ pub(crate) struct Around<'a, T> {
     pub after: &'a [T],
 }
 
-/// The part to which a path belongs: all items before the part are before the path, and all after
-/// the part are after it. None where there are no parts.
+/// The part of a list of parts to which a path belongs, with a count of the keys that are read: all
+/// items before the part are before the path, and all after the part are after it. None where there
+/// are no parts.
 pub(crate) fn around_counted<'a, T: Part, P: Sought<L>, L: Ledger>(
     parts: &'a [T],
     path: &P,
@@ -106,7 +107,7 @@ pub(crate) fn around_counted<'a, T: Part, P: Sought<L>, L: Ledger>(
     })
 }
 
-/// [`around_counted`] on a count that nobody reads.
+/// The part of a list of parts to which a path belongs, found on a count that nobody reads.
 fn around_blank<'a, T: Part, L: Ledger>(
     parts: &'a [T],
     path: &[u8],
@@ -129,7 +130,7 @@ fn around_blank<'a, T: Part, L: Ledger>(
     around_counted(parts, &sought, &mut steps)
 }
 
-/// The part to which a path belongs.
+/// The part of a list of parts to which a path belongs, between those before and after it.
 fn split_at_path<'a, T: Part>(parts: &'a [T], path: &[u8]) -> Option<Around<'a, T>>
     requires { AreItemsInOrder (flat_map T.items parts.now) }
     ensures whole { IfSome result (λ around. parts.entry.now
@@ -143,8 +144,8 @@ fn split_at_path<'a, T: Part>(parts: &'a [T], path: &[u8]) -> Option<Around<'a, 
     around_blank::<T, Brand>(parts, path, Blank::new(1))
 }
 
-/// The item at a path among parts in order. `steps` counts the keys that are read: at most as many
-/// as the number of parts has binary digits, and what a search in one part costs.
+/// The item at a path in a list of parts in order. `steps` counts the keys that are read: at most
+/// as many as the number of parts has binary digits, and what a search in one part costs.
 pub(crate) fn find_in<'a, T: Part, P: Sought<L>, L: Ledger>(
     parts: &'a [T],
     path: &P,
@@ -162,7 +163,7 @@ pub(crate) fn find_in<'a, T: Part, P: Sought<L>, L: Ledger>(
     }
 }
 
-/// Appends the parts, which share their memory with these.
+/// Appends the parts to a list, which share their memory with these.
 pub(crate) fn share_all<T: Part>(parts: &[T], into: &mut Vec<T>) -> Mem<()>
     ensures { OnOk result (into.new.items ≡ into.old.items ++ parts.now) }
 {
@@ -173,7 +174,7 @@ pub(crate) fn share_all<T: Part>(parts: &[T], into: &mut Vec<T>) -> Mem<()>
     Ok(())
 }
 
-/// Appends a part, if there is one.
+/// Appends a part to a list, if there is one.
 fn push_some<T: Part>(into: &mut Vec<T>, part: Option<T>) -> Mem<()>
     ensures items { OnOk result (into.new.items ≡ into.old.items ++ option_to_list part) }
     ensures some { OnOk result (HaveItems T.items (option_to_list part)) }
@@ -188,7 +189,7 @@ fn push_some<T: Part>(into: &mut Vec<T>, part: Option<T>) -> Mem<()>
     }
 }
 
-/// The parts before and after, with these between them.
+/// The list of the parts before and after, with these between them.
 fn joined<T: Part>(
     alloc: Global,
     before: &[T],
@@ -210,7 +211,7 @@ fn joined<T: Part>(
     Ok(all)
 }
 
-/// The parts with this item: at most one more than before.
+/// The list of parts with this item: at most one more than before.
 pub(crate) fn put_in<T: Part>(alloc: Global, parts: &[T], item: &Item) -> Mem<Vec<T>>
     requires { AreItemsInOrder (flat_map T.items parts.now) }
     ensures items { IfOk result (λ all. flat_map T.items all.items
@@ -235,7 +236,7 @@ pub(crate) fn put_in<T: Part>(alloc: Global, parts: &[T], item: &Item) -> Mem<Ve
     }
 }
 
-/// Where the part to which a path belongs stands, found on a count that nobody reads.
+/// Where in a list of parts the one is to which a path belongs, found on a count that nobody reads.
 fn place_blank<T: Part, L: Ledger>(parts: &[T], path: &[u8], blank: Blank) -> usize
     requires name { blank.name ≡ L.name }
     requires parts { blank.parts ≡ L.parts }
@@ -252,8 +253,8 @@ fn place_blank<T: Part, L: Ledger>(parts: &[T], path: &[u8], blank: Blank) -> us
     place.saturating_sub(1)
 }
 
-/// Where the part to which a path belongs stands: the last that begins at the path or before it, or
-/// else the first.
+/// Where in a list of parts the one is to which a path belongs: the last that begins at the path or
+/// before it, or else the first.
 fn place_of<T: Part>(parts: &[T], path: &[u8]) -> usize
     requires order { AreItemsInOrder (flat_map T.items parts.now) }
     requires there { 0 < length parts.now }
@@ -264,7 +265,7 @@ fn place_of<T: Part>(parts: &[T], path: &[u8]) -> usize
     place_blank::<T, Brand>(parts, path, Blank::new(1))
 }
 
-/// Inserts a part, if there is one.
+/// Inserts a part into a list, if there is one.
 fn insert_some<T: Part>(parts: &mut Vec<T>, place: usize, part: Option<T>) -> Mem<()>
     requires { place ≤ length parts.old.items }
     ensures items { OnOk result (parts.new.items ≡ take place parts.old.items
@@ -281,7 +282,7 @@ fn insert_some<T: Part>(parts: &mut Vec<T>, place: usize, part: Option<T>) -> Me
     }
 }
 
-/// Puts one part or two where another was taken out.
+/// Puts one part or two into a list where another was taken out.
 fn put_back<T: Part>(parts: &mut Vec<T>, place: usize, part: T, more: Option<T>) -> Mem<()>
     requires { place ≤ length parts.old.items }
     ensures items { OnOk result (parts.new.items ≡ take place parts.old.items
@@ -295,7 +296,7 @@ fn put_back<T: Part>(parts: &mut Vec<T>, place: usize, part: T, more: Option<T>)
     Ok(())
 }
 
-/// One part of this item, where there are no parts.
+/// A list of one part with this item, where there are no parts.
 fn one_part<T: Part>(alloc: Global, parts: Vec<T>, item: &Item) -> Mem<Vec<T>>
     requires { length parts.items ≡ 0 }
     ensures items { IfOk result (λ all. flat_map T.items all.items ≡ item.now ∷ []) }
@@ -309,7 +310,7 @@ fn one_part<T: Part>(alloc: Global, parts: Vec<T>, item: &Item) -> Mem<Vec<T>>
     Ok(all)
 }
 
-/// [`put_in`] of parts that nobody shares: all but one stay where they are.
+/// The list of parts with this item, of parts that nobody shares: all but one stay where they are.
 pub(crate) fn into_with_in<T: Part>(alloc: Global, parts: Vec<T>, item: Item) -> Mem<Vec<T>>
     requires { AreItemsInOrder (flat_map T.items parts.items) }
     ensures items { IfOk result (λ all. flat_map T.items all.items
@@ -332,8 +333,8 @@ pub(crate) fn into_with_in<T: Part>(alloc: Global, parts: Vec<T>, item: Item) ->
     Ok(all)
 }
 
-/// Puts an item in place of the one at its path, among parts that nobody shares. It is given back
-/// where there is none, and where memory further in is shared.
+/// Puts an item in place of the one at its path, in a list of parts that nobody shares. It is given
+/// back where there is none, and where memory further in is shared.
 pub(crate) fn replace_in<T: Part>(parts: &mut Vec<T>, item: Item) -> Option<Item>
     requires { AreItemsInOrder (flat_map T.items parts.old.items) }
     ensures put { IfNone result (flat_map T.items parts.new.items
@@ -352,7 +353,7 @@ pub(crate) fn replace_in<T: Part>(parts: &mut Vec<T>, item: Item) -> Option<Item
     parts[place].replace(item)
 }
 
-/// The parts without the item at the path.
+/// The list of parts without the item at the path.
 pub(crate) fn without_in<T: Part>(alloc: Global, parts: &[T], path: &[u8]) -> Mem<Vec<T>>
     requires { AreItemsInOrder (flat_map T.items parts.now) }
     ensures items { IfOk result (λ all. flat_map T.items all.items
@@ -371,7 +372,8 @@ pub(crate) fn without_in<T: Part>(alloc: Global, parts: &[T], path: &[u8]) -> Me
     }
 }
 
-/// Appends the items below a text, of parts after it. It stops at the first part that isn't below.
+/// Appends the items below a text, of the parts of a list after it. It stops at the first part that
+/// isn't below.
 fn below_after<T: Listed>(parts: &[T], prefix: &[u8], into: &mut Vec<Item>) -> Mem<()>
     requires order { AreItemsInOrder (flat_map T.items parts.now) }
     requires after { AreAfter prefix.now (flat_map T.items parts.now) }
@@ -388,7 +390,7 @@ fn below_after<T: Listed>(parts: &[T], prefix: &[u8], into: &mut Vec<Item>) -> M
     below_after(rest, prefix, into)
 }
 
-/// Appends the items whose paths begin with a text.
+/// Appends the items of a list of parts whose paths begin with a text.
 pub(crate) fn below_in<T: Listed>(parts: &[T], prefix: &[u8], into: &mut Vec<Item>) -> Mem<()>
     requires { AreItemsInOrder (flat_map T.items parts.now) }
     ensures { OnOk result (into.new.items
@@ -402,7 +404,7 @@ pub(crate) fn below_in<T: Listed>(parts: &[T], prefix: &[u8], into: &mut Vec<Ite
     Ok(())
 }
 
-/// The first item of parts.
+/// The first item of a list of parts.
 fn first_item_in<T: Listed>(parts: &[T]) -> Option<&Item>
     ensures { option_copied result ≡ first_item (flat_map T.items parts.entry.now) }
 {
@@ -412,7 +414,7 @@ fn first_item_in<T: Listed>(parts: &[T]) -> Option<&Item>
     }
 }
 
-/// The first item whose path isn't before a text.
+/// The first item of a list of parts whose path isn't before a text.
 pub(crate) fn first_from_in<'a, T: Listed>(parts: &'a [T], text: &[u8]) -> Option<&'a Item>
     requires { AreItemsInOrder (flat_map T.items parts.now) }
     ensures { option_copied result ≡ first_from (flat_map T.items parts.entry.now) text.now }
@@ -426,8 +428,8 @@ pub(crate) fn first_from_in<'a, T: Listed>(parts: &'a [T], text: &[u8]) -> Optio
     }
 }
 
-/// The part in which the items from a text on begin: the first part, where nothing of it is before
-/// the text, and else the one to which the text belongs.
+/// The part of a list in which the items from a text on begin: the first part, where nothing of it
+/// is before the text, and else the one to which the text belongs.
 pub(crate) fn part_from<'a, T: Listed>(parts: &'a [T], text: &[u8]) -> Option<Around<'a, T>>
     requires { AreItemsInOrder (flat_map T.items parts.now) }
     ensures whole { IfSome result (λ around. parts.entry.now

@@ -7,12 +7,12 @@ ghost use Rattle.row_pages.specs.Items.{items_below, first_from};
 ghost use Rattle.row_pages.specs.Delimited.{items_direct};
 
 use crate::item::Item;
-use crate::listing::list_parts;
-use crate::node::{Node, push_nodes};
+use crate::page_node::{Node, push_nodes};
 use crate::part::Part;
 use crate::part_list::{
     below_in, find_in, first_from_in, into_with_in, put_in, replace_in, share_all, without_in,
 };
+use crate::prefix_listing::list_parts;
 use crate::search_steps::Steps;
 use crate::sought_path::{PathText, Sought};
 use pod_base::{Mem, NoMemory};
@@ -42,7 +42,7 @@ impl Model for Rows {
 }
 
 impl Rows {
-    /// Of these items.
+    /// The rows of these items.
     pub fn of(alloc: Global, items: &[Item]) -> Mem<Rows>
         requires { AreItemsInOrder items.now }
         ensures { IfOk result (λ rows. rows ≡ items.now) }
@@ -57,22 +57,23 @@ impl Rows {
         })
     }
 
-    /// How many items there are.
+    /// How many items the rows have.
     pub fn len(&self) -> usize
         ensures { result ≡ length self.now }
     {
         self.len
     }
 
-    /// Each path is there once, in byte order. It does nothing.
+    /// The items of rows are in byte order of their paths, each path once. It does nothing.
     pub fn are_in_order(&self)
         ensures { AreItemsInOrder self.now }
     {
         let _books = self.books.as_slice();
     }
 
-    /// The item at a path, of which it knows [`Sought`] alone. `steps` counts the keys that are read,
-    /// each for one comparison: at most 15 more than the binary digits of the number of items.
+    /// The rows' item at a path, of which it knows [`Sought`] alone. `steps` counts the keys that
+    /// are read, each for one comparison: at most 15 more than the binary digits of the number of
+    /// items.
     pub fn find_counted<P: Sought<L>, L: Ledger>(
         &self,
         path: &P,
@@ -84,7 +85,7 @@ impl Rows {
         find_in(self.books.as_slice(), path, steps)
     }
 
-    /// [`Rows::find_counted`] on a count that nobody reads.
+    /// The rows' item at a path, found on a count that nobody reads.
     fn find_blank<L: Ledger>(&self, path: &[u8], blank: Blank) -> Option<&Item>
         requires name { blank.name ≡ L.name }
         requires parts { blank.parts ≡ L.parts }
@@ -96,14 +97,14 @@ impl Rows {
         self.find_counted(&sought, &mut steps)
     }
 
-    /// The item at a path.
+    /// The rows' item at a path.
     pub fn find(&self, path: &[u8]) -> Option<&Item>
         ensures { option_copied result ≡ item_at self.now path.now }
     {
         self.find_blank::<Brand>(path, Blank::new(1))
     }
 
-    /// Equal items, which share all memory.
+    /// Equal rows, which share all memory.
     pub fn share(&self, alloc: Global) -> Mem<Rows>
         ensures { IfOk result (λ rows. rows ≡ self.now) }
     {
@@ -115,7 +116,7 @@ impl Rows {
         })
     }
 
-    /// How many items there are with this one.
+    /// How many items the rows have with this one.
     fn len_with(&self, item: &Item) -> Mem<usize>
         ensures { IfOk result (λ len. len ≡ length (put_item self.now item.now)) }
     {
@@ -128,7 +129,7 @@ impl Rows {
         }
     }
 
-    /// How many items there are without the one at a path.
+    /// How many items the rows have without the one at a path.
     fn len_without(&self, path: &[u8]) -> usize
         ensures { result ≡ length (remove_item self.now path.now) }
     {
@@ -138,7 +139,7 @@ impl Rows {
         }
     }
 
-    /// The items with this one, which replaces the one at its path.
+    /// The rows with this item, which replaces the one at its path.
     pub fn put(&self, alloc: Global, item: &Item) -> Mem<Rows>
         ensures { IfOk result (λ rows. rows ≡ put_item self.now item.now) }
     {
@@ -147,8 +148,9 @@ impl Rows {
         Ok(Rows { books, len })
     }
 
-    /// [`Rows::put`] of items that nobody needs any more: what nobody shares is changed in place.
-    /// `replaces` says whether there is an item at the path.
+    /// The rows with this item, as [`Rows::put`] gives them, of rows that nobody needs any more:
+    /// what nobody shares is changed in place. `replaces` says whether there is an item at the
+    /// path.
     pub fn into_with(self, alloc: Global, item: Item, replaces: bool) -> Mem<Rows>
         requires { replaces ≡ is_some (item_at self item.row.path) }
         ensures { IfOk result (λ rows. rows ≡ put_item self item) }
@@ -158,8 +160,8 @@ impl Rows {
         Ok(Rows { books, len })
     }
 
-    /// Puts an item in place of the one at its path, where nobody shares the pages that have it.
-    /// Else it is given back.
+    /// Puts an item in place of the rows' one at its path, where nobody shares the pages that have
+    /// it. Else it is given back.
     fn replaced(&mut self, item: Item) -> Option<Item>
         ensures put { IfNone result (self.new ≡ put_item self.old item) }
         ensures kept { IfSome result (λ _. self.new ≡ self.old) }
@@ -168,8 +170,8 @@ impl Rows {
         replace_in(&mut self.books, item)
     }
 
-    /// [`Rows::put`] into these rows: what nobody shares is changed in place where it replaces an
-    /// item.
+    /// Puts an item into these rows, as [`Rows::put`] does: what nobody shares is changed in place
+    /// where it replaces an item.
     pub fn set(&mut self, alloc: Global, item: Item) -> Mem<()>
         ensures put { OnOk result (self.new ≡ put_item self.old item) }
         ensures kept { OnErr result (self.new ≡ self.old) }
@@ -184,7 +186,7 @@ impl Rows {
         }
     }
 
-    /// The items without the one at a path.
+    /// The rows without the item at a path.
     pub fn without(&self, alloc: Global, path: &[u8]) -> Mem<Rows>
         ensures { IfOk result (λ rows. rows ≡ remove_item self.now path.now) }
     {
@@ -193,15 +195,16 @@ impl Rows {
         Ok(Rows { books, len })
     }
 
-    /// The first item whose path isn't before a text.
+    /// The rows' first item whose path isn't before a text.
     pub fn first_from(&self, text: &[u8]) -> Option<&Item>
         ensures { option_copied result ≡ first_from self.now text.now }
     {
         first_from_in(self.books.as_slice(), text)
     }
 
-    /// The items directly below a text, in order: their paths begin with it, and have after it a
-    /// slash at most at their end. What is below a container among them is passed by one search.
+    /// The rows' items directly below a text, in order: their paths begin with it, and have after
+    /// it a slash at most at their end. What is below a container among them is passed by one
+    /// search.
     pub fn direct_below(&self, alloc: Global, prefix: &[u8]) -> Mem<Vec<Item>>
         ensures { IfOk result (λ items. items.items ≡ items_direct self.now prefix.now) }
     {
@@ -212,7 +215,7 @@ impl Rows {
         Ok(items)
     }
 
-    /// The items whose paths begin with a text, in order. Other pages aren't read.
+    /// The rows' items whose paths begin with a text, in order. Other pages aren't read.
     pub fn below(&self, alloc: Global, prefix: &[u8]) -> Mem<Vec<Item>>
         ensures { IfOk result (λ items. items.items ≡ items_below self.now prefix.now) }
     {
@@ -222,7 +225,7 @@ impl Rows {
     }
 }
 
-/// One more.
+/// One more than the number of items that rows have.
 fn next(len: usize) -> Mem<usize>
     ensures { IfOk result (λ next. next ≡ len + 1) }
 {
@@ -232,7 +235,7 @@ fn next(len: usize) -> Mem<usize>
     }
 }
 
-/// How many items there are after one was put, of so many before.
+/// How many items rows have after one was put, of so many before.
 fn len_put(len: usize, replaces: bool) -> Mem<usize>
     ensures { IfOk result (λ after. after ≡ (if replaces then len else len + 1)) }
 {

@@ -24,7 +24,7 @@ impl<L: Ledger> Model for Steps<L> {
 }
 
 impl<L: Ledger> Steps<L> {
-    /// A count at 0. A caller takes `Blank::new(1)` for it.
+    /// A count of a search's steps, at 0. A caller takes `Blank::new(1)` for it.
     pub fn new(blank: Blank) -> Steps<L>
         requires name { blank.name ≡ L.name }
         requires parts { blank.parts ≡ L.parts }
@@ -39,7 +39,7 @@ impl<L: Ledger> Steps<L> {
         }
     }
 
-    /// One more key.
+    /// Counts one more key that a search reads.
     pub fn tick(&mut self)
         ensures { self.new ≡ self.old + 1 }
     {
@@ -47,7 +47,7 @@ impl<L: Ledger> Steps<L> {
         self.count = self.count.saturating_add(1);
     }
 
-    /// How many keys were read, where that is under 2^64.
+    /// How many keys a search has read, where that is under 2^64.
     pub fn count(&self) -> u64
         ensures { self.now < 2 ^ 64 → result ≡ self.now }
     {

@@ -16,18 +16,19 @@ pub trait Sought<L: Ledger> {
     /// Its text.
     ghost text: { Self → List ℕ };
 
-    /// Whether it is before the other's key in byte order: one step, which reads the key.
+    /// Whether the sought path is before the other's key in byte order: one step, which reads the
+    /// key.
     fn is_before<K: Keyed>(&self, other: &K, steps: &mut Steps<L>) -> bool
         ensures order { result ≡ is_before (text self.now) (K.key other.now) }
         ensures cost { steps.new ≡ steps.old + 1 };
 
-    /// Whether it is the other's key: one step, which reads the key.
+    /// Whether the sought path is the other's key: one step, which reads the key.
     fn is_same<K: Keyed>(&self, other: &K, steps: &mut Steps<L>) -> bool
         ensures same { result ≡ bytes_eq (K.key other.now) (text self.now) }
         ensures cost { steps.new ≡ steps.old + 1 };
 }
 
-/// Whether the path is before the other in byte order.
+/// Whether the text of a sought path is before the other in byte order.
 pub(crate) fn text_is_before(path: &[u8], other: &[u8]) -> bool
     ensures { result ≡ is_before path.now other.now }
 {

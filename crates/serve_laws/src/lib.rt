@@ -50,7 +50,8 @@ pub fn each_change_once<D: Disk, O: Listen, C: Clock>(clock: &C)
     reply_laws::bases();
 }
 
-/// So has the list that desks leave which were served by new sessions of a store ([`serve`]).
+/// The list that desks leave which were served by new sessions of a store ([`serve`]) has each of
+/// its entries from exactly one item, too.
 ///
 /// [`serve`]: pod_serve::serve
 pub fn each_change_of_desks_once<

@@ -8,7 +8,7 @@ use Rattle.pod_path.specs.Hierarchy.{member_text, twin_of}
 use Rattle.pod_path.specs.declared.fault.PathFault.{PathFault}
 use Rattle.pod_path.specs.declared.fault.PathFault.TheVariants.{BadEscape, NotNormal, Reserved}
 use Rattle.pod_path.specs.declared.fault.PathFault.TheVariants.{TooLong, TooDeep, NoMemory}
-use Rattle.slug_naming.specs.declared.names.TheConstants.{ROW_LIMIT}
+use Rattle.slug_naming.specs.declared.name_candidates.TheConstants.{ROW_LIMIT}
 
 -- what follows the stem in candidate k: nothing, -2, -3, ..
 abbrev pub candidate_end : ℕ → List ℕ

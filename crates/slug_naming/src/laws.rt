@@ -2,7 +2,7 @@
 
 ghost use Rattle.slug_naming.specs.Laws.{HasOneName};
 
-/// A new member of a container has at most one path: the first free candidate is one.
+/// A new member of a container has at most one name by its slug: the first free candidate is one.
 pub fn one_name()
     ensures { HasOneName }
 {}

@@ -15,10 +15,10 @@
 #![tactic(auto)]
 
 pub mod laws;
-mod names;
+mod name_candidates;
 mod stems;
 mod taken_names;
 
-pub use names::{ROW_LIMIT, choose};
+pub use name_candidates::{ROW_LIMIT, choose};
 pub use stems::{STEM_LIMIT, stem};
 pub use taken_names::TakenNames;

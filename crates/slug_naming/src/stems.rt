@@ -17,7 +17,7 @@ use std::alloc::{AllocError, Global};
 /// The most bytes of a stem before `_` is added.
 pub const STEM_LIMIT: usize = 128;
 
-/// Whether a byte needs no escape anywhere in a path.
+/// Whether a byte of a stem needs no escape anywhere in a path.
 fn is_unreserved(byte: u8) -> bool
     ensures { result ≡ is_unreserved byte }
 {
@@ -27,7 +27,7 @@ fn is_unreserved(byte: u8) -> bool
         || b"-._~".contains(&byte)
 }
 
-/// The bytes that a slug decodes to, without slashes.
+/// The bytes that a slug decodes to for its stem, without slashes.
 fn name_bytes(alloc: Global, slug: &[u8]) -> Result<Vec<u8>, AllocError>
     ensures { IfOk result (λ bytes. bytes.items ≡ spec.without_slashes (percent_decode slug.now)) }
 {
@@ -36,7 +36,7 @@ fn name_bytes(alloc: Global, slug: &[u8]) -> Result<Vec<u8>, AllocError>
     without_slashes(alloc, decoded.as_slice())
 }
 
-/// Appends a byte, unless it is a slash.
+/// Appends a byte of a slug to its stem, unless it is a slash.
 fn push_unless_slash(kept: &mut Vec<u8>, byte: u8) -> Result<(), AllocError>
     ensures { IfOk result (λ _. kept.new.items
         ≡ kept.old.items ++ spec.without_slashes (byte ∷ [])) }
@@ -47,7 +47,7 @@ fn push_unless_slash(kept: &mut Vec<u8>, byte: u8) -> Result<(), AllocError>
     Ok(())
 }
 
-/// The bytes but for slashes.
+/// The bytes of a slug but for slashes.
 fn without_slashes(alloc: Global, bytes: &[u8]) -> Result<Vec<u8>, AllocError>
     ensures { IfOk result (λ kept. kept.items ≡ spec.without_slashes bytes.now) }
 {
@@ -60,7 +60,7 @@ fn without_slashes(alloc: Global, bytes: &[u8]) -> Result<Vec<u8>, AllocError>
     Ok(kept)
 }
 
-/// The bytes from the first that is no dot.
+/// The bytes of a stem from the first that is no dot.
 fn without_dots(mut bytes: &[u8]) -> &[u8]
     ensures { result.now ≡ spec.without_dots bytes.now }
 {
@@ -72,7 +72,7 @@ fn without_dots(mut bytes: &[u8]) -> &[u8]
     bytes
 }
 
-/// Appends a byte as a character of a path, or its escape.
+/// Appends a byte of a slug to the stem as a character of a path, or its escape.
 fn push_escaped(text: &mut String, byte: u8) -> Result<(), AllocError>
     ensures text { IfOk result
         (λ _. string_bytes text.new ≡ string_bytes text.old ++ spec.escaped byte) }
@@ -85,14 +85,14 @@ fn push_escaped(text: &mut String, byte: u8) -> Result<(), AllocError>
     }
 }
 
-/// How many bytes a byte becomes.
+/// How many bytes of a stem a byte of the slug becomes.
 fn escaped_len(byte: u8) -> usize
     ensures { result ≡ spec.escaped_length byte }
 {
     if is_unreserved(byte) { 1 } else { 3 }
 }
 
-/// Appends as many of these bytes as there is room for.
+/// Appends as many of these bytes to a stem as there is room for.
 fn push_fitting(text: &mut String, bytes: &[u8]) -> Result<(), AllocError>
     ensures text { IfOk result (λ _. string_bytes text.new
         ≡ string_bytes text.old ++ spec.fitting STEM_LIMIT bytes.now) }
@@ -113,14 +113,14 @@ fn push_fitting(text: &mut String, bytes: &[u8]) -> Result<(), AllocError>
     Ok(())
 }
 
-/// Whether a text ends with this one.
+/// Whether the text of a stem ends with this one.
 fn ends_with(text: &str, end: &str) -> bool
     ensures { result ≡ ends_with nat_eq text.now end.now }
 {
     text.ends_with(end)
 }
 
-/// Whether a text ends as the name of an ACL or of a description does.
+/// Whether a stem ends as the name of an ACL or of a description does.
 fn is_auxiliary_name(text: &str) -> bool
     ensures { result ≡ is_auxiliary_name text.now }
 {
@@ -128,7 +128,7 @@ fn is_auxiliary_name(text: &str) -> bool
 }
 
 /// Adds what a stem lacks: `_` after the end of an auxiliary's name, and a name where it is empty.
-fn finish(text: &mut String) -> Result<(), AllocError>
+fn finish_stem(text: &mut String) -> Result<(), AllocError>
     ensures { IfOk result (λ _. string_bytes text.new ≡ spec.finished (string_bytes text.old)) }
 {
     if text.is_empty() {
@@ -148,7 +148,7 @@ fn slug_stem(alloc: Global, slug: &[u8]) -> Result<String, AllocError>
     let bytes = name_bytes(alloc, slug)?;
     let mut text = String::with_capacity(alloc, STEM_LIMIT + 1)?;
     push_fitting(&mut text, without_dots(bytes.as_slice()))?;
-    finish(&mut text)?;
+    finish_stem(&mut text)?;
     Ok(text)
 }
 

@@ -5,7 +5,7 @@ ghost use Rattle.std.specs.Prelude.{IfOk, IfSome, codes, decimal, false, true, l
 ghost use Rattle.std.specs.Prelude.{slice_index_or};
 ghost use Rattle.slug_naming.specs.TakenNotes as notes;
 
-use crate::names::{ROW_LIMIT, concatenate};
+use crate::name_candidates::{ROW_LIMIT, concatenate};
 use itoa::Buffer;
 use pod_base::{List, Mem};
 use pod_path::{Path, Taken};
@@ -13,14 +13,14 @@ use std::alloc::Global;
 
 /// What lists the rows whose paths begin with a text.
 pub trait TakenNames: Taken {
-    /// The paths of the rows whose paths begin with a text. A name is found without those that are
-    /// lacking, too, but each costs two look-ups more.
+    /// The paths of rows that may take names: those whose paths begin with a text. A name is found
+    /// without those that are lacking, too, but each costs two look-ups more.
     fn taken_below(&self, alloc: Global, text: &str) -> Mem<List<Path>>
         ensures { IfOk result (λ paths. All (λ path. Self.is_row self.now path ≡ true)
             paths.items) };
 }
 
-/// The text without a slash at its end.
+/// The path of a row without a slash at its end, to see which name it takes.
 fn without_slash(text: &str) -> &str
     ensures { (text.entry.now ≡ result.now) ⊎ (text.entry.now ≡ result.now ++ codes "/") }
 {
@@ -30,7 +30,7 @@ fn without_slash(text: &str) -> &str
     }
 }
 
-/// What follows a text and `-`.
+/// What follows a base and `-` in the name that a row takes.
 fn after_dash<'a>(base: &str, name: &'a str) -> Option<&'a str>
     ensures { IfSome result (λ rest. name.entry.now ≡ base.now ++ (codes "-" ++ rest.now)) }
 {
@@ -40,7 +40,7 @@ fn after_dash<'a>(base: &str, name: &'a str) -> Option<&'a str>
     }
 }
 
-/// The number of which this is the text in decimal.
+/// The number of which this is the text in decimal, at the end of a taken name.
 fn decimal_number(text: &str) -> Option<u64>
     ensures { IfSome result (λ number. text.now ≡ decimal number) }
 {
@@ -53,7 +53,8 @@ fn decimal_number(text: &str) -> Option<u64>
     }
 }
 
-/// The number of the candidate after a base to which the path belongs, but for the first one.
+/// The number of the candidate name that the path of a row takes after a base, but for the first
+/// one.
 fn candidate_number(base: &str, path: &str) -> Option<u64>
     ensures { IfSome result (λ number. notes.IsOfCandidate base.now number path.now) }
 {
@@ -65,7 +66,7 @@ fn candidate_number(base: &str, path: &str) -> Option<u64>
     Some(number - 1)
 }
 
-/// Notes the candidate to which the path of a row belongs, as far as the notes go.
+/// Notes as taken the candidate name that the path of a row has, as far as the notes go.
 fn note_path(noted: &mut [bool], base: &str, path: &str)
     ensures same { length noted.new ≡ length noted.old }
     ensures taken { (is_row : ListOf ℕ → Bool) → is_row path.now ≡ true
@@ -78,7 +79,7 @@ fn note_path(noted: &mut [bool], base: &str, path: &str)
     }
 }
 
-/// Notes the candidates to which the paths of rows belong, as far as the notes go.
+/// Notes as taken the candidate names that the paths of rows have, as far as the notes go.
 fn note_paths(noted: &mut [bool], base: &str, paths: &[Path])
     ensures same { length noted.new ≡ length noted.old }
     ensures taken { (is_row : ListOf ℕ → Bool) → All (λ path. is_row path ≡ true) paths.now
@@ -89,7 +90,7 @@ fn note_paths(noted: &mut [bool], base: &str, paths: &[Path])
     }
 }
 
-/// Notes the first candidate, if there is a note for it.
+/// Notes as taken the first candidate name, if there is a note for it.
 fn note_first(noted: &mut [bool])
     ensures same { length noted.new ≡ length noted.old }
     ensures taken { (is_row : ListOf ℕ → Bool) (base : ListOf ℕ) → notes.IsTaken is_row base 0
@@ -100,7 +101,7 @@ fn note_first(noted: &mut [bool])
     }
 }
 
-/// Notes the first candidate, and those to which the paths of rows belong.
+/// Notes as taken the first candidate name, and those that the paths of rows have.
 fn note_all(noted: &mut [bool], base: &str, paths: &[Path])
     ensures same { length noted.new ≡ length noted.old }
     ensures taken { (is_row : ListOf ℕ → Bool) → notes.IsTaken is_row base.now 0
@@ -111,7 +112,7 @@ fn note_all(noted: &mut [bool], base: &str, paths: &[Path])
     note_paths(noted, base, paths);
 }
 
-/// How many candidates from the first on are noted.
+/// How many candidate names from the first on are noted as taken.
 fn noted_first(noted: &[bool]) -> usize
     ensures noted { (k : ℕ) → k < result → slice_index_or noted.now k false ≡ true }
     ensures most { result ≤ length noted.now }
@@ -122,8 +123,8 @@ fn noted_first(noted: &[bool]) -> usize
     }
 }
 
-/// A number up to which all candidates are taken, where the first one is: mostly that of the first
-/// free one. It takes memory for the paths and a byte for each.
+/// A number up to which all candidate names are taken, where the first one is: mostly that of the
+/// first free one. It takes memory for the paths and a byte for each.
 pub(crate) fn taken_first<T: Taken + TakenNames>(alloc: Global, base: &str, taken: &T) -> Mem<u64>
     requires { notes.IsTaken (T.is_row taken.now) base.now 0 }
     ensures taken { IfOk result

@@ -3,7 +3,7 @@ use Rattle.std.specs.Prelude.{◌≡◌, ℕ, List, Option}
 use Rattle.std.proofs.Common.{◌∙◌, refl}
 use Rattle.pod_io.specs.declared.link.LinkCounts.{LinkCounts}
 use Rattle.socket_wire.specs.Passing.{PassesLink}
-use Rattle.socket_wire.specs.declared.web_socket.SocketWire.{SocketWire}
+use Rattle.socket_wire.specs.declared.wire_over_link.SocketWire.{SocketWire}
 use Rattle.socket_wire.specs.PassingLaws.{passes_still, passes_joins}
 
 module _ {L : Type 0} (rest sent : L → Option (List ℕ)) (counts : L → LinkCounts) where

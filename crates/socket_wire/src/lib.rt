@@ -17,7 +17,8 @@
 
 mod web_socket;
 mod wire_buffer;
+mod wire_over_link;
 mod wires;
 
-pub use web_socket::SocketWire;
+pub use wire_over_link::SocketWire;
 pub use wires::Wires;

@@ -11,7 +11,7 @@ pub(crate) struct Pipe {
 }
 
 impl Pipe {
-    /// A pipe without bytes.
+    /// A buffer of a wire, without bytes.
     pub(crate) fn new(alloc: Global) -> Pipe {
         Pipe {
             came: Vec::new(alloc),
@@ -19,17 +19,17 @@ impl Pipe {
         }
     }
 
-    /// Appends bytes that came. Returns whether there was memory for them.
+    /// Appends bytes that came to the wire's buffer. Returns whether there was memory for them.
     pub(crate) fn receive(&mut self, bytes: &[u8]) -> bool {
         self.came.extend_from_slice(bytes).is_ok()
     }
 
-    /// The bytes that are to be sent.
+    /// The bytes in the wire's buffer that are to be sent.
     pub(crate) fn to_send(&self) -> &[u8] {
         self.to_send.as_slice()
     }
 
-    /// Drops the bytes that were to be sent.
+    /// Drops the bytes of the wire's buffer that were to be sent.
     pub(crate) fn clear(&mut self) {
         self.to_send.clear();
     }

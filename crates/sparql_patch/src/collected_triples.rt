@@ -25,7 +25,7 @@ pub(crate) struct Collected {
     pub(crate) has_blank: bool,
 }
 
-/// The term, unless it is a blank node.
+/// The term of an update's triple, unless it is a blank node.
 fn unless_blank(term: Term) -> Option<Term>
     ensures { IsTermOrBlank (Referent.Term term) result }
 {
@@ -35,8 +35,8 @@ fn unless_blank(term: Term) -> Option<Term>
     }
 }
 
-/// The term that a node refers to, unless that is a blank node. An update has neither variables nor
-/// formulas in formulas.
+/// The term that a node of an update's triple refers to, unless that is a blank node. An update has
+/// neither variables nor formulas in formulas.
 fn term_of(referent: Referent) -> Mem<Option<Term>>
     ensures { IfOk result (IsTermOrBlank referent) }
 {
@@ -48,7 +48,7 @@ fn term_of(referent: Referent) -> Mem<Option<Term>>
     }
 }
 
-/// The triple of these terms.
+/// The triple of these terms, for those that are collected from an update.
 fn triple_from(s: Option<Term>, p: Option<Term>, o: Option<Term>) -> Option<Triple>
     ensures { result ≡ triple_from s p o }
 {
@@ -58,14 +58,14 @@ fn triple_from(s: Option<Term>, p: Option<Term>, o: Option<Term>) -> Option<Trip
     }
 }
 
-/// Whether the word before the formula is INSERT.
+/// Whether the word before the formula of an update's triple is INSERT.
 fn is_insert(within: Within) -> bool
     ensures { result ≡ is_insert within }
 {
     matches!(within, Within::Insert)
 }
 
-/// The naming of a triple, unless it has a blank node.
+/// The naming of a triple in an update, unless it has a blank node.
 fn naming_of(resolved: ResolvedTriple) -> Mem<Option<Named>>
     ensures { IfOk result (IsNamingOrBlank resolved) }
 {
@@ -79,6 +79,7 @@ fn naming_of(resolved: ResolvedTriple) -> Mem<Option<Named>>
     }
 }
 
+/// Appends a naming to those that are collected from an update.
 fn push(alloc: Global, named: &mut List<Named>, naming: Named) -> Mem<()>
     ensures { OnOk result (named.new.items ≡ named.old.items ++ naming ∷ []) }
 {
@@ -89,6 +90,7 @@ fn push(alloc: Global, named: &mut List<Named>, naming: Named) -> Mem<()>
 }
 
 impl Collected {
+    /// The namings of an update of which none are collected yet.
     pub(crate) fn new(alloc: Global) -> Collected
         ensures { IsCollected [] result }
     {
@@ -99,7 +101,8 @@ impl Collected {
         }
     }
 
-    /// Counts a naming, and appends it as long as all keep the limit.
+    /// Counts a naming that is collected from an update, and appends it as long as all keep the
+    /// limit.
     fn add(&mut self, alloc: Global, naming: Named) -> Mem<()>
         ensures counted { OnOk result ((all : ListOf NamedTriple) → IsCounted all self.old
             → IsCounted (all ++ naming ∷ []) self.new) }

@@ -9,30 +9,30 @@ ghost use Rattle.sparql_patch.specs.Laws.{LastNamingDecides, DeletionsAreInGraph
 ghost use Rattle.sparql_patch.specs.Laws.{EachIsListedOnce, WithoutRepeats, HasOneNaming};
 ghost use Rattle.sparql_patch.specs.Laws.{HasOneAnswer};
 
-/// The last naming of a triple decides, and each triple is listed once.
+/// The law that the last naming of a triple decides, and each triple is listed once.
 pub fn last_naming()
     ensures decides { LastNamingDecides }
     ensures deletions { DeletionsAreInGraph }
     ensures once { EachIsListedOnce }
 {}
 
-/// An update that names no triple twice spells the patch of its two sets.
+/// The law that an update which names no triple twice spells the patch of its two sets.
 pub fn without_repeats()
     ensures { WithoutRepeats }
 {}
 
-/// A text names at most one list of triples.
+/// The law that an update names at most one list of triples.
 pub fn one_naming()
     ensures { HasOneNaming }
 {}
 
-/// An update has at most one first fault of syntax: that at the least position.
+/// The law that an update has at most one first fault of syntax: that at the least position.
 pub fn first_fault()
     ensures one { HasOneFirstFault (λ base bytes. NeverLarge) Update }
     ensures least { PlacesAscend (λ base bytes. NeverLarge) Update }
 {}
 
-/// A text is read as one list of triples, or has one fault beside out of memory.
+/// The law that an update is read as one list of triples, or has one fault beside out of memory.
 pub fn one_answer()
     ensures { HasOneAnswer }
 {}

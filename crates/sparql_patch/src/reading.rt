@@ -16,7 +16,7 @@ use std::alloc::Global;
 use turtle_reader::walk;
 use turtle_terms::TurtleFault;
 
-/// A fault of syntax as it is told: by its position alone.
+/// A fault of syntax in an update as it is told: by its position alone.
 fn syntax(fault: TurtleFault) -> SparqlFault
     ensures { result ≡ told_as fault }
 {
@@ -27,7 +27,7 @@ fn syntax(fault: TurtleFault) -> SparqlFault
     }
 }
 
-/// The triples that an update of SPARQL data names, in order, each with the word before its
+/// Reads the triples that an update of SPARQL data names, in order, each with the word before its
 /// formula. Once they pass the limit on size none are kept beside those before, and the rest is
 /// still checked.
 ///

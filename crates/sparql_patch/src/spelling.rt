@@ -15,7 +15,8 @@ use rdf_graph::{Graph, Triple};
 use std::alloc::Global;
 use std::collections::BTreeSet;
 
-/// Puts the triple in, and returns whether it is new.
+/// Puts the triple of a naming among those whose patterns are spelled, and returns whether it is
+/// new.
 fn insert_new(alloc: Global, seen: &mut BTreeSet<Triple>, triple: &Triple) -> Mem<bool>
     ensures new { IfOk result (λ new. new ≡ not (contains triple_cmp seen.old triple.now)) }
     ensures members { OnOk result ((t : Triple) → contains triple_cmp seen.new t
@@ -25,7 +26,7 @@ fn insert_new(alloc: Global, seen: &mut BTreeSet<Triple>, triple: &Triple) -> Me
     Ok(seen.insert(triple)?)
 }
 
-/// Appends the pattern of a triple.
+/// Appends the pattern of a triple to the patch that an update spells.
 fn push_pattern(alloc: Global, patterns: &mut List<Pattern>, triple: &Triple) -> Mem<()>
     ensures { OnOk result (patterns.new.items ≡ patterns.old.items ++ pattern_of triple.now ∷ []) }
 {
@@ -38,15 +39,15 @@ fn push_pattern(alloc: Global, patterns: &mut List<Pattern>, triple: &Triple) ->
     }
 }
 
-/// Whether the graph has the triple.
+/// Whether the graph at which an update spells its patch has the triple.
 fn has(graph: &Graph, triple: &Triple) -> bool
     ensures { result ≡ has_triple graph.now triple.now }
 {
     graph.contains(triple)
 }
 
-/// Takes a naming that is the last one of its triple. A deletion that isn't in the graph is passed
-/// over.
+/// Takes a naming that is the last one of its triple into the patch that an update spells. A
+/// deletion that isn't in the graph is passed over.
 fn take_last(alloc: Global, patch: &mut Patch, naming: &Named, graph: &Graph) -> Mem<()>
     ensures { OnOk result (IsTaken graph.now naming.now patch.old patch.new) }
 {
@@ -59,7 +60,7 @@ fn take_last(alloc: Global, patch: &mut Patch, naming: &Named, graph: &Graph) ->
     }
 }
 
-/// Reads a naming before those that are read.
+/// Reads a naming for the patch that an update spells, before those that are read.
 fn read_one(
     alloc: Global,
     seen: &mut BTreeSet<Triple>,

@@ -16,7 +16,7 @@
 #![tactic(auto)]
 
 mod digest;
-mod kept;
+mod digest_cell;
 mod stored;
 
 pub use digest::digest_of;

@@ -2,7 +2,7 @@
 ghost use Rattle.std.specs.Prelude.{◌≡◌, IfOk};
 ghost use Rattle.stored_bytes.specs.Digests.{digest_of};
 
-use crate::kept::DigestCell;
+use crate::digest_cell::DigestCell;
 use pod_base::{Bytes, Mem, Text};
 use std::alloc::Global;
 use std::fmt;
@@ -24,7 +24,7 @@ impl Model for StoredBytes {
 }
 
 impl StoredBytes {
-    /// These bytes, without a digest yet. It takes no memory.
+    /// Stored bytes without a digest yet. It takes no memory.
     pub fn new(alloc: Global, bytes: Bytes) -> StoredBytes
         ensures { result ≡ bytes }
     {
@@ -34,21 +34,21 @@ impl StoredBytes {
         }
     }
 
-    /// The bytes.
+    /// The stored bytes without their digest.
     pub fn bytes(&self) -> &Bytes
         ensures { result.now ≡ self.now }
     {
         &self.bytes
     }
 
-    /// The bytes.
+    /// The stored bytes as a slice.
     pub fn as_slice(&self) -> &[u8]
         ensures { result.now ≡ self.now }
     {
         self.bytes.as_slice()
     }
 
-    /// Equal bytes, which share the block. Their digest is made anew.
+    /// Equal stored bytes, which share the block. Their digest is made anew.
     pub fn copy(&self, alloc: Global) -> Mem<StoredBytes>
         ensures { IfOk result (λ copy. copy ≡ self.now) }
     {
@@ -56,8 +56,8 @@ impl StoredBytes {
         Ok(StoredBytes::new(alloc, bytes))
     }
 
-    /// SHA-256 of the content type, a zero byte and the bytes. It is kept, where there is memory for
-    /// it.
+    /// The digest of the stored bytes: SHA-256 of the content type, a zero byte and the bytes. It
+    /// is kept, where there is memory for it.
     pub fn digest(&self, alloc: Global, ctype: &Text) -> [u8; 32]
         ensures { result ≡ digest_of ctype.now self.now }
     {

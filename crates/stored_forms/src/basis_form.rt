@@ -7,15 +7,17 @@ ghost use Rattle.stored_forms.specs.Storable.{IsStorableBasis, IsStorableWho};
 ghost use Rattle.stored_forms.specs.StoredForms.{basis_bytes, who_bytes, term_bytes};
 
 use crate::graph_form::{put_term, term_of, term_size};
+use crate::list_form::Stored;
+use crate::primitive_reading::{byte_of, path_of, text_of};
+use crate::primitive_writing::{
+    after_byte, byte_size, piece_size, plus, put_byte, put_path, put_text,
+};
 use crate::read_back::ReadBack;
-use crate::reading::{byte_of, path_of, text_of};
-use crate::stored::Stored;
-use crate::writing::{after_byte, byte_size, piece_size, plus, put_byte, put_path, put_text};
 use pod_base::Mem;
 use pod_command::{Basis, Who};
 use std::alloc::Global;
 
-/// Appends whom a rule covers.
+/// Appends the stored form of whom a basis's rule covers.
 #[tactic(auto, unfolding(crate::specs::StoredForms::who_bytes))]
 fn put_who(out: &mut Vec<u8>, who: &Who) -> Mem<()>
     ensures form { OnOk result (out.new.items ≡ out.old.items ++ who_bytes who.now) }
@@ -32,7 +34,7 @@ fn put_who(out: &mut Vec<u8>, who: &Who) -> Mem<()>
     }
 }
 
-/// The size of its form.
+/// The size of the stored form of whom a basis's rule covers.
 #[tactic(auto, unfolding(crate::specs::StoredForms::who_bytes))]
 fn who_size(who: &Who) -> u64
     ensures { result ≡ saturated (length (who_bytes who.now)) }
@@ -43,7 +45,7 @@ fn who_size(who: &Who) -> u64
     }
 }
 
-/// Whom a rule covers.
+/// Reads whom a basis's rule covers, from its stored form.
 #[tactic(auto, unfolding(crate::specs::Reading::who_at))]
 fn who_of(alloc: Global, bytes: &[u8]) -> Result<(Who, &[u8]), ReadBack>
     ensures { Gives (λ x. (x.0, x.1.now)) result (who_at bytes.now) }
@@ -52,7 +54,7 @@ fn who_of(alloc: Global, bytes: &[u8]) -> Result<(Who, &[u8]), ReadBack>
     who_after(alloc, tag, rest)
 }
 
-/// Whom a rule covers, after the first byte.
+/// Reads whom a basis's rule covers, from its stored form after the first byte.
 #[tactic(auto, unfolding(crate::specs::Reading::who_after))]
 fn who_after(alloc: Global, tag: u8, bytes: &[u8]) -> Result<(Who, &[u8]), ReadBack>
     ensures { Gives (λ x. (x.0, x.1.now)) result (who_after tag bytes.now) }
@@ -69,7 +71,7 @@ fn who_after(alloc: Global, tag: u8, bytes: &[u8]) -> Result<(Who, &[u8]), ReadB
     }
 }
 
-/// Appends a basis.
+/// Appends the stored form of a basis.
 #[tactic(auto, unfolding(crate::specs::StoredForms::basis_bytes))]
 fn put_basis(out: &mut Vec<u8>, basis: &Basis) -> Mem<()>
     ensures form { OnOk result (out.new.items ≡ out.old.items ++ basis_bytes basis.now) }
@@ -80,7 +82,7 @@ fn put_basis(out: &mut Vec<u8>, basis: &Basis) -> Mem<()>
     put_who(out, &basis.who)
 }
 
-/// The size of a basis's form.
+/// The size of a basis's stored form.
 #[tactic(auto, unfolding(crate::specs::StoredForms::basis_bytes))]
 fn basis_size(basis: &Basis) -> u64
     ensures { result ≡ saturated (length (basis_bytes basis.now)) }
@@ -89,7 +91,7 @@ fn basis_size(basis: &Basis) -> u64
     plus(piece_size(basis.acl.as_str().as_bytes()), rest)
 }
 
-/// A basis.
+/// Reads a basis from its stored form.
 #[tactic(auto, unfolding(crate::specs::Reading::basis_at))]
 fn basis_of(alloc: Global, bytes: &[u8]) -> Result<(Basis, &[u8]), ReadBack>
     ensures { Gives (λ x. (x.0, x.1.now)) result (basis_at bytes.now) }

@@ -10,17 +10,19 @@ ghost use Rattle.stored_forms.specs.Storable.{IsStorableEdit};
 ghost use Rattle.stored_forms.specs.StoredForms.{edit_bytes};
 
 use crate::graph_form::{graph_of, graph_size, put_graph};
+use crate::list_form::Stored;
+use crate::primitive_reading::{byte_of, number_of, path_of};
+use crate::primitive_writing::{
+    after_byte, number_size, piece_size, plus, put_byte, put_number, put_path,
+};
 use crate::read_back::ReadBack;
-use crate::reading::{byte_of, number_of, path_of};
 use crate::row_form::{put_row, row_of, row_size};
-use crate::stored::Stored;
-use crate::writing::{after_byte, number_size, piece_size, plus, put_byte, put_number, put_path};
 use pod_base::{Mem, Moment};
 use pod_command::Edit;
 use rdf_graph::Change;
 use std::alloc::Global;
 
-/// Appends an edit.
+/// Appends the stored form of an edit.
 #[tactic(auto, unfolding(crate::specs::StoredForms::edit_bytes))]
 fn put_edit(out: &mut Vec<u8>, edit: &Edit) -> Mem<()>
     requires { IsFittingEdit edit.now }
@@ -55,7 +57,7 @@ fn put_edit(out: &mut Vec<u8>, edit: &Edit) -> Mem<()>
     }
 }
 
-/// The size of an edit's form.
+/// The size of an edit's stored form.
 #[tactic(auto, unfolding(crate::specs::StoredForms::edit_bytes))]
 fn edit_size(edit: &Edit) -> u64
     ensures { result ≡ saturated (length (edit_bytes edit.now)) }
@@ -76,7 +78,7 @@ fn edit_size(edit: &Edit) -> u64
     }
 }
 
-/// An edit.
+/// Reads an edit from its stored form.
 #[tactic(auto, unfolding(crate::specs::Reading::edit_at))]
 fn edit_of(alloc: Global, bytes: &[u8]) -> Result<(Edit, &[u8]), ReadBack>
     ensures { Gives (λ x. (x.0, x.1.now)) result (edit_at bytes.now) }
@@ -85,7 +87,7 @@ fn edit_of(alloc: Global, bytes: &[u8]) -> Result<(Edit, &[u8]), ReadBack>
     edit_after(alloc, tag, rest)
 }
 
-/// An edit after its first byte.
+/// Reads an edit from its stored form after the first byte.
 #[tactic(auto, unfolding(crate::specs::Reading::edit_after))]
 fn edit_after(alloc: Global, tag: u8, bytes: &[u8]) -> Result<(Edit, &[u8]), ReadBack>
     ensures { Gives (λ x. (x.0, x.1.now)) result (edit_after tag bytes.now) }
@@ -105,7 +107,7 @@ fn edit_after(alloc: Global, tag: u8, bytes: &[u8]) -> Result<(Edit, &[u8]), Rea
     }
 }
 
-/// A change of a graph.
+/// Reads an edit that changes a graph, from its stored form after the first byte.
 fn change_of(alloc: Global, bytes: &[u8]) -> Result<(Edit, &[u8]), ReadBack>
     ensures { Gives (λ x. (x.0, x.1.now)) result
         (mapped change_of (both path_at (both number_at (both graph_at graph_at))) bytes.now) }
@@ -122,7 +124,7 @@ fn change_of(alloc: Global, bytes: &[u8]) -> Result<(Edit, &[u8]), ReadBack>
     Ok((edit, rest))
 }
 
-/// A touch.
+/// Reads an edit that is a touch, from its stored form after the first byte.
 fn touch_of(alloc: Global, bytes: &[u8]) -> Result<(Edit, &[u8]), ReadBack>
     ensures { Gives (λ x. (x.0, x.1.now)) result
         (mapped touch_of (both path_at number_at) bytes.now) }

@@ -14,12 +14,12 @@ ghost use Rattle.stored_forms.specs.StoredForms.{method_byte, origin_bytes, requ
 ghost use Rattle.pod_command.specs.declared.entry.Entry.{Entry};
 ghost use Rattle.stored_forms.specs.declared.read_back.ReadBack.TheVariants.{NotCanonical};
 
-use crate::read_back::ReadBack;
-use crate::reading::{byte_of, number_of, path_of, text_of};
-use crate::stored::{list_of, list_size, put_list};
-use crate::writing::{
+use crate::list_form::{list_of, list_size, put_list};
+use crate::primitive_reading::{byte_of, number_of, path_of, text_of};
+use crate::primitive_writing::{
     after_byte, byte_size, number_size, piece_size, plus, put_byte, put_number, put_path, put_text,
 };
+use crate::read_back::ReadBack;
 use pod_base::{Agent, Bytes, List, Mem, Method, Moment, NoMemory};
 use pod_command::{Basis, Edit, Entry};
 use pod_path::Path;
@@ -58,7 +58,7 @@ pub fn encode_entry(alloc: Global, e: &Entry) -> Mem<Bytes>
     }
 }
 
-/// The length of an entry's stored form in format 2, or 2^64 - 1 where that is less.
+/// The size of an entry's stored form in format 2, or 2^64 - 1 where that is less.
 #[tactic(auto, unfolding(crate::specs::StoredForms::entry_bytes))]
 pub fn entry_size(e: &Entry) -> u64
     ensures { result ≡ saturated (length (entry_bytes e.now)) }
@@ -108,7 +108,7 @@ pub fn decode_entry_1(alloc: Global, bytes: &[u8]) -> Result<Entry, ReadBack>
     entry_1_in(alloc, bytes)
 }
 
-/// Appends an entry in format 2.
+/// Appends the stored form of an entry in format 2.
 #[tactic(auto, unfolding(crate::specs::StoredForms::entry_bytes))]
 fn put_entry(out: &mut Vec<u8>, e: &Entry) -> Mem<()>
     requires { IsEncodable e.now }
@@ -122,7 +122,7 @@ fn put_entry(out: &mut Vec<u8>, e: &Entry) -> Mem<()>
     put_list(out, e.bases.as_slice())
 }
 
-/// Appends who made the change.
+/// Appends the part of an entry's stored form that says who made the change.
 #[tactic(auto, unfolding(crate::specs::StoredForms::origin_bytes))]
 fn put_origin(out: &mut Vec<u8>, e: &Entry) -> Mem<()>
     ensures form { OnOk result (out.new.items ≡ out.old.items ++ origin_bytes e.now) }
@@ -137,7 +137,7 @@ fn put_origin(out: &mut Vec<u8>, e: &Entry) -> Mem<()>
     put_agent(out, &e.agent)
 }
 
-/// Appends what was requested.
+/// Appends the part of an entry's stored form that says what was requested.
 #[tactic(auto, unfolding(crate::specs::StoredForms::request_bytes))]
 fn put_request(out: &mut Vec<u8>, e: &Entry) -> Mem<()>
     ensures form { OnOk result (out.new.items ≡ out.old.items ++ request_bytes e.now) }
@@ -149,7 +149,7 @@ fn put_request(out: &mut Vec<u8>, e: &Entry) -> Mem<()>
     put_path(out, &e.path)
 }
 
-/// Appends an agent.
+/// Appends the stored form of an entry's agent.
 #[tactic(auto, unfolding(crate::specs::StoredForms::agent_bytes))]
 fn put_agent(out: &mut Vec<u8>, agent: &Agent) -> Mem<()>
     ensures form { OnOk result (out.new.items ≡ out.old.items ++ agent_bytes agent.now) }
@@ -164,7 +164,8 @@ fn put_agent(out: &mut Vec<u8>, agent: &Agent) -> Mem<()>
     }
 }
 
-/// The byte of a method. No entry that can be stored has another than the first four.
+/// The byte of a method in an entry's stored form. No entry that can be stored has another than the
+/// first four.
 fn method_byte(method: Method) -> u8
     ensures { result ≡ method_byte method }
 {
@@ -177,7 +178,7 @@ fn method_byte(method: Method) -> u8
     }
 }
 
-/// The size of who made the change.
+/// The size of the part of an entry's stored form that says who made the change.
 #[tactic(auto, unfolding(crate::specs::StoredForms::origin_bytes))]
 fn origin_size(e: &Entry) -> u64
     ensures { result ≡ saturated (length (origin_bytes e.now)) }
@@ -187,7 +188,7 @@ fn origin_size(e: &Entry) -> u64
     plus(number_size(), rest)
 }
 
-/// The size of what was requested.
+/// The size of the part of an entry's stored form that says what was requested.
 #[tactic(auto, unfolding(crate::specs::StoredForms::request_bytes))]
 fn request_size(e: &Entry) -> u64
     ensures { result ≡ saturated (length (request_bytes e.now)) }
@@ -196,7 +197,7 @@ fn request_size(e: &Entry) -> u64
     plus(number_size(), rest)
 }
 
-/// The size of an agent's form.
+/// The size of the stored form of an entry's agent.
 #[tactic(auto, unfolding(crate::specs::StoredForms::agent_bytes))]
 fn agent_size(agent: &Agent) -> u64
     ensures { result ≡ saturated (length (agent_bytes agent.now)) }
@@ -207,7 +208,7 @@ fn agent_size(agent: &Agent) -> u64
     }
 }
 
-/// The entry that all of the bytes are, in format 2.
+/// Reads the entry whose stored form in format 2 all of the bytes are.
 #[tactic(auto, unfolding(crate::specs::Reading::entry_in))]
 fn entry_in(alloc: Global, bytes: &[u8]) -> Result<Entry, ReadBack>
     ensures { Gives (λ e. e) result (entry_in bytes.now) }
@@ -223,7 +224,7 @@ fn entry_in(alloc: Global, bytes: &[u8]) -> Result<Entry, ReadBack>
     Ok(entry)
 }
 
-/// The entry that all of the bytes are, in format 1.
+/// Reads the entry whose stored form in format 1 all of the bytes are.
 #[tactic(auto, unfolding(crate::specs::Reading::entry_1_in))]
 fn entry_1_in(alloc: Global, bytes: &[u8]) -> Result<Entry, ReadBack>
     ensures { Gives (λ e. e) result (entry_1_in bytes.now) }
@@ -239,7 +240,7 @@ fn entry_1_in(alloc: Global, bytes: &[u8]) -> Result<Entry, ReadBack>
     Ok(entry)
 }
 
-/// What follows the first byte in format 2.
+/// Reads an entry in format 2 from its stored form after the first byte.
 #[tactic(auto, unfolding(crate::specs::Reading::new_entry_at))]
 fn new_entry(alloc: Global, bytes: &[u8]) -> Result<(Entry, &[u8]), ReadBack>
     ensures { Gives (λ x. (x.0, x.1.now)) result (new_entry_at bytes.now) }
@@ -253,7 +254,7 @@ fn new_entry(alloc: Global, bytes: &[u8]) -> Result<(Entry, &[u8]), ReadBack>
     Ok((entry_of(origin, requested, edits, bases), rest))
 }
 
-/// What follows the first byte in format 1.
+/// Reads an entry in format 1 from its stored form after the first byte.
 #[tactic(auto, unfolding(crate::specs::Reading::old_entry_at))]
 fn old_entry(alloc: Global, bytes: &[u8]) -> Result<(Entry, &[u8]), ReadBack>
     ensures { Gives (λ x. (x.0, x.1.now)) result (old_entry_at bytes.now) }
@@ -265,7 +266,7 @@ fn old_entry(alloc: Global, bytes: &[u8]) -> Result<(Entry, &[u8]), ReadBack>
     Ok((entry_of(origin, requested, edits, List::new(alloc)), rest))
 }
 
-/// The entry of these parts.
+/// The entry of the parts that were read from its stored form.
 fn entry_of(origin: Origin, requested: Requested, edits: List<Edit>, bases: List<Basis>) -> Entry
     ensures { result ≡ made_entry (origin.seq, (origin.conn, (origin.number, origin.agent)))
         (requested.moment, (requested.method, requested.path)) edits bases }
@@ -283,7 +284,7 @@ fn entry_of(origin: Origin, requested: Requested, edits: List<Edit>, bases: List
     }
 }
 
-/// Who made the change.
+/// Reads from an entry's stored form who made the change.
 #[tactic(auto, unfolding(crate::specs::Reading::origin_at))]
 fn origin_of(alloc: Global, bytes: &[u8]) -> Result<(Origin, &[u8]), ReadBack>
     ensures { Gives (λ x. ((x.0.seq, (x.0.conn, (x.0.number, x.0.agent))), x.1.now)) result
@@ -302,7 +303,7 @@ fn origin_of(alloc: Global, bytes: &[u8]) -> Result<(Origin, &[u8]), ReadBack>
     Ok((origin, rest))
 }
 
-/// What was requested.
+/// Reads from an entry's stored form what was requested.
 #[tactic(auto, unfolding(crate::specs::Reading::request_at))]
 fn request_of(alloc: Global, bytes: &[u8]) -> Result<(Requested, &[u8]), ReadBack>
     ensures { Gives (λ x. ((x.0.moment, (x.0.method, x.0.path)), x.1.now)) result
@@ -319,7 +320,7 @@ fn request_of(alloc: Global, bytes: &[u8]) -> Result<(Requested, &[u8]), ReadBac
     Ok((requested, rest))
 }
 
-/// An agent.
+/// Reads an entry's agent from its stored form.
 #[tactic(auto, unfolding(crate::specs::Reading::agent_at))]
 fn agent_of(alloc: Global, bytes: &[u8]) -> Result<(Agent, &[u8]), ReadBack>
     ensures { Gives (λ x. (x.0, x.1.now)) result (agent_at bytes.now) }
@@ -328,7 +329,7 @@ fn agent_of(alloc: Global, bytes: &[u8]) -> Result<(Agent, &[u8]), ReadBack>
     agent_after(alloc, tag, rest)
 }
 
-/// An agent after the first byte.
+/// Reads an entry's agent from its stored form after the first byte.
 #[tactic(auto, unfolding(crate::specs::Reading::agent_after))]
 fn agent_after(alloc: Global, tag: u8, bytes: &[u8]) -> Result<(Agent, &[u8]), ReadBack>
     ensures { Gives (λ x. (x.0, x.1.now)) result (agent_after tag bytes.now) }
@@ -343,7 +344,7 @@ fn agent_after(alloc: Global, tag: u8, bytes: &[u8]) -> Result<(Agent, &[u8]), R
     }
 }
 
-/// A method that changes a pod.
+/// Reads the method from an entry's stored form, one that changes a pod.
 #[tactic(auto, unfolding(crate::specs::Reading::method_at))]
 fn method_of(bytes: &[u8]) -> Result<(Method, &[u8]), ReadBack>
     ensures { Gives (λ x. (x.0, x.1.now)) result (method_at bytes.now) }
@@ -352,7 +353,7 @@ fn method_of(bytes: &[u8]) -> Result<(Method, &[u8]), ReadBack>
     method_after(tag, rest)
 }
 
-/// The method of a byte.
+/// The method of a byte in an entry's stored form.
 #[tactic(auto, unfolding(crate::specs::Reading::method_after))]
 fn method_after(tag: u8, bytes: &[u8]) -> Result<(Method, &[u8]), ReadBack>
     ensures { Gives (λ x. (x.0, x.1.now)) result (method_after tag bytes.now) }

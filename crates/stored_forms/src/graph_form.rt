@@ -9,15 +9,15 @@ ghost use Rattle.stored_forms.specs.Reading.{term_after, term_at, triple_at};
 ghost use Rattle.stored_forms.specs.Storable.{IsStorableGraph, IsStorableTerm, IsStorableTriple};
 ghost use Rattle.stored_forms.specs.StoredForms.{graph_bytes, term_bytes, triple_bytes};
 
+use crate::list_form::{Stored, list_of, put_list};
+use crate::primitive_reading::{byte_of, iri_of, text_of};
+use crate::primitive_writing::{put_byte, put_iri, put_text};
 use crate::read_back::ReadBack;
-use crate::reading::{byte_of, iri_of, text_of};
-use crate::stored::{Stored, list_of, put_list};
-use crate::writing::{put_byte, put_iri, put_text};
 use pod_base::{List, Mem};
 use rdf_graph::{Graph, Term, Triple};
 use std::alloc::Global;
 
-/// Appends a term.
+/// Appends the stored form of a graph's term.
 #[tactic(auto, unfolding(crate::specs::StoredForms::term_bytes))]
 pub(crate) fn put_term(out: &mut Vec<u8>, term: &Term) -> Mem<()>
     ensures form { OnOk result (out.new.items ≡ out.old.items ++ term_bytes term.now) }
@@ -45,14 +45,14 @@ pub(crate) fn put_term(out: &mut Vec<u8>, term: &Term) -> Mem<()>
     }
 }
 
-/// The size of a term's form.
+/// The size of the stored form of a graph's term.
 pub(crate) fn term_size(term: &Term) -> u64
     ensures { result ≡ saturated (length (term_bytes term.now)) }
 {
     term.encoded_size()
 }
 
-/// A term.
+/// Reads a graph's term from its stored form.
 #[tactic(auto, unfolding(crate::specs::Reading::term_at))]
 pub(crate) fn term_of(alloc: Global, bytes: &[u8]) -> Result<(Term, &[u8]), ReadBack>
     ensures { Gives (λ x. (x.0, x.1.now)) result (term_at bytes.now) }
@@ -61,7 +61,7 @@ pub(crate) fn term_of(alloc: Global, bytes: &[u8]) -> Result<(Term, &[u8]), Read
     term_after(alloc, tag, rest)
 }
 
-/// A term after its first byte.
+/// Reads a graph's term from its stored form after the first byte.
 #[tactic(auto, unfolding(crate::specs::Reading::term_after))]
 fn term_after(alloc: Global, tag: u8, bytes: &[u8]) -> Result<(Term, &[u8]), ReadBack>
     ensures { Gives (λ x. (x.0, x.1.now)) result (term_after tag bytes.now) }
@@ -89,7 +89,7 @@ fn term_after(alloc: Global, tag: u8, bytes: &[u8]) -> Result<(Term, &[u8]), Rea
     }
 }
 
-/// Appends a triple.
+/// Appends the stored form of a graph's triple.
 #[tactic(auto, unfolding(crate::specs::StoredForms::triple_bytes))]
 fn put_triple(out: &mut Vec<u8>, triple: &Triple) -> Mem<()>
     ensures form { OnOk result (out.new.items ≡ out.old.items ++ triple_bytes triple.now) }
@@ -100,7 +100,7 @@ fn put_triple(out: &mut Vec<u8>, triple: &Triple) -> Mem<()>
     put_term(out, &triple.o)
 }
 
-/// A triple.
+/// Reads a graph's triple from its stored form.
 #[tactic(auto, unfolding(crate::specs::Reading::triple_at))]
 fn triple_of(alloc: Global, bytes: &[u8]) -> Result<(Triple, &[u8]), ReadBack>
     ensures { Gives (λ x. (x.0, x.1.now)) result (triple_at bytes.now) }
@@ -139,14 +139,14 @@ impl Stored for Triple {
     }
 }
 
-/// The size of a triple's form.
+/// The size of the stored form of a graph's triple.
 fn triple_size(triple: &Triple) -> u64
     ensures { result ≡ saturated (length (triple_bytes triple.now)) }
 {
     triple.encoded_size()
 }
 
-/// Appends a graph.
+/// Appends the stored form of a graph.
 #[tactic(auto, unfolding(crate::specs::StoredForms::graph_bytes))]
 pub(crate) fn put_graph(out: &mut Vec<u8>, graph: &Graph) -> Mem<()>
     ensures form { OnOk result (out.new.items ≡ out.old.items ++ graph_bytes graph.now) }
@@ -155,14 +155,14 @@ pub(crate) fn put_graph(out: &mut Vec<u8>, graph: &Graph) -> Mem<()>
     put_list(out, graph.as_slice())
 }
 
-/// The size of a graph's form.
+/// The size of a graph's stored form.
 pub(crate) fn graph_size(graph: &Graph) -> u64
     ensures { result ≡ saturated (length (graph_bytes graph.now)) }
 {
     graph.encoded_size()
 }
 
-/// A graph, whose triples are in their order.
+/// Reads a graph from its stored form, whose triples are in their order.
 #[tactic(auto, unfolding(crate::specs::Reading::graph_at))]
 pub(crate) fn graph_of(alloc: Global, bytes: &[u8]) -> Result<(Graph, &[u8]), ReadBack>
     ensures { Gives (λ x. (x.0, x.1.now)) result (graph_at bytes.now) }
@@ -174,7 +174,8 @@ pub(crate) fn graph_of(alloc: Global, bytes: &[u8]) -> Result<(Graph, &[u8]), Re
     Ok((Graph::in_order(List::from_vec(triples)), rest))
 }
 
-/// Whether these are triples of RDF, each less than the next.
+/// Whether triples that were read from a stored form are a graph's, triples of RDF of which each is
+/// less than the next. triples of RDF, each less than the next.
 #[tactic(auto, unfolding(crate::specs::Reading::is_graph))]
 fn is_graph(triples: &[Triple]) -> bool
     ensures { result ≡ is_graph triples.now }
@@ -182,21 +183,21 @@ fn is_graph(triples: &[Triple]) -> bool
     are_rising(triples) && are_rdf(triples)
 }
 
-/// Whether these are triples of RDF.
+/// Whether triples that were read from a graph's stored form are triples of RDF.
 fn are_rdf(triples: &[Triple]) -> bool
     ensures { result ≡ list_all is_rdf triples.now }
 {
     triples.iter().all(|triple| is_rdf(triple))
 }
 
-/// Whether this is a triple of RDF.
+/// Whether a triple that was read from a graph's stored form is one of RDF.
 fn is_rdf(triple: &Triple) -> bool
     ensures { result ≡ is_rdf triple.now }
 {
     triple.is_rdf()
 }
 
-/// Whether each triple is less than the next.
+/// Whether each triple that was read from a graph's stored form is less than the next.
 fn are_rising(triples: &[Triple]) -> bool
     ensures { result ≡ is_rising triple_cmp triples.now }
 {
@@ -210,7 +211,8 @@ fn are_rising(triples: &[Triple]) -> bool
     true
 }
 
-/// Whether the triple is less than the first of the others, if there is one.
+/// Whether a triple that was read from a graph's stored form is less than the first of the others,
+/// if there is one.
 fn is_below_next(triple: &Triple, others: &[Triple]) -> bool
     ensures { result ≡ is_below_next triple_cmp triple.now others.now }
 {

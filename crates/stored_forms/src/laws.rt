@@ -6,8 +6,9 @@ ghost use Rattle.stored_forms.specs.StoredForms.{entry_1_bytes, entry_bytes, sna
 ghost use Rattle.pod_command.specs.declared.entry.Entry.{Entry};
 ghost use Rattle.pod_command.specs.declared.snapshot.Snapshot.{Snapshot};
 
-/// Two values that can be stored and have one form are equal but for the spare room of their lists.
-/// Format 1 leaves the bases out. The first byte keeps the three kinds of form apart.
+/// The law that two values with one stored form are equal but for the spare room of their lists,
+/// where they can be stored. Format 1 leaves the bases out. The first byte keeps the three kinds of
+/// form apart.
 pub fn one_form()
     ensures entry { (a b : Entry) → IsStorable a → IsStorable b → entry_bytes a ≡ entry_bytes b
         → bare_entry a ≡ bare_entry b }

@@ -20,12 +20,12 @@ mod edit_form;
 mod entry_form;
 mod graph_form;
 pub mod laws;
+mod list_form;
+mod primitive_reading;
+mod primitive_writing;
 mod read_back;
-mod reading;
 mod row_form;
 mod snapshot_form;
-mod stored;
-mod writing;
 
 pub use entry_form::{decode_entry, decode_entry_1, encode_entry, entry_size};
 pub use read_back::ReadBack;

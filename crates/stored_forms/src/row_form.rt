@@ -9,18 +9,18 @@ ghost use Rattle.stored_forms.specs.Storable.{IsStorableContent, IsStorableRow};
 ghost use Rattle.stored_forms.specs.StoredForms.{content_bytes, kind_byte, row_bytes};
 
 use crate::graph_form::{graph_of, graph_size, put_graph};
-use crate::read_back::ReadBack;
-use crate::reading::{byte_of, bytes_of, number_of, path_of, text_of};
-use crate::stored::Stored;
-use crate::writing::{
+use crate::list_form::Stored;
+use crate::primitive_reading::{byte_of, bytes_of, number_of, path_of, text_of};
+use crate::primitive_writing::{
     after_byte, number_size, piece_size, plus, put_byte, put_number, put_path, put_piece, put_text,
 };
+use crate::read_back::ReadBack;
 use pod_base::{Mem, Moment};
 use pod_command::{Content, Kind, Row};
 use std::alloc::Global;
 use stored_bytes::StoredBytes;
 
-/// The byte of a kind.
+/// The byte of a row's kind in its stored form.
 fn kind_byte(kind: Kind) -> u8
     ensures { result ≡ kind_byte kind }
 {
@@ -33,7 +33,7 @@ fn kind_byte(kind: Kind) -> u8
     }
 }
 
-/// A kind.
+/// Reads a row's kind from its stored form.
 #[tactic(auto, unfolding(crate::specs::Reading::kind_at))]
 fn kind_of(bytes: &[u8]) -> Result<(Kind, &[u8]), ReadBack>
     ensures { Gives (λ x. (x.0, x.1.now)) result (kind_at bytes.now) }
@@ -42,7 +42,7 @@ fn kind_of(bytes: &[u8]) -> Result<(Kind, &[u8]), ReadBack>
     kind_after(tag, rest)
 }
 
-/// The kind of a byte.
+/// The kind of a byte in a row's stored form.
 #[tactic(auto, unfolding(crate::specs::Reading::kind_after))]
 fn kind_after(tag: u8, bytes: &[u8]) -> Result<(Kind, &[u8]), ReadBack>
     ensures { Gives (λ x. (x.0, x.1.now)) result (kind_after tag bytes.now) }
@@ -57,7 +57,7 @@ fn kind_after(tag: u8, bytes: &[u8]) -> Result<(Kind, &[u8]), ReadBack>
     }
 }
 
-/// Appends content.
+/// Appends the stored form of a row's content.
 #[tactic(auto, unfolding(crate::specs::StoredForms::content_bytes))]
 fn put_content(out: &mut Vec<u8>, content: &Content) -> Mem<()>
     ensures form { OnOk result (out.new.items ≡ out.old.items ++ content_bytes content.now) }
@@ -72,7 +72,7 @@ fn put_content(out: &mut Vec<u8>, content: &Content) -> Mem<()>
     }
 }
 
-/// The size of the form of content.
+/// The size of the stored form of a row's content.
 #[tactic(auto, unfolding(crate::specs::StoredForms::content_bytes))]
 fn content_size(content: &Content) -> u64
     ensures { result ≡ saturated (length (content_bytes content.now)) }
@@ -86,7 +86,7 @@ fn content_size(content: &Content) -> u64
     }
 }
 
-/// Content of that kind.
+/// Reads the content of a row of that kind, from its stored form.
 fn content_of(alloc: Global, kind: Kind, bytes: &[u8]) -> Result<(Content, &[u8]), ReadBack>
     ensures { Gives (λ x. (x.0, x.1.now)) result (content_at kind bytes.now) }
 {
@@ -96,7 +96,7 @@ fn content_of(alloc: Global, kind: Kind, bytes: &[u8]) -> Result<(Content, &[u8]
     }
 }
 
-/// A graph as content.
+/// Reads a graph as a row's content, from its stored form.
 #[tactic(auto, unfolding(crate::specs::Reading::graph_content_at))]
 fn graph_content(alloc: Global, bytes: &[u8]) -> Result<(Content, &[u8]), ReadBack>
     ensures { Gives (λ x. (x.0, x.1.now)) result (graph_content_at bytes.now) }
@@ -105,7 +105,7 @@ fn graph_content(alloc: Global, bytes: &[u8]) -> Result<(Content, &[u8]), ReadBa
     Ok((Content::Graph(graph), rest))
 }
 
-/// Bytes and their type as content.
+/// Reads bytes and their type as a row's content, from its stored form.
 #[tactic(auto, unfolding(crate::specs::Reading::bytes_content_at))]
 fn bytes_content(alloc: Global, bytes: &[u8]) -> Result<(Content, &[u8]), ReadBack>
     ensures { Gives (λ x. (x.0, x.1.now)) result (bytes_content_at bytes.now) }
@@ -116,7 +116,7 @@ fn bytes_content(alloc: Global, bytes: &[u8]) -> Result<(Content, &[u8]), ReadBa
     Ok((Content::Bytes { ctype, bytes }, rest))
 }
 
-/// Appends a row.
+/// Appends the stored form of a row.
 #[tactic(auto, unfolding(crate::specs::StoredForms::row_bytes))]
 pub(crate) fn put_row(out: &mut Vec<u8>, row: &Row) -> Mem<()>
     requires { HasFittingContent row.now }
@@ -129,7 +129,7 @@ pub(crate) fn put_row(out: &mut Vec<u8>, row: &Row) -> Mem<()>
     put_content(out, &row.content)
 }
 
-/// The size of a row's form.
+/// The size of a row's stored form.
 #[tactic(auto, unfolding(crate::specs::StoredForms::row_bytes))]
 pub(crate) fn row_size(row: &Row) -> u64
     ensures { result ≡ saturated (length (row_bytes row.now)) }
@@ -139,7 +139,7 @@ pub(crate) fn row_size(row: &Row) -> u64
     plus(piece_size(row.path.as_str().as_bytes()), rest)
 }
 
-/// A row.
+/// Reads a row from its stored form.
 #[tactic(auto, unfolding(crate::specs::Reading::row_at))]
 pub(crate) fn row_of(alloc: Global, bytes: &[u8]) -> Result<(Row, &[u8]), ReadBack>
     ensures { Gives (λ x. (x.0, x.1.now)) result (row_at bytes.now) }

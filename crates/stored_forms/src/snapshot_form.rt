@@ -11,12 +11,12 @@ ghost use Rattle.stored_forms.specs.StoredForms.{snapshot_bytes};
 ghost use Rattle.pod_command.specs.declared.snapshot.Snapshot.{Snapshot};
 ghost use Rattle.stored_forms.specs.declared.read_back.ReadBack.TheVariants.{NotCanonical};
 
-use crate::read_back::ReadBack;
-use crate::reading::{byte_of, iri_of, number_of, text_of};
-use crate::stored::{list_of, list_size, put_list};
-use crate::writing::{
+use crate::list_form::{list_of, list_size, put_list};
+use crate::primitive_reading::{byte_of, iri_of, number_of, text_of};
+use crate::primitive_writing::{
     after_byte, number_size, piece_size, plus, put_byte, put_iri, put_number, put_text,
 };
+use crate::read_back::ReadBack;
 use pod_base::{Bytes, List, Mem, NoMemory};
 use pod_command::{Row, Snapshot};
 use std::alloc::Global;
@@ -56,7 +56,7 @@ pub fn decode_snapshot(alloc: Global, bytes: &[u8]) -> Result<Snapshot, ReadBack
     snapshot_in(alloc, bytes)
 }
 
-/// Appends a snapshot.
+/// Appends the stored form of a snapshot.
 #[tactic(auto, unfolding(crate::specs::StoredForms::snapshot_bytes))]
 fn put_snapshot(out: &mut Vec<u8>, s: &Snapshot) -> Mem<()>
     requires { IsEncodableSnapshot s.now }
@@ -70,7 +70,7 @@ fn put_snapshot(out: &mut Vec<u8>, s: &Snapshot) -> Mem<()>
     put_list(out, s.rows.as_slice())
 }
 
-/// The size of a snapshot's form, at most 2^64 - 1.
+/// The size of a snapshot's stored form, at most 2^64 - 1.
 #[tactic(auto, unfolding(crate::specs::StoredForms::snapshot_bytes))]
 fn snapshot_size(s: &Snapshot) -> u64
     ensures { result ≡ saturated (length (snapshot_bytes s.now)) }
@@ -82,7 +82,7 @@ fn snapshot_size(s: &Snapshot) -> u64
     after_byte(rest)
 }
 
-/// The snapshot that all of the bytes are.
+/// Reads the snapshot whose stored form all of the bytes are.
 #[tactic(auto, unfolding(crate::specs::Reading::snapshot_in))]
 fn snapshot_in(alloc: Global, bytes: &[u8]) -> Result<Snapshot, ReadBack>
     ensures { Gives (λ s. s) result (snapshot_in bytes.now) }
@@ -98,7 +98,7 @@ fn snapshot_in(alloc: Global, bytes: &[u8]) -> Result<Snapshot, ReadBack>
     Ok(snapshot)
 }
 
-/// What follows the first byte.
+/// Reads a snapshot from its stored form after the first byte.
 #[tactic(auto, unfolding(crate::specs::Reading::snapshot_at))]
 fn snapshot_of(alloc: Global, bytes: &[u8]) -> Result<(Snapshot, &[u8]), ReadBack>
     ensures { Gives (λ x. (x.0, x.1.now)) result (snapshot_at bytes.now) }
@@ -116,7 +116,7 @@ fn snapshot_of(alloc: Global, bytes: &[u8]) -> Result<(Snapshot, &[u8]), ReadBac
     Ok((snapshot, rest))
 }
 
-/// Rows in strict order of their paths.
+/// Reads a snapshot's rows from their stored form, in strict order of their paths.
 #[tactic(auto, unfolding(crate::specs::Reading::rows_at))]
 fn rows_of(alloc: Global, bytes: &[u8]) -> Result<(Vec<Row>, &[u8]), ReadBack>
     ensures { Gives (λ x. (x.0.items, x.1.now)) result (rows_at bytes.now) }
@@ -128,7 +128,8 @@ fn rows_of(alloc: Global, bytes: &[u8]) -> Result<(Vec<Row>, &[u8]), ReadBack>
     Ok((rows, rest))
 }
 
-/// Whether the path of each row is less than that of the next.
+/// Whether the path of each row that was read from a snapshot's stored form is less than that of
+/// the next.
 fn are_rising(rows: &[Row]) -> bool
     ensures { result ≡ is_rising path_cmp rows.now }
 {
@@ -142,7 +143,8 @@ fn are_rising(rows: &[Row]) -> bool
     true
 }
 
-/// Whether the path of the row is less than that of the first of the others, if there is one.
+/// Whether the path of a row that was read from a snapshot's stored form is less than that of the
+/// first of the others, if there is one.
 fn is_below_next(row: &Row, others: &[Row]) -> bool
     ensures { result ≡ is_below_next path_cmp row.now others.now }
 {

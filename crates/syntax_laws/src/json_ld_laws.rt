@@ -19,13 +19,14 @@
 ghost use Rattle.syntax_laws.specs.JsonldLaws.{ExpandedGraphsAreReadBack, ExpandedGraphsReadBack};
 ghost use Rattle.syntax_laws.specs.JsonldLaws.{SpelledGraphsReadBack};
 
-/// A graph that was read as expanded JSON-LD is read back from both of its texts.
+/// The law that a graph which was read as expanded JSON-LD is read back from both of its texts.
 pub fn expanded_graphs()
     ensures turtle { ExpandedGraphsAreReadBack }
     ensures json_ld { ExpandedGraphsReadBack }
 {}
 
-/// A graph that was read as Turtle is read back from its document as expanded JSON-LD.
+/// The law that a graph which was read as Turtle is read back from its document as expanded
+/// JSON-LD.
 pub fn spelled_as_json_ld()
     ensures { SpelledGraphsReadBack }
 {

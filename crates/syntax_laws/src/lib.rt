@@ -43,20 +43,21 @@ pub use json_ld_laws::{expanded_graphs, spelled_as_json_ld};
 use rdf_graph::Graph;
 use text_laws::graph_texts;
 
-/// The text of a graph whose terms are read back spells the graph, for every base.
+/// The law that the text of a graph whose terms are read back spells the graph, for every base.
 pub fn written_graphs()
     ensures spell { WrittenGraphsSpell }
     ensures within_limits { WrittenGraphsAreWithinLimits }
     ensures read { WrittenGraphsAreRead }
 {}
 
-/// A graph that was read of a text is read back: its labels are those of Turtle, and its tags are in
-/// lower case. So what [`written_graphs`] says holds of it, whatever the text was.
+/// The law that a graph which was read of a text of Turtle is read back: its labels are those of
+/// Turtle, and its tags are in lower case. So what [`written_graphs`] says holds of it, whatever
+/// the text was.
 pub fn spelled_graphs()
     ensures { SpelledGraphsAreReadBack }
 {}
 
-/// The text of this graph spells it for every base, where its terms are read back.
+/// The law that the text of this graph spells it for every base, where its terms are read back.
 pub fn written_graph(graph: &Graph)
     ensures spells { (base : List ℕ) → GraphIsReadBack graph.now
         → Spells base (graph_text graph.now) graph.now }

@@ -7,8 +7,8 @@ use Rattle.pod_base.specs.Fields.{is_named}
 use Rattle.pod_base.specs.declared.field.Field.{Field}
 use Rattle.token_table.specs.TableLines.{agent_in}
 use Rattle.token_table.specs.declared.table_line.TokenEntry.{TokenEntry}
-use Rattle.token_table.specs.declared.credentials.Asked.{Asked}
-use Rattle.token_table.specs.declared.credentials.Asked.TheVariants.{Public, Known, Refused}
+use Rattle.token_table.specs.declared.authorization_field.Asked.{Asked}
+use Rattle.token_table.specs.declared.authorization_field.Asked.TheVariants.{Public, Known, Refused}
 
 -- anybody, an agent, or nobody who is accepted
 pub data AskedAgent : Type 0 where

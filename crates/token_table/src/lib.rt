@@ -18,13 +18,13 @@
 //! It stands on `iri_ref` and `pod_base`.
 #![tactic(auto)]
 
-mod credentials;
+mod authorization_field;
 mod fault;
 pub mod laws;
 mod table;
 mod table_line;
 
-pub use credentials::Asked;
+pub use authorization_field::Asked;
 pub use fault::TokenFault;
 pub use table::{TABLE_LIMIT, Tokens};
 pub use table_line::{TOKEN_LIMIT, TokenEntry};

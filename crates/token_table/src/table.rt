@@ -37,7 +37,7 @@ impl Model for Tokens {
     ghost invariant = { λ t. AreFiled t.entries.items t.places };
 }
 
-/// The place of a token.
+/// The position of a token's entry in the table.
 fn place(places: &BTreeMap<String, usize>, token: &str) -> Option<usize>
     ensures { result ≡ get_by_text places.now token.now }
 {
@@ -55,7 +55,7 @@ impl Tokens {
         }
     }
 
-    /// Appends an entry, unless its token is in the table already.
+    /// Appends an entry to the table, unless its token is there already.
     fn add(&mut self, alloc: Global, entry: TokenEntry) -> Mem<bool>
         ensures added { IfOk result (λ added. added ≡ not (spec.has_token self.old entry.token)) }
         ensures table { IfOk result (λ added. added ≡ true → self.new ≡ self.old ++ entry ∷ []) }
@@ -70,7 +70,7 @@ impl Tokens {
         Ok(true)
     }
 
-    /// Reads the next line: whether it is well-formed and repeats no token.
+    /// Takes the next line into the table: whether it is well-formed and repeats no token.
     fn take_line(&mut self, alloc: Global, line: &[u8]) -> Mem<bool>
         ensures good { IfOk result (λ good. good
             ≡ not (spec.is_malformed line.now || spec.repeats self.old line.now)) }
@@ -86,7 +86,7 @@ impl Tokens {
         }
     }
 
-    /// Reads the next line, which begins at this byte: whether it isn't faulty.
+    /// Takes the next line into the table, which begins at this byte: whether it isn't faulty.
     fn take_line_at(&mut self, alloc: Global, start: usize, line: &[u8]) -> Mem<bool>
         requires { start ≤ TABLE_LIMIT + 1 }
         ensures good { IfOk result (λ good. good
@@ -102,7 +102,7 @@ impl Tokens {
         self.take_line(alloc, line)
     }
 
-    /// Reads a table.
+    /// Reads a table of tokens.
     ///
     /// Its lines are ended by LF, that of the last one may be missing. Empty lines and lines that
     /// begin with `#` are skipped. Every other line is a token, one space and an absolute IRI. It
@@ -128,7 +128,7 @@ impl Tokens {
         Ok(tokens)
     }
 
-    /// The agent of a token.
+    /// The agent that the table has for a token.
     pub(crate) fn agent(&self, token: &[u8]) -> Option<&Text>
         ensures { option_copied result ≡ spec.agent_in self.now token.now }
     {

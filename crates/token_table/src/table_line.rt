@@ -22,14 +22,15 @@ pub struct TokenEntry {
     pub agent: Text,
 }
 
-/// Where the first byte of this value stands.
+/// Where the first byte of this value is, in a table's text or in one line of it.
 fn find_byte(bytes: &[u8], wanted: u8) -> Option<usize>
     ensures { result ≡ position (λ b. b == wanted) bytes.now }
 {
     bytes.iter().position(|byte| *byte == wanted)
 }
 
-/// What stands before the first byte of this value, and what follows it; all where it isn't there.
+/// What precedes the first byte of this value in a table's text or in one line of it, and what
+/// follows it; all where it isn't there.
 fn split_byte(bytes: &[u8], wanted: u8) -> (&[u8], &[u8])
     ensures before { result.0.now ≡ before_first (λ b. b == wanted) bytes.now }
     ensures after { result.1.now ≡ after_first (λ b. b == wanted) bytes.now }
@@ -40,7 +41,8 @@ fn split_byte(bytes: &[u8], wanted: u8) -> (&[u8], &[u8])
     }
 }
 
-/// The first line of a text, without its LF, and what follows it; none where the text is empty.
+/// The first line of a table's text, without its LF, and what follows it; none where the text is
+/// empty.
 pub(crate) fn split_line(text: &[u8]) -> Option<(&[u8], &[u8])>
     ensures some { IfSome result (λ p. spec.lines_of text.now ≡ p.0.now ∷ spec.lines_of p.1.now) }
     ensures shorter { IfSome result (λ p. length p.1.now < length text.now) }
@@ -53,7 +55,7 @@ pub(crate) fn split_line(text: &[u8]) -> Option<(&[u8], &[u8])>
     Some((line, rest))
 }
 
-/// Whether a line is skipped: it is empty, or a comment.
+/// Whether a line of a table is skipped: it is empty, or a comment.
 pub(crate) fn is_skipped(line: &[u8]) -> bool
     ensures { result ≡ spec.is_skipped line.now }
 {
@@ -63,7 +65,7 @@ pub(crate) fn is_skipped(line: &[u8]) -> bool
     }
 }
 
-/// Whether a byte may stand in a token.
+/// Whether a byte may be part of the token of a line.
 fn is_token_character(byte: u8) -> bool
     ensures { result ≡ spec.is_token_character byte }
 {
@@ -73,21 +75,21 @@ fn is_token_character(byte: u8) -> bool
         || b"-._~+/=".contains(&byte)
 }
 
-/// Whether each byte may stand in a token.
+/// Whether each byte may be part of the token of a line.
 fn are_token_characters(bytes: &[u8]) -> bool
     ensures { result ≡ list_all spec.is_token_character bytes.now }
 {
     bytes.iter().all(|byte| is_token_character(*byte))
 }
 
-/// Whether these bytes are a token.
+/// Whether these bytes of a line are a token.
 fn is_token(bytes: &[u8]) -> bool
     ensures { result ≡ spec.is_token bytes.now }
 {
     !bytes.is_empty() && bytes.len() <= TOKEN_LIMIT && are_token_characters(bytes)
 }
 
-/// The text of these bytes, where they are an absolute IRI.
+/// The agent that a line of a table names: the text of these bytes, where they are an absolute IRI.
 fn read_agent(alloc: Global, bytes: &[u8]) -> Mem<Option<Text>>
     ensures { IfOk result
         (λ agent. agent ≡ (if spec.is_agent bytes.now then Some bytes.now else None)) }
@@ -105,7 +107,7 @@ fn read_agent(alloc: Global, bytes: &[u8]) -> Mem<Option<Text>>
     }
 }
 
-/// The text of a token.
+/// The text of the token in a line of the table.
 fn token_text(alloc: Global, token: &[u8]) -> Mem<Text>
     requires { spec.is_token token.now ≡ true }
     ensures { IfOk result (λ text. text ≡ token.now) }
@@ -113,7 +115,7 @@ fn token_text(alloc: Global, token: &[u8]) -> Mem<Text>
     Text::of(alloc, str::from_utf8(token).unwrap())
 }
 
-/// The entry of a line; none where it is skipped or malformed.
+/// The entry of a line of a table; none where it is skipped or malformed.
 pub(crate) fn read_entry(alloc: Global, line: &[u8]) -> Mem<Option<TokenEntry>>
     ensures { IfOk result (λ entry. entry ≡ spec.line_entry line.now) }
 {

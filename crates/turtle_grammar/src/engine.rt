@@ -38,6 +38,7 @@ impl Engine {
     ghost use Rattle.turtle_grammar.specs.Stacks.{Stage, first_rest, wants, at_point, with_rest};
     ghost use Rattle.turtle_grammar.specs.Stacks.{cleared, string_ended, waiting_triple};
 
+    /// The engine before the first symbol.
     pub fn new(alloc: Global, start: Start) -> Engine
         ensures { result ≡ record { goals = []; rest = first_rest start; point = start_point } }
     {
@@ -55,6 +56,7 @@ impl Engine {
         }
     }
 
+    /// Puts a goal on the engine's stack.
     pub fn want(&mut self, goal: Goal) -> Mem<()>
         ensures { OnOk result (self.new ≡ wants goal self.old) }
     {
@@ -62,7 +64,7 @@ impl Engine {
         Ok(())
     }
 
-    /// The walk passes a token.
+    /// The engine passes a token.
     pub fn pass(&mut self) -> Mem<()>
         ensures { OnOk result (self.new ≡ at_point (passed self.old.point) self.old) }
     {
@@ -73,6 +75,7 @@ impl Engine {
         Ok(())
     }
 
+    /// Appends what the engine's present step produces.
     pub fn produce(&mut self, production: Production) -> Mem<()>
         ensures { OnOk result (self.new ≡ at_point (produces production self.old.point) self.old) }
     {
@@ -80,7 +83,7 @@ impl Engine {
         Ok(())
     }
 
-    /// The triple that ends at this index.
+    /// The engine produces the triple that ends at this index.
     pub fn say_at(&mut self, end: usize, subject: Node, predicate: Node, object: Node) -> Mem<()>
         ensures { OnOk result (self.new
             ≡ at_point (triple_at end subject predicate object self.old.point) self.old) }
@@ -95,7 +98,7 @@ impl Engine {
         }))
     }
 
-    /// The triple that ends at the present token.
+    /// The engine produces the triple that ends at the present token.
     pub fn say(&mut self, subject: Node, predicate: Node, object: Node) -> Mem<()>
         ensures { OnOk result (self.new
             ≡ at_point (says subject predicate object self.old.point) self.old) }
@@ -103,7 +106,7 @@ impl Engine {
         self.say_at(self.at, subject, predicate, object)
     }
 
-    /// The next unnamed node.
+    /// The engine's next unnamed node.
     pub fn number(&mut self) -> Mem<Node>
         ensures node { IfOk result (λ node. node ≡ fresh self.old.point) }
         ensures counted { OnOk result (self.new ≡ at_point (counted self.old.point) self.old) }
@@ -116,40 +119,42 @@ impl Engine {
         Ok(Node::Unnamed(number))
     }
 
-    /// The present token.
+    /// The engine's present token.
     pub fn at(&self) -> usize
         ensures { result ≡ self.now.point.at }
     {
         self.at
     }
 
-    /// What a triple here is part of.
+    /// What a triple at the engine's present token is part of.
     pub fn within(&self) -> Within
         ensures { result ≡ self.now.point.within }
     {
         self.within
     }
 
+    /// Sets what a triple at the engine's present token is part of.
     pub fn go_within(&mut self, within: Within)
         ensures { self.new ≡ at_point (moved within self.old.point) self.old }
     {
         self.within = within;
     }
 
+    /// Sets what comes after the last goal of the engine's stack.
     pub fn set_rest(&mut self, rest: Rest)
         ensures { self.new ≡ with_rest rest self.old }
     {
         self.rest = rest;
     }
 
-    /// What the present step produced.
+    /// What the engine's present step produced.
     pub fn produced(&self) -> &[Production]
         ensures { result.now ≡ self.now.point.produced }
     {
         self.produced.as_slice()
     }
 
-    /// Whether a goal names the token of this index.
+    /// Whether a goal of the engine's stack names the token of this index.
     pub fn names(&self, index: usize) -> bool
         ensures found { OnTrue result (GoalsName (IsOther index) self.now.goals → ⊥) }
         ensures none { OnFalse result (GoalsName (IsOther index) self.now.goals) }
@@ -157,21 +162,21 @@ impl Engine {
         is_in_stack(index, self.stack.as_slice())
     }
 
-    /// Whether no goal is left.
+    /// Whether no goal is left on the engine's stack.
     pub fn is_empty(&self) -> bool
         ensures { IsTrue result ↔ (self.now.goals ≡ []) }
     {
         self.stack.is_empty()
     }
 
-    /// What comes after the last goal.
+    /// What comes after the last goal of the engine's stack.
     pub fn rest(&self) -> Rest
         ensures { result ≡ self.now.rest }
     {
         self.rest
     }
 
-    /// Takes the top goal.
+    /// Takes the top goal from the engine's stack.
     pub fn pop(&mut self) -> Option<Goal>
         ensures some { IfSome result (λ goal. self.old ≡ wants goal self.new) }
         ensures none { IfNone result (self.old.goals ≡ []) }
@@ -180,7 +185,7 @@ impl Engine {
         self.stack.pop()
     }
 
-    /// The String that waits for what follows it, where there is one.
+    /// The triple of the String for which the engine waits for what follows it, where there is one.
     pub fn waiting(&self) -> Option<SymbolicTriple>
         ensures { result ≡ waiting_triple self.now }
     {
@@ -196,7 +201,7 @@ impl Engine {
         }
     }
 
-    /// The triple of a String that waits for what follows it is produced.
+    /// The engine produces the triple of a String that waits for what follows it.
     pub fn end_string(&mut self) -> Mem<()>
         ensures { OnOk result (self.new ≡ string_ended self.old) }
     {
@@ -207,7 +212,7 @@ impl Engine {
         Ok(())
     }
 
-    /// A step begins: nothing is produced by it yet.
+    /// The engine begins a step: nothing is produced by it yet.
     pub fn clear(&mut self)
         ensures { self.new ≡ cleared self.old }
     {

@@ -13,7 +13,7 @@ use pod_base::{Mem, NoMemory};
 use std::alloc::Global;
 use turtle_lex::TokenKind;
 
-/// Whether the language of a start symbol has this symbol where so many braces are open.
+/// Whether the machine's start symbol allows this symbol where so many braces are open.
 fn is_allowed(start: Start, braces: usize, symbol: Symbol) -> bool
     ensures { result ≡ is_allowed start braces symbol }
 {
@@ -29,6 +29,7 @@ fn is_allowed(start: Start, braces: usize, symbol: Symbol) -> bool
     }
 }
 
+/// How many braces are open after the machine has read the symbol.
 fn braces_after(braces: usize, symbol: Symbol) -> Mem<usize>
     ensures { IfOk result (λ after. after ≡ braces_after braces symbol) }
 {
@@ -44,6 +45,7 @@ fn braces_after(braces: usize, symbol: Symbol) -> Mem<usize>
     }
 }
 
+/// How many brackets are open after the machine has read the symbol.
 fn depth_after(depth: usize, symbol: Symbol) -> usize
     requires { depth ≤ DEPTH_LIMIT }
     ensures { result ≡ depth_after depth symbol }
@@ -110,7 +112,7 @@ impl Machine {
         }
     }
 
-    /// The grammar takes the symbol, which is counted if it is a brace.
+    /// The machine's grammar takes the symbol, which is counted if it is a brace.
     fn take(&mut self, symbol: Symbol) -> Mem<bool>
         ensures engine { IfOk result (λ taken.
             Takes (step_of (cleared self.old.engine) symbol) taken self.new.engine) }

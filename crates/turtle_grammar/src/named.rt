@@ -10,6 +10,7 @@ ghost use Rattle.turtle_grammar.specs.Named.{in_collection, in_goal, IsNotIn};
 use crate::goal::{CellUse, Closer, CollectionUse, FormulaUse, Goal};
 use crate::production::Node;
 
+/// Whether a node of an unfinished production names the token of this index.
 fn in_node(index: usize, node: Node) -> bool
     ensures { result ≡ in_node index node }
 {
@@ -21,12 +22,14 @@ fn in_node(index: usize, node: Node) -> bool
     }
 }
 
+/// Whether the subject or the predicate of an unfinished production names the token of this index.
 fn in_nodes(index: usize, subject: Node, predicate: Node) -> bool
     ensures { result ≡ in_nodes index subject predicate }
 {
     in_node(index, subject) || in_node(index, predicate)
 }
 
+/// Whether the use of an unfinished formula names the token of this index.
 fn in_formula(index: usize, used: FormulaUse) -> bool
     ensures { result ≡ in_formula index used }
 {
@@ -36,6 +39,7 @@ fn in_formula(index: usize, used: FormulaUse) -> bool
     }
 }
 
+/// Whether the end that an unfinished production waits for names the token of this index.
 fn in_closer(index: usize, closer: Closer) -> bool
     ensures { result ≡ in_closer index closer }
 {
@@ -48,6 +52,7 @@ fn in_closer(index: usize, closer: Closer) -> bool
     }
 }
 
+/// Whether the use of an unfinished collection's cells names the token of this index.
 fn in_cell(index: usize, used: CellUse) -> bool
     ensures { result ≡ in_cell index used }
 {
@@ -59,6 +64,7 @@ fn in_cell(index: usize, used: CellUse) -> bool
     }
 }
 
+/// Whether the use of an unfinished collection names the token of this index.
 fn in_collection(index: usize, used: CollectionUse) -> bool
     ensures { result ≡ in_collection index used }
 {
@@ -68,6 +74,7 @@ fn in_collection(index: usize, used: CollectionUse) -> bool
     }
 }
 
+/// Whether a goal names the token of this index.
 fn in_goal(index: usize, goal: Goal) -> bool
     ensures { result ≡ in_goal index goal }
 {

@@ -20,7 +20,7 @@ impl Engine {
     ghost use Rattle.turtle_grammar.specs.declared.symbol.Symbol.TheVariants.{Token};
     ghost use Rattle.turtle_lex.specs.declared.token.TokenKind.TheVariants.{OpenBrace};
 
-    /// The triple ends at the present token, which is passed.
+    /// Produces the triple of an object that ends at the present token, which is passed.
     fn say_and_pass(&mut self, subject: Node, predicate: Node, object: Node) -> Mem<()>
         ensures { OnOk result (self.new
             ≡ at_point (passed (says subject predicate object self.old.point)) self.old) }
@@ -29,7 +29,7 @@ impl Engine {
         self.pass()
     }
 
-    /// The present token is passed, and then this is wanted.
+    /// Passes the present token, after which this goal inside a statement is wanted.
     pub fn pass_to(&mut self, goal: Goal) -> Mem<bool>
         ensures { IfOk result (λ taken. Takes
             (Some (wants goal (at_point (passed self.old.point) self.old))) taken self.new) }
@@ -39,6 +39,7 @@ impl Engine {
         Ok(true)
     }
 
+    /// Takes the symbol for the goal of one object.
     pub fn one(&mut self, subject: Node, predicate: Node, symbol: Symbol) -> Mem<bool>
         ensures { IfOk result (λ taken.
             Takes (behind self.old (one subject predicate self.old.point symbol)) taken self.new) }
@@ -79,7 +80,7 @@ impl Engine {
         }
     }
 
-    /// The formula that the present `{` opens is the object.
+    /// Takes the formula that the present `{` opens as an object.
     fn open_formula(&mut self, subject: Node, predicate: Node) -> Mem<bool>
         ensures { IfOk result (λ taken. Takes (behind self.old
             (one subject predicate self.old.point (Token OpenBrace))) taken self.new) }
@@ -90,6 +91,7 @@ impl Engine {
         self.pass_to(Goal::Formula(FormulaUse::Object(subject, predicate, at, outer)))
     }
 
+    /// Closes a formula, which is an object or an operation's.
     fn close_formula(&mut self, used: FormulaUse) -> Mem<()>
         ensures { OnOk result (self.new
             ≡ at_point (formula_closed used self.old.point) self.old) }
@@ -106,6 +108,7 @@ impl Engine {
         }
     }
 
+    /// Takes the symbol for the end of a list of predicates and objects.
     fn close(&mut self, closer: Closer, symbol: Symbol) -> Mem<bool>
         ensures { IfOk result (λ taken.
             Takes (behind self.old (closes closer self.old.point symbol)) taken self.new) }
@@ -134,7 +137,7 @@ impl Engine {
         }
     }
 
-    /// The objects of the verb that the present token is.
+    /// Wants the objects of the verb that the present token is.
     fn objects(&mut self, subject: Node, closer: Closer) -> Mem<bool>
         ensures { IfOk result (λ taken.
             Takes (behind self.old (objects subject closer self.old.point)) taken self.new) }
@@ -144,6 +147,7 @@ impl Engine {
         self.pass_to(Goal::One(subject, verb))
     }
 
+    /// Takes the symbol for what follows an object.
     pub fn after(
         &mut self,
         subject: Node,
@@ -164,6 +168,7 @@ impl Engine {
         }
     }
 
+    /// Takes the symbol for what follows a `;` after objects.
     pub fn again(&mut self, subject: Node, closer: Closer, symbol: Symbol) -> Mem<bool>
         ensures { IfOk result (λ taken.
             Takes (behind self.old (again subject closer self.old.point symbol)) taken self.new) }
@@ -174,6 +179,7 @@ impl Engine {
         }
     }
 
+    /// Takes the symbol for a list of predicates and their objects.
     pub fn predicates(&mut self, subject: Node, closer: Closer, symbol: Symbol) -> Mem<bool>
         ensures { IfOk result (λ taken. Takes (behind self.old
             (predicates subject closer self.old.point symbol)) taken self.new) }
@@ -190,6 +196,7 @@ impl Engine {
         }
     }
 
+    /// Takes the symbol for a list of predicates and their objects, or only for its end.
     pub fn perhaps(&mut self, subject: Node, closer: Closer, symbol: Symbol) -> Mem<bool>
         ensures { IfOk result (λ taken.
             Takes (behind self.old (perhaps subject closer self.old.point symbol)) taken self.new) }
@@ -206,6 +213,7 @@ impl Engine {
         }
     }
 
+    /// Takes the symbol for what follows a String that is an object.
     pub fn suffix(
         &mut self,
         subject: Node,
@@ -228,6 +236,7 @@ impl Engine {
         }
     }
 
+    /// Takes the symbol for the datatype of a String that is an object.
     pub fn datatype(
         &mut self,
         subject: Node,
@@ -247,6 +256,7 @@ impl Engine {
         }
     }
 
+    /// Takes the symbol for the inside of a collection that is a subject.
     pub fn subject_collection(&mut self, closer: Closer, symbol: Symbol) -> Mem<bool>
         ensures { IfOk result (λ taken. Takes (behind self.old
             (collection (collection_use.Subject closer) self.old.point symbol)) taken self.new) }
@@ -265,6 +275,7 @@ impl Engine {
         }
     }
 
+    /// Takes the symbol for the inside of a collection that is an object.
     pub fn object_collection(&mut self, subject: Node, predicate: Node, symbol: Symbol) -> Mem<bool>
         ensures { IfOk result (λ taken. Takes (behind self.old (collection
             (collection_use.Object subject predicate) self.old.point symbol)) taken self.new) }
@@ -282,6 +293,7 @@ impl Engine {
         }
     }
 
+    /// Closes a collection, which is a subject or an object.
     fn close_collection(&mut self, used: CellUse) -> Mem<()>
         ensures { OnOk result (self.new ≡ at_point (collected used self.old.point) self.old) }
     {
@@ -293,6 +305,8 @@ impl Engine {
         }
     }
 
+    /// Takes the symbol for the elements of a collection after its first, each the object of a
+    /// cell.
     pub fn elements(&mut self, cell: Node, used: CellUse, symbol: Symbol) -> Mem<bool>
         ensures { IfOk result (λ taken.
             Takes (behind self.old (elements cell used self.old.point symbol)) taken self.new) }
@@ -312,6 +326,7 @@ impl Engine {
         }
     }
 
+    /// Takes the symbol for a subject and what follows it, predicates and objects.
     pub fn subject(&mut self, closer: Closer, symbol: Symbol) -> Mem<bool>
         ensures { IfOk result (λ taken.
             Takes (behind self.old (subject_of closer self.old.point symbol)) taken self.new) }
@@ -340,6 +355,7 @@ impl Engine {
         }
     }
 
+    /// Takes the symbol for the inside of a formula.
     pub fn formula(&mut self, used: FormulaUse, symbol: Symbol) -> Mem<bool>
         ensures { IfOk result (λ taken.
             Takes (behind self.old (formula used self.old.point symbol)) taken self.new) }

@@ -10,7 +10,7 @@ use crate::symbol::Symbol;
 use pod_base::Mem;
 use turtle_lex::TokenKind;
 
-/// Whether the symbol adds something to a String before it.
+/// Whether the symbol adds something to a String before it, where a step of a statement begins.
 fn adds_to_string(symbol: Symbol) -> bool
     ensures { result ≡ adds_to_string symbol }
 {
@@ -28,7 +28,7 @@ impl Engine {
     ghost use Rattle.turtle_grammar.specs.Stacks.{after_operation, top, step_of, take_of, cleared};
     ghost use Rattle.turtle_grammar.specs.Stacks.{on_top};
 
-    /// The IRIREF of a directive is passed; a `.` may have to follow.
+    /// Passes the IRIREF of a directive; a `.` may have to follow.
     fn pass_iri(&mut self, has_dot: bool) -> Mem<bool>
         ensures { IfOk result (λ taken. Takes (Some (record {
           goals = dot_goals has_dot ++ self.old.goals;
@@ -43,6 +43,7 @@ impl Engine {
         Ok(true)
     }
 
+    /// Takes the symbol for the PNAME_NS of a directive.
     fn prefix_name(&mut self, has_dot: bool, symbol: Symbol) -> Mem<bool>
         ensures { IfOk result (λ taken.
             Takes (behind self.old (prefix_name has_dot self.old.point symbol)) taken self.new) }
@@ -53,6 +54,7 @@ impl Engine {
         }
     }
 
+    /// Takes the symbol for the IRIREF of a directive that declares a prefix.
     fn prefix_iri(&mut self, has_dot: bool, name: usize, symbol: Symbol) -> Mem<bool>
         ensures { IfOk result (λ taken. Takes (behind self.old
             (prefix_iri has_dot name self.old.point symbol)) taken self.new) }
@@ -69,6 +71,7 @@ impl Engine {
         }
     }
 
+    /// Takes the symbol for the IRIREF of a directive that sets the base.
     fn base_iri(&mut self, has_dot: bool, symbol: Symbol) -> Mem<bool>
         ensures { IfOk result (λ taken.
             Takes (behind self.old (base_iri has_dot self.old.point symbol)) taken self.new) }
@@ -82,6 +85,7 @@ impl Engine {
         }
     }
 
+    /// Takes the symbol for the `.` of a directive.
     fn dot(&mut self, symbol: Symbol) -> Mem<bool>
         ensures { IfOk result (λ taken.
             Takes (behind self.old (dot_only self.old.point symbol)) taken self.new) }
@@ -95,6 +99,7 @@ impl Engine {
         }
     }
 
+    /// Takes the symbol for the `DATA` of an update's operation.
     fn data_word(&mut self, within: Within, symbol: Symbol) -> Mem<bool>
         ensures { IfOk result (λ taken.
             Takes (behind self.old (data_word within self.old.point symbol)) taken self.new) }
@@ -105,6 +110,7 @@ impl Engine {
         }
     }
 
+    /// Takes the symbol for the `{` of an update's operation.
     fn brace(&mut self, within: Within, symbol: Symbol) -> Mem<bool>
         ensures { IfOk result (λ taken.
             Takes (behind self.old (brace within self.old.point symbol)) taken self.new) }
@@ -118,7 +124,7 @@ impl Engine {
         }
     }
 
-    /// The goal, which was taken from the stack, begins with the symbol.
+    /// Takes the symbol for the beginning of a goal of statements, which was taken from the stack.
     fn begin(&mut self, goal: Goal, symbol: Symbol) -> Mem<bool>
         ensures { IfOk result (λ taken.
             Takes (behind self.old (begins goal self.old.point symbol)) taken self.new) }
@@ -154,6 +160,7 @@ impl Engine {
         }
     }
 
+    /// Takes the symbol for a statement or a directive of a document.
     fn statement(&mut self, symbol: Symbol) -> Mem<bool>
         ensures { IfOk result (λ taken.
             Takes (behind self.old (statement self.old.point symbol)) taken self.new) }
@@ -167,6 +174,7 @@ impl Engine {
         }
     }
 
+    /// Takes the symbol for a directive or an operation of an update.
     fn update(&mut self, symbol: Symbol) -> Mem<bool>
         ensures { IfOk result (λ taken.
             Takes (on_top self.old (update self.old.point symbol)) taken self.new) }
@@ -192,6 +200,7 @@ impl Engine {
         }
     }
 
+    /// Takes the symbol for the `;` after an update's operation.
     fn after_operation(&mut self, symbol: Symbol) -> Mem<bool>
         ensures { IfOk result (λ taken.
             Takes (on_top self.old (after_operation self.old.point symbol)) taken self.new) }
@@ -206,7 +215,8 @@ impl Engine {
         }
     }
 
-    /// Where no goal is left, the rest begins with the symbol.
+    /// Takes the symbol for the rest of a document's statements or of an update, where no goal is
+    /// left.
     fn top(&mut self, symbol: Symbol) -> Mem<bool>
         ensures { IfOk result (λ taken. Takes
             (on_top self.old (top self.old.rest self.old.point symbol)) taken self.new) }
@@ -218,7 +228,7 @@ impl Engine {
         }
     }
 
-    /// The top goal takes the symbol.
+    /// The top goal takes the symbol, or the next statement does.
     fn take(&mut self, symbol: Symbol) -> Mem<bool>
         ensures { IfOk result (λ taken. Takes (take_of self.old symbol) taken self.new) }
     {
@@ -228,7 +238,8 @@ impl Engine {
         }
     }
 
-    /// Where the symbol adds nothing to a String that waits for it, the String's triple ends.
+    /// Ends the triple of a String that waits, where the symbol of the present statement adds
+    /// nothing to it.
     fn settle(&mut self, symbol: Symbol) -> Mem<()>
         ensures { OnOk result (step_of self.old symbol ≡ take_of self.new symbol) }
     {
@@ -238,7 +249,8 @@ impl Engine {
         self.end_string()
     }
 
-    /// One step. It returns whether the symbol was taken.
+    /// One step of the whole machine, from statements to objects. It returns whether the symbol was
+    /// taken.
     pub fn step(&mut self, symbol: Symbol) -> Mem<bool>
         ensures { IfOk result (λ taken. Takes (step_of (cleared self.old) symbol) taken self.new) }
     {

@@ -10,7 +10,7 @@ ghost use Rattle.turtle_lex.specs.Runs.{IsRun, IsSomeRun, tag_part};
 use crate::classes::{Class, strip_one};
 use crate::escapes::strip_word;
 
-/// What follows the characters of the class.
+/// What follows the run of characters of the class at the start of a text.
 pub(crate) fn strip_run(text: &[u8], class: Class) -> &[u8]
     ensures run { IsRun (in_class class) text.now result.now }
     ensures no_longer { length result.now ≤ length text.now }
@@ -24,7 +24,7 @@ pub(crate) fn strip_run(text: &[u8], class: Class) -> &[u8]
     }
 }
 
-/// What follows the characters of the class, of which there is one at least.
+/// What follows the run of characters of the class, of which there is one at least.
 pub(crate) fn strip_some(text: &[u8], class: Class) -> Option<&[u8]>
     ensures found { IfSome result (λ rest. IsSomeRun (in_class class) text.now rest.now) }
     ensures none { IfNone result (MatchesOnly (one (in_class class)) text.now None) }
@@ -36,7 +36,7 @@ pub(crate) fn strip_some(text: &[u8], class: Class) -> Option<&[u8]>
     }
 }
 
-/// What follows the parts of a LANGTAG after its first.
+/// What follows the parts of a LANGTAG after its first, each a run of letters or digits.
 pub(crate) fn strip_tag_parts(text: &[u8]) -> &[u8]
     ensures { MatchesLongest (many tag_part) text.now (Some result.now) }
 {
@@ -52,7 +52,7 @@ pub(crate) fn strip_tag_parts(text: &[u8]) -> &[u8]
     }
 }
 
-/// What follows the longest LANGTAG.
+/// What follows the longest LANGTAG, which is runs of letters and digits.
 pub(crate) fn strip_lang_tag(text: &[u8]) -> Option<&[u8]>
     ensures { MatchesLongest lang_tag text.now (option_copied result) }
 {

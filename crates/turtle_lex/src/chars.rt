@@ -18,7 +18,7 @@ pub(crate) fn first_char(text: &[u8]) -> Option<(char, &[u8])>
     wide_char(text)
 }
 
-/// The same, without the short way for ASCII.
+/// The first character of the text, without the short way for ASCII, and what follows it.
 fn wide_char(text: &[u8]) -> Option<(char, &[u8])>
     ensures found { IfSome result (λ p. IsScalar p.0 × (text.now ≡ encode_utf8 p.0 ++ p.1.now)) }
     ensures none { IfNone result (HasNoFirstChar text.now) }

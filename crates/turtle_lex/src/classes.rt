@@ -19,6 +19,7 @@ pub enum Quote {
 }
 
 impl Quote {
+    /// The byte of the quote.
     pub(crate) fn byte(self) -> u8
         ensures { result ≡ quote_char self }
     {
@@ -64,6 +65,7 @@ pub(crate) enum Class {
 }
 
 impl Class {
+    /// Whether the character is of the class.
     pub(crate) fn contains(self, c: char) -> bool
         ensures { result ≡ in_class self c }
     {
@@ -89,7 +91,7 @@ impl Class {
     }
 }
 
-/// What follows a character of the class.
+/// What follows one character of the class.
 pub(crate) fn strip_one(text: &[u8], class: Class) -> Option<&[u8]>
     ensures matches { MatchesOnly (one (in_class class)) text.now (option_copied result) }
     ensures shorter { IfSome result (λ rest. length rest.now < length text.now) }
@@ -100,7 +102,7 @@ pub(crate) fn strip_one(text: &[u8], class: Class) -> Option<&[u8]>
     }
 }
 
-/// WS.
+/// Whether the character is of the class WS.
 #[tactic(auto, unfolding(crate::specs::Classes::is_blank))]
 fn is_blank(c: char) -> bool
     ensures { result ≡ is_blank c }
@@ -108,6 +110,7 @@ fn is_blank(c: char) -> bool
     matches!(c, ' ' | '\t' | '\r' | '\n')
 }
 
+/// Whether the character is of the class of LF and CR, before which a comment ends.
 #[tactic(auto, unfolding(crate::specs::Classes::is_line_end))]
 fn is_line_end(c: char) -> bool
     ensures { result ≡ is_line_end c }
@@ -115,6 +118,7 @@ fn is_line_end(c: char) -> bool
     matches!(c, '\n' | '\r')
 }
 
+/// Whether the character is of the class that a comment may hold.
 #[tactic(auto, unfolding(crate::specs::Classes::is_in_line))]
 fn is_in_line(c: char) -> bool
     ensures { result ≡ is_in_line c }
@@ -122,6 +126,7 @@ fn is_in_line(c: char) -> bool
     !matches!(c, '\n' | '\r')
 }
 
+/// Whether the character is of the class that an IRIREF may hold, beside escapes.
 #[tactic(auto, unfolding(crate::specs::Classes::is_iri_char))]
 fn is_iri_char(c: char) -> bool
     ensures { result ≡ is_iri_char c }
@@ -132,6 +137,8 @@ fn is_iri_char(c: char) -> bool
     )
 }
 
+/// Whether the character is of the class that a String between single quotes may hold, beside
+/// escapes.
 #[tactic(auto, unfolding(crate::specs::Classes::is_line_char))]
 fn is_line_char(quote: Quote, c: char) -> bool
     ensures { result ≡ is_line_char quote c }
@@ -142,6 +149,8 @@ fn is_line_char(quote: Quote, c: char) -> bool
     }
 }
 
+/// Whether the character is of the class that a String between three quotes may hold, beside quotes
+/// and escapes.
 #[tactic(auto, unfolding(crate::specs::Classes::is_long_char))]
 fn is_long_char(quote: Quote, c: char) -> bool
     ensures { result ≡ is_long_char quote c }
@@ -152,6 +161,7 @@ fn is_long_char(quote: Quote, c: char) -> bool
     }
 }
 
+/// Whether the character is of the class that follows the backslash of an ECHAR.
 #[tactic(auto, unfolding(crate::specs::Classes::is_escaped))]
 fn is_escaped(c: char) -> bool
     ensures { result ≡ is_escaped c }
@@ -159,6 +169,7 @@ fn is_escaped(c: char) -> bool
     matches!(c, 't' | 'b' | 'n' | 'r' | 'f' | '"' | '\'' | '\\')
 }
 
+/// Whether the character is of the class that follows the backslash of a PN_LOCAL_ESC.
 #[tactic(auto, unfolding(crate::specs::Classes::is_local_escaped))]
 fn is_local_escaped(c: char) -> bool
     ensures { result ≡ is_local_escaped c }
@@ -187,6 +198,7 @@ fn is_local_escaped(c: char) -> bool
     )
 }
 
+/// Whether the character is of the class of signs.
 #[tactic(auto, unfolding(crate::specs::Classes::is_sign))]
 fn is_sign(c: char) -> bool
     ensures { result ≡ is_sign c }
@@ -194,6 +206,7 @@ fn is_sign(c: char) -> bool
     matches!(c, '+' | '-')
 }
 
+/// Whether the character is of the class that an EXPONENT begins with.
 #[tactic(auto, unfolding(crate::specs::Classes::is_exponent_mark))]
 fn is_exponent_mark(c: char) -> bool
     ensures { result ≡ is_exponent_mark c }
@@ -201,7 +214,7 @@ fn is_exponent_mark(c: char) -> bool
     matches!(c, 'e' | 'E')
 }
 
-/// PN_CHARS_BASE.
+/// Whether the character is of the class PN_CHARS_BASE.
 #[tactic(auto, unfolding(crate::specs::Classes::is_pn_chars_base))]
 fn is_pn_chars_base(c: char) -> bool
     ensures { result ≡ is_pn_chars_base c }
@@ -213,7 +226,7 @@ fn is_pn_chars_base(c: char) -> bool
         | '\u{10000}'..='\u{EFFFF}')
 }
 
-/// PN_CHARS_U.
+/// Whether the character is of the class PN_CHARS_U.
 #[tactic(auto, unfolding(crate::specs::Classes::is_pn_chars_u))]
 fn is_pn_chars_u(c: char) -> bool
     ensures { result ≡ is_pn_chars_u c }
@@ -221,7 +234,7 @@ fn is_pn_chars_u(c: char) -> bool
     is_pn_chars_base(c) || c == '_'
 }
 
-/// PN_CHARS.
+/// Whether the character is of the class PN_CHARS.
 #[tactic(auto, unfolding(crate::specs::Classes::is_pn_chars))]
 fn is_pn_chars(c: char) -> bool
     ensures { result ≡ is_pn_chars c }

@@ -19,7 +19,8 @@ pub(crate) enum Content {
     Long(Quote),
 }
 
-/// What follows a character of the class, which has no backslash, or an escape.
+/// What follows a character between delimiters, which is one of the class, without a backslash, or
+/// an escape.
 fn strip_char(text: &[u8], class: Class) -> Option<&[u8]>
     requires { in_class class 92 ≡ false }
     ensures matches { MatchesOnly (one (in_class class) ∣ echar
@@ -48,7 +49,7 @@ fn strip_long_part(text: &[u8], quote: Quote) -> Option<&[u8]>
     }
 }
 
-/// What follows one part of the content.
+/// What follows one part of the content between delimiters.
 fn strip_part(text: &[u8], inside: Content) -> Option<&[u8]>
     ensures matches { MatchesOnly (part inside) text.now (option_copied result) }
     ensures shorter { IfSome result (λ rest. length rest.now < length text.now) }
@@ -78,7 +79,7 @@ fn strip_close(text: &[u8], inside: Content) -> Option<&[u8]>
     }
 }
 
-/// What follows the content and its closing delimiter.
+/// What follows the content between delimiters and its closing delimiter.
 fn strip_inside(text: &[u8], inside: Content) -> Option<&[u8]>
     ensures matches { MatchesOnly (many (part inside)
         ∘ close inside) text.now (option_copied result) }
@@ -96,7 +97,7 @@ fn strip_inside(text: &[u8], inside: Content) -> Option<&[u8]>
     }
 }
 
-/// What follows an IRIREF.
+/// What follows an IRIREF with its delimiters.
 pub(crate) fn strip_iri_ref(text: &[u8]) -> Option<&[u8]>
     ensures matches { MatchesOnly iri_ref text.now (option_copied result) }
     ensures shorter { IfSome result (λ rest. length rest.now < length text.now) }
@@ -107,7 +108,7 @@ pub(crate) fn strip_iri_ref(text: &[u8]) -> Option<&[u8]>
     }
 }
 
-/// What follows a String with this quote.
+/// What follows a String with its delimiters, of this quote.
 pub(crate) fn strip_string(text: &[u8], quote: Quote) -> Option<&[u8]>
     ensures matches { StringOnly quote text.now (option_copied result) }
     ensures shorter { IfSome result (λ rest. length rest.now < length text.now) }

@@ -10,7 +10,7 @@ ghost use Rattle.turtle_lex.specs.Terminals.{uchar, echar};
 
 use crate::classes::{Class, strip_one};
 
-/// What follows a word at the start.
+/// What follows a word at the start of a text, such as that of an escape.
 pub(crate) fn strip_word<'a>(text: &'a [u8], spelling: &[u8]) -> Option<&'a [u8]>
     ensures matches { MatchesOnly (word spelling.now) text.now (option_copied result) }
     ensures shorter { IfSome result (λ rest.
@@ -19,7 +19,7 @@ pub(crate) fn strip_word<'a>(text: &'a [u8], spelling: &[u8]) -> Option<&'a [u8]
     text.strip_prefix(spelling)
 }
 
-/// The value of a hexadecimal digit.
+/// The value of a token's byte as a hexadecimal digit of an escape, if it is one.
 fn hex_digit(b: u8) -> Option<u32>
     ensures digit { IfSome result (λ d. (is_ascii_hexdigit b ≡ true) × (d ≡ digit_value b)) }
     ensures small { IfSome result (λ d. d < 16) }
@@ -33,7 +33,7 @@ fn hex_digit(b: u8) -> Option<u32>
     }
 }
 
-/// The number that hexadecimal digits represent.
+/// The number that the hexadecimal digits of an escape represent.
 fn hex_number(digits: &[u8]) -> Option<u32>
     requires { length digits.now ≤ 8 }
     ensures value { IfSome result (λ n. (list_all is_ascii_hexdigit digits.now ≡ true)
@@ -47,7 +47,7 @@ fn hex_number(digits: &[u8]) -> Option<u32>
     Some(number)
 }
 
-/// What follows `count` hexadecimal digits that represent a character.
+/// What follows `count` hexadecimal digits of an escape, which represent a character.
 fn strip_number(text: &[u8], count: usize) -> Option<&[u8]>
     requires { count ≤ 8 }
     ensures matches { MatchesOnly (number count) text.now (option_copied result) }
@@ -64,7 +64,7 @@ fn strip_number(text: &[u8], count: usize) -> Option<&[u8]>
     }
 }
 
-/// What follows a UCHAR.
+/// What follows an escape that is a UCHAR.
 pub(crate) fn strip_uchar(text: &[u8]) -> Option<&[u8]>
     ensures matches { MatchesOnly uchar text.now (option_copied result) }
     ensures shorter { IfSome result (λ rest. length rest.now < length text.now) }
@@ -78,7 +78,7 @@ pub(crate) fn strip_uchar(text: &[u8]) -> Option<&[u8]>
     }
 }
 
-/// What follows an ECHAR.
+/// What follows an escape that is an ECHAR.
 fn strip_echar(text: &[u8]) -> Option<&[u8]>
     ensures matches { MatchesOnly echar text.now (option_copied result) }
     ensures shorter { IfSome result (λ rest. length rest.now < length text.now) }

@@ -12,30 +12,31 @@ ghost use Rattle.turtle_lex.specs.Laws.{WrittenLabel, WrittenTag, WrittenWords};
 ghost use Rattle.turtle_lex.specs.Laws.{WrittenTagAfterString, WrittenCarets, WrittenDot};
 ghost use Rattle.turtle_lex.specs.Laws.{NextIsToken};
 
-/// A pattern matches exactly its texts, whatever follows them.
+/// The law that a pattern matches exactly its texts, whatever follows them.
 pub fn matches_texts()
     ensures only { MatchesItsTexts }
     ensures all { MatchesAllItsTexts }
 {}
 
-/// A text has at most one answer from a position on.
+/// The law that a text has at most one answer of the lexer from a position on.
 pub fn one_answer()
     ensures { HasOneAnswer }
 {}
 
-/// A text has at most one list of tokens.
+/// The law that a text has at most one list of tokens.
 pub fn one_list()
     ensures { HasOneList }
 {}
 
-/// Tokens that were read are the first of those before the end of the text or its fault.
+/// The law that tokens which were read are the first of those before the end of the text or its
+/// fault.
 pub fn first_tokens()
     ensures { AreFirstTokens }
 {}
 
-/// What of a text is UTF-8: all of it where it has tokens, the bytes up to the last token that was
-/// read, and the bytes before a fault, which for [`NotText`](crate::LexFault::NotText) can't be
-/// more.
+/// The law of what is UTF-8 in a text with tokens: all of it where it has tokens, the bytes up to
+/// the last token that was read, and the bytes before a fault, which for
+/// [`NotText`](crate::LexFault::NotText) can't be more.
 pub fn utf8()
     ensures tokens { TokensAreText }
     ensures so_far { TokensEndText }
@@ -43,29 +44,31 @@ pub fn utf8()
     ensures not_text { NotTextIsFirst }
 {}
 
-/// The text of a token, its bytes without what follows them, is UTF-8 and of the token's kind.
+/// The law that the text of a token, its bytes without what follows them, is UTF-8 and of the
+/// token's kind.
 pub fn token_texts()
     ensures of_kind { TokenTextIsOfKind }
     ensures utf8 { TokenTextIsUtf8 }
 {}
 
-/// A String begins with its quote, and it is long exactly where three quotes begin it.
+/// The law that a String begins with its quote, and is long exactly where three quotes begin it.
 pub fn strings()
     ensures quote { StringStartsWithQuote }
     ensures long { ThreeQuotesAreLong }
     ensures short { FewerQuotesAreShort }
 {}
 
-/// The first `:` of a name ends its prefix.
+/// The law that the first `:` of a name ends its prefix.
 pub fn names()
     ensures colon { NameHasColon }
     ensures local { FirstColonSplitsName }
     ensures prefix { FirstColonEndsPrefix }
 {}
 
-/// A term that is written is read as the token of its kind: an IRIREF whatever follows it, a short
-/// String before anything but its quote, a label, a language tag and the dot before a blank or the
-/// end. The tags `@prefix` and `@base` are the fixed words, and after a String they are tags again.
+/// The law that a term which is written is read as the token of its kind: an IRIREF whatever
+/// follows it, a short String before anything but its quote, a label, a language tag and the dot
+/// before a blank or the end. The tags `@prefix` and `@base` are the fixed words, and after a
+/// String they are tags again.
 pub fn written_terms()
     ensures iri { WrittenIri }
     ensures string { WrittenString }
@@ -77,7 +80,7 @@ pub fn written_terms()
     ensures dot { WrittenDot }
 {}
 
-/// A token after blanks and comments is the next one from their start on.
+/// The law that a token after blanks and comments is the next one from their start on.
 pub fn next_is_token()
     ensures { NextIsToken }
 {}

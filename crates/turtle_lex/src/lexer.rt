@@ -7,8 +7,8 @@ use crate::token::{LexFault, Token, TokenKind};
 use crate::token_search::first_token;
 use std::marker::Model;
 
-/// A suffix of the text before which no prefix begins, where the text begins with a token of this
-/// kind and `no_prefix_before` is such a suffix.
+/// A suffix of the lexer's text before which no prefix begins, where the text begins with a token
+/// of this kind and `no_prefix_before` is such a suffix.
 fn no_prefix_after_token<'a>(
     text: &'a [u8],
     kind: TokenKind,

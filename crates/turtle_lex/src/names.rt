@@ -19,7 +19,7 @@ pub(crate) enum Parts {
     Local,
 }
 
-/// What follows two hexadecimal digits.
+/// What follows the two hexadecimal digits of a name's PERCENT.
 fn strip_two_digits(text: &[u8]) -> Option<&[u8]>
     ensures matches { MatchesOnly two_digits text.now (option_copied result) }
     ensures shorter { IfSome result (λ rest. length rest.now < length text.now) }
@@ -30,7 +30,7 @@ fn strip_two_digits(text: &[u8]) -> Option<&[u8]>
     }
 }
 
-/// What follows a PLX.
+/// What follows a name's PLX.
 fn strip_plx(text: &[u8]) -> Option<&[u8]>
     ensures matches { MatchesOnly plx text.now (option_copied result) }
     ensures shorter { IfSome result (λ rest. length rest.now < length text.now) }
@@ -44,7 +44,7 @@ fn strip_plx(text: &[u8]) -> Option<&[u8]>
     }
 }
 
-/// What follows a colon or a PLX.
+/// What follows a colon or a PLX in a local name.
 fn strip_colon_or_plx(text: &[u8]) -> Option<&[u8]>
     ensures matches { MatchesOnly colon_or_plx text.now (option_copied result) }
     ensures shorter { IfSome result (λ rest. length rest.now < length text.now) }
@@ -135,7 +135,7 @@ pub(crate) fn strip_local(text: &[u8]) -> Option<&[u8]>
     }
 }
 
-/// What follows a PN_PREFIX and its colon.
+/// What follows a name's PN_PREFIX and its colon.
 fn strip_prefix(text: &[u8]) -> Option<&[u8]>
     ensures { MatchesOnly prefix_and_colon text.now (option_copied result) }
 {
@@ -152,7 +152,7 @@ fn strip_prefix(text: &[u8]) -> Option<&[u8]>
     }
 }
 
-/// What follows a PNAME_NS.
+/// What follows a PNAME_NS, which is a name's prefix with its colon.
 fn strip_any_pname_ns(text: &[u8]) -> Option<&[u8]>
     ensures { MatchesOnly pname_ns text.now (option_copied result) }
 {
@@ -162,7 +162,8 @@ fn strip_any_pname_ns(text: &[u8]) -> Option<&[u8]>
     }
 }
 
-/// What follows a PNAME_NS, where no prefix begins before `no_prefix_before`.
+/// What follows a PNAME_NS, a name's prefix with its colon, where no prefix begins before
+/// `no_prefix_before`.
 pub(crate) fn strip_pname_ns<'a>(text: &'a [u8], no_prefix_before: &[u8]) -> Option<&'a [u8]>
     requires { HasNoPrefixBefore text.now no_prefix_before.now }
     ensures { MatchesOnly pname_ns text.now (option_copied result) }
@@ -173,7 +174,7 @@ pub(crate) fn strip_pname_ns<'a>(text: &'a [u8], no_prefix_before: &[u8]) -> Opt
     strip_any_pname_ns(text)
 }
 
-/// A suffix of the text before which no prefix begins, by the parts and dots at its start.
+/// A suffix of the text before which no name's prefix begins, by the parts and dots at its start.
 ///
 /// In `aaaa` each `a` is a token, since no colon follows. With this suffix known, the text is
 /// searched for that colon once, and not again for each token.

@@ -21,7 +21,7 @@ pub(crate) enum Number {
     Double,
 }
 
-/// What follows a sign, if there is one.
+/// What follows a number's sign, if there is one.
 fn strip_sign(text: &[u8]) -> &[u8]
     ensures signed { IsSigned text.now result.now }
     ensures no_longer { length result.now ≤ length text.now }
@@ -32,7 +32,7 @@ fn strip_sign(text: &[u8]) -> &[u8]
     }
 }
 
-/// What follows the longest EXPONENT.
+/// What follows a number's longest EXPONENT.
 fn strip_exponent(text: &[u8]) -> Option<&[u8]>
     ensures matches { MatchesLongest exponent text.now (option_copied result) }
     ensures shorter { IfSome result (λ rest. length rest.now < length text.now) }

@@ -9,7 +9,7 @@ ghost use Rattle.turtle_lex.specs.Delimited.{plain_class};
 use crate::classes::Class;
 use crate::delimited::Content;
 
-/// The class of the plain characters of the content.
+/// The class of the characters that a run of plain ones in the content has.
 fn plain_class(content: Content) -> Class
     ensures { result ≡ plain_class content }
 {
@@ -20,7 +20,8 @@ fn plain_class(content: Content) -> Class
     }
 }
 
-/// How many bytes at the start are in the class, each taken as the character of that number.
+/// How many bytes at the start are a run of plain ones, each in the class as the character of that
+/// number.
 fn plain_len(text: &[u8], class: Class) -> usize
     ensures within { result ≤ length text.now }
     ensures plain { list_all (in_class class) (take result text.now) ≡ true }
@@ -33,7 +34,7 @@ fn plain_len(text: &[u8], class: Class) -> usize
     text.len()
 }
 
-/// What follows the plain characters at the start of the text.
+/// What follows the run of plain characters at the start of the text.
 ///
 /// The bytes above 127 are plain, as far as they are UTF-8. So a run of plain characters ends
 /// before a byte that is none, or where the bytes stop being UTF-8.

@@ -20,7 +20,7 @@ use crate::numbers::{Number, longest_number};
 use crate::token::TokenKind;
 use crate::token_groups::{Group, Mark, group_of};
 
-/// IRIREF.
+/// Scans an IRIREF at the start of a text.
 fn iri_token(text: &[u8]) -> Option<(TokenKind, &[u8])>
     ensures found { IfSome result (λ t. IsTokenOfGroup (in_group Group.Iris) t.0 text.now t.1.now) }
     ensures none { IfNone result (HasNoTokenOf (in_group Group.Iris) text.now) }
@@ -31,7 +31,7 @@ fn iri_token(text: &[u8]) -> Option<(TokenKind, &[u8])>
     }
 }
 
-/// String.
+/// Scans a String at the start of a text.
 fn string_token(text: &[u8]) -> Option<(TokenKind, &[u8])>
     ensures found { IfSome result (λ t.
         IsTokenOfGroup (in_group Group.Strings) t.0 text.now t.1.now) }
@@ -46,7 +46,7 @@ fn string_token(text: &[u8]) -> Option<(TokenKind, &[u8])>
     }
 }
 
-/// BLANK_NODE_LABEL.
+/// Scans a BLANK_NODE_LABEL at the start of a text.
 fn blank_label_token(text: &[u8]) -> Option<(TokenKind, &[u8])>
     ensures found { IfSome result (λ t.
         IsTokenOfGroup (in_group Group.Labels) t.0 text.now t.1.now) }
@@ -61,7 +61,7 @@ fn blank_label_token(text: &[u8]) -> Option<(TokenKind, &[u8])>
     }
 }
 
-/// A variable.
+/// Scans a variable at the start of a text.
 fn variable_token(text: &[u8]) -> Option<(TokenKind, &[u8])>
     ensures found { IfSome result (λ t.
         IsTokenOfGroup (in_group Group.Variables) t.0 text.now t.1.now) }
@@ -76,7 +76,7 @@ fn variable_token(text: &[u8]) -> Option<(TokenKind, &[u8])>
     }
 }
 
-/// `[` or ANON.
+/// Scans `[` or ANON at the start of a text.
 fn square_token(text: &[u8]) -> Option<(TokenKind, &[u8])>
     ensures found { IfSome result (λ t.
         IsTokenOfGroup (in_group Group.Squares) t.0 text.now t.1.now) }
@@ -91,7 +91,7 @@ fn square_token(text: &[u8]) -> Option<(TokenKind, &[u8])>
     }
 }
 
-/// The kind of a number's token.
+/// The kind of the token that is scanned as a number.
 fn kind_of(number: Number) -> TokenKind
     ensures { result ≡ kind_of number }
 {
@@ -102,7 +102,7 @@ fn kind_of(number: Number) -> TokenKind
     }
 }
 
-/// INTEGER, DECIMAL or DOUBLE.
+/// Scans an INTEGER, DECIMAL or DOUBLE at the start of a text.
 fn number_token(text: &[u8]) -> Option<(TokenKind, &[u8])>
     ensures found { IfSome result (λ t.
         IsTokenOfGroup (in_group Group.Numbers) t.0 text.now t.1.now) }
@@ -114,7 +114,7 @@ fn number_token(text: &[u8]) -> Option<(TokenKind, &[u8])>
     }
 }
 
-/// A number or the dot.
+/// Scans a number or the dot at the start of a text.
 fn dot_token(text: &[u8]) -> Option<(TokenKind, &[u8])>
     ensures found { IfSome result (λ t. IsTokenOfGroup (in_group Group.Dots) t.0 text.now t.1.now) }
     ensures none { IfNone result (HasNoTokenOf (in_group Group.Dots) text.now) }
@@ -128,7 +128,7 @@ fn dot_token(text: &[u8]) -> Option<(TokenKind, &[u8])>
     }
 }
 
-/// A mark.
+/// Scans a mark at the start of a text.
 fn mark_token(text: &[u8], mark: Mark) -> Option<(TokenKind, &[u8])>
     ensures found { IfSome result (λ t.
         IsTokenOfGroup (in_group (Group.Marks mark)) t.0 text.now t.1.now) }
@@ -140,7 +140,7 @@ fn mark_token(text: &[u8], mark: Mark) -> Option<(TokenKind, &[u8])>
     }
 }
 
-/// Whether the text is the word and then the rest.
+/// Whether the text that is scanned is the word and then the rest.
 fn is_word_before(text: &[u8], spelling: &[u8], rest: &[u8]) -> bool
     requires { IsSuffix rest.now text.now }
     ensures { MatchBool result (Matches (word spelling.now) text.now rest.now)
@@ -152,7 +152,7 @@ fn is_word_before(text: &[u8], spelling: &[u8], rest: &[u8]) -> bool
     }
 }
 
-/// The kind of the LANGTAG that ends before the rest.
+/// The kind of the LANGTAG that was scanned up to the rest.
 fn tag_kind(text: &[u8], rest: &[u8]) -> TokenKind
     requires { MatchesLongest lang_tag text.now (Some rest.now) }
     ensures { IsTokenOfGroup (in_group Group.Tags) result text.now rest.now }
@@ -167,7 +167,7 @@ fn tag_kind(text: &[u8], rest: &[u8]) -> TokenKind
     }
 }
 
-/// LANGTAG, `@prefix` or `@base`.
+/// Scans a LANGTAG, `@prefix` or `@base` at the start of a text.
 fn tag_token(text: &[u8]) -> Option<(TokenKind, &[u8])>
     ensures found { IfSome result (λ t. IsTokenOfGroup (in_group Group.Tags) t.0 text.now t.1.now) }
     ensures none { IfNone result (HasNoTokenOf (in_group Group.Tags) text.now) }
@@ -178,7 +178,7 @@ fn tag_token(text: &[u8]) -> Option<(TokenKind, &[u8])>
     }
 }
 
-/// What follows a fixed word whose letters may be of either case, at the start of a text.
+/// Scans the letters of a fixed word in any case, and returns what follows them.
 pub fn strip_any_case<'a>(text: &'a [u8], spelling: &[u8]) -> Option<&'a [u8]>
     ensures { MatchesOnly (any_case spelling.now) text.now (option_copied result) }
 {
@@ -193,7 +193,7 @@ pub fn strip_any_case<'a>(text: &'a [u8], spelling: &[u8]) -> Option<&'a [u8]>
     }
 }
 
-/// `PREFIX` or `BASE`, where the text begins with no other fixed word of letters.
+/// Scans `PREFIX` or `BASE` in any case, where the text begins with no other fixed word of letters.
 fn any_case_token(text: &[u8]) -> Option<(TokenKind, &[u8])>
     requires no_a { MatchesOnly (terminal TokenKind.A) text.now None }
     requires no_true { MatchesOnly (terminal TokenKind.True) text.now None }
@@ -210,7 +210,7 @@ fn any_case_token(text: &[u8]) -> Option<(TokenKind, &[u8])>
     }
 }
 
-/// A fixed word of letters.
+/// Scans a fixed word of letters at the start of a text.
 fn word_token(text: &[u8]) -> Option<(TokenKind, &[u8])>
     ensures found { IfSome result (λ t. IsTokenOfGroup is_word t.0 text.now t.1.now) }
     ensures none { IfNone result (HasNoTokenOf is_word text.now) }
@@ -227,7 +227,8 @@ fn word_token(text: &[u8]) -> Option<(TokenKind, &[u8])>
     }
 }
 
-/// PNAME_NS, PNAME_LN or a fixed word of letters, where no prefix begins before `no_prefix_before`.
+/// Scans a PNAME_NS, PNAME_LN or a fixed word of letters, where no prefix begins before
+/// `no_prefix_before`.
 fn name_token<'a>(text: &'a [u8], no_prefix_before: &[u8]) -> Option<(TokenKind, &'a [u8])>
     requires { HasNoPrefixBefore text.now no_prefix_before.now }
     ensures found { IfSome result (λ t.
@@ -243,7 +244,7 @@ fn name_token<'a>(text: &'a [u8], no_prefix_before: &[u8]) -> Option<(TokenKind,
     }
 }
 
-/// The token at the start among the kinds of the group.
+/// Scans the token at the start of a text among the kinds of the group.
 fn token_of<'a>(
     text: &'a [u8],
     no_prefix_before: &[u8],
@@ -268,8 +269,8 @@ fn token_of<'a>(
     }
 }
 
-/// The token at the start of a text, and what follows it, where no prefix begins before
-/// `no_prefix_before`.
+/// Scans the token at the start of a text, and returns what follows it, where no prefix begins
+/// before `no_prefix_before`.
 pub(crate) fn token_at<'a>(text: &'a [u8], no_prefix_before: &[u8]) -> Option<(TokenKind, &'a [u8])>
     requires { HasNoPrefixBefore text.now no_prefix_before.now }
     ensures found { IfSome result (λ t. IsToken t.0 text.now t.1.now) }

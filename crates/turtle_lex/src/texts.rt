@@ -8,7 +8,7 @@ use crate::char_runs::{strip_some, strip_tag_parts};
 use crate::classes::Class;
 use crate::names::strip_label;
 
-/// Whether the text may follow `_:` in a BLANK_NODE_LABEL.
+/// Whether the whole text may follow `_:` in a BLANK_NODE_LABEL.
 pub fn is_label(text: &str) -> bool
     ensures { MatchBool result (IsTextOf label text.now) (IsTextOf label text.now → ⊥) }
 {
@@ -18,7 +18,7 @@ pub fn is_label(text: &str) -> bool
     }
 }
 
-/// Whether the text may follow `@` in a LANGTAG.
+/// Whether the whole text may follow `@` in a LANGTAG.
 pub fn is_lang_tag(text: &str) -> bool
     ensures { MatchBool result (IsTextOf lang_tag (codes "@" ++ text.now))
         (IsTextOf lang_tag (codes "@" ++ text.now) → ⊥) }

@@ -47,7 +47,7 @@ pub enum TokenKind {
 }
 
 impl TokenKind {
-    /// Whether the token is a String: after one `@prefix` and `@base` are language tags.
+    /// Whether tokens of this kind are Strings: after one `@prefix` and `@base` are language tags.
     pub fn is_string(self) -> bool
         ensures { result ≡ is_string self }
     {

@@ -21,6 +21,7 @@ pub(crate) enum Mark {
 }
 
 impl Mark {
+    /// The kind of the token that the mark is.
     pub(crate) fn kind(self) -> TokenKind
         ensures { result ≡ mark_kind self }
     {
@@ -36,6 +37,7 @@ impl Mark {
         }
     }
 
+    /// The bytes of the mark.
     pub(crate) fn spelling(self) -> &'static [u8]
         ensures { terminal (mark_kind self) ≡ word result.now }
     {
@@ -72,7 +74,7 @@ pub(crate) enum Group {
     Nothing,
 }
 
-/// The group of the kinds that the byte may begin.
+/// The group of the kinds of tokens that the byte may begin.
 pub(crate) fn group_of(byte: u8) -> Group
     ensures { result ≡ group_of byte }
 {

@@ -27,6 +27,7 @@ pub fn listed_token(after_string: bool, token: Token) -> Token
     }
 }
 
+/// Appends a token to the list.
 fn push_token(alloc: Global, list: &mut List<Token>, token: Token) -> Result<(), LexFault>
     ensures pushed { OnOk result (list.new.items ≡ list.old.items ++ token ∷ []) }
     ensures full { IfErr result (λ fault. fault ≡ NoMemory) }
@@ -37,8 +38,8 @@ fn push_token(alloc: Global, list: &mut List<Token>, token: Token) -> Result<(),
     }
 }
 
-/// The tokens of the bytes, in order, or out of memory. Any other fault comes exactly where the
-/// bytes have no tokens. After a String `@prefix` and `@base` are [`TokenKind::LangTag`].
+/// The list of all tokens of the bytes, in order, or out of memory. Any other fault comes exactly
+/// where the bytes have no tokens. After a String `@prefix` and `@base` are [`TokenKind::LangTag`].
 pub fn tokens(alloc: Global, bytes: &[u8]) -> Result<List<Token>, LexFault>
     ensures tokens { IfOk result (λ list. AreTokens bytes.now list.items) }
     ensures of_bytes { IfOk result (λ list. All (IsTokenOf bytes.now) list.items) }

@@ -14,7 +14,7 @@ use crate::lexer::Lexer;
 use crate::scan::token_at;
 use crate::token::{LexFault, Token};
 
-/// The answer where the rest begins with no token.
+/// The answer of a search for the first token where the rest begins with none.
 fn without_token(bytes: &[u8], rest: &[u8]) -> Result<Option<Token>, LexFault>
     requires { IsSuffix rest.now bytes.now }
     ensures { IsAnswerWithoutToken bytes.now rest.now result }
@@ -29,7 +29,7 @@ fn without_token(bytes: &[u8], rest: &[u8]) -> Result<Option<Token>, LexFault>
     }
 }
 
-/// The first token of the text, a suffix of the bytes, in which no prefix begins before
+/// Finds the first token of the text, a suffix of the bytes, in which no prefix begins before
 /// `no_prefix_before`.
 pub(crate) fn first_token(
     bytes: &[u8],
@@ -53,7 +53,7 @@ pub(crate) fn first_token(
     }
 }
 
-/// The first token of the text from `from` on. Returns `None` exactly where only blanks and
+/// Finds the first token of the text from `from` on. Returns `None` exactly where only blanks and
 /// comments are left, and a fault exactly where the text from there has no first token. `@prefix`
 /// and `@base` are the fixed words here, also after a String: see
 /// [`listed_token`](crate::listed_token).

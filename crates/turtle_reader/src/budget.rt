@@ -13,7 +13,7 @@ pub const TERM_BYTES_LIMIT: usize = 33_554_432;
 /// a statement with formulas are one statement each.
 pub const STATEMENT_LIMIT: usize = 2_097_152;
 
-/// Takes bytes off those that are left.
+/// Takes the bytes of a term off those that a reader may still make.
 ///
 /// # Errors
 ///
@@ -28,7 +28,7 @@ pub(crate) fn spend(left: &mut usize, bytes: usize) -> Mem<()> {
     }
 }
 
-/// Whether tokens of the kind have a meaning that takes memory.
+/// Whether tokens of the kind count for a reader's budget, since their meaning takes memory.
 fn takes_memory(kind: TokenKind) -> bool {
     match kind {
         TokenKind::IriRef | TokenKind::PnameNs | TokenKind::PnameLn => true,
@@ -39,7 +39,7 @@ fn takes_memory(kind: TokenKind) -> bool {
     }
 }
 
-/// The bytes of a token whose meaning takes memory.
+/// The bytes of a token that count for a reader's budget, since its meaning takes memory.
 pub(crate) fn written_bytes(token: &Token) -> usize {
     if takes_memory(token.kind) {
         token.to.saturating_sub(token.from)
@@ -48,11 +48,12 @@ pub(crate) fn written_bytes(token: &Token) -> usize {
     }
 }
 
+/// Whether the scheme of a reference may have the byte.
 fn is_scheme_byte(byte: u8) -> bool {
     byte.is_ascii_alphanumeric() || matches!(byte, b'+' | b'-' | b'.')
 }
 
-/// Whether the rest of a scheme and its `:` come first.
+/// Whether the rest of a reference's scheme and its `:` come first.
 fn ends_scheme(text: &[u8]) -> bool {
     for byte in text {
         if *byte == b':' {
@@ -65,8 +66,8 @@ fn ends_scheme(text: &[u8]) -> bool {
     false
 }
 
-/// Whether a reference has a scheme, and so stays as it is written. One whose scheme is written
-/// with an escape counts as relative.
+/// Whether a reference has a scheme, so that the bytes of no base count for the budget. One whose
+/// scheme is written with an escape counts as relative.
 pub(crate) fn has_scheme(reference: &[u8]) -> bool {
     match reference.split_first() {
         Some((first, rest)) => first.is_ascii_alphabetic() && ends_scheme(rest),

@@ -40,7 +40,7 @@ pub struct Context {
     directive: Directive,
 }
 
-/// The directive that a symbol begins.
+/// The context's directive that a symbol begins.
 fn opened(symbol: Symbol) -> Directive
     ensures { result ≡ opened symbol }
 {
@@ -51,7 +51,7 @@ fn opened(symbol: Symbol) -> Directive
     }
 }
 
-/// The directive after the name of its prefix.
+/// The context's directive after the name of its prefix.
 fn named(alloc: Global, meaning: &Meaning) -> Mem<Directive>
     ensures { IfOk result (λ directive. directive ≡ named meaning.now) }
 {
@@ -61,7 +61,7 @@ fn named(alloc: Global, meaning: &Meaning) -> Mem<Directive>
     }
 }
 
-/// The IRI that a lexeme means.
+/// The IRI that a directive's lexeme means.
 fn meant_iri(meaning: &Meaning) -> Option<&Iri>
     ensures { option_copied result ≡ meant_iri meaning.now }
 {
@@ -72,7 +72,7 @@ fn meant_iri(meaning: &Meaning) -> Option<&Iri>
 }
 
 impl Context {
-    /// Before the first lexeme.
+    /// The context before the first lexeme.
     pub fn new(alloc: Global, base: &Iri) -> Mem<Context>
         ensures { IfOk result (λ context. context ≡ at_start base.now) }
     {
@@ -84,7 +84,7 @@ impl Context {
         })
     }
 
-    /// The bytes of the base, where an IRIREF is resolved against it.
+    /// The bytes of the context's base, where an IRIREF is resolved against it.
     fn base_bytes(&self, bytes: &[u8], token: &Token) -> usize
         requires { IsTokenOf bytes.now token.now }
     {
@@ -94,7 +94,7 @@ impl Context {
         }
     }
 
-    /// The bytes of the IRI of a name's prefix.
+    /// The bytes of the IRI of a name's prefix in the context.
     fn prefix_bytes(&self, bytes: &[u8], token: &Token) -> usize
         requires { IsTokenOf bytes.now token.now }
     {
@@ -117,7 +117,7 @@ impl Context {
         }
     }
 
-    /// What a token means here. Its bytes are taken off those that are left.
+    /// What a token means in the context. Its bytes are taken off those that are left.
     fn token_meaning(
         &self,
         alloc: Global,
@@ -145,7 +145,8 @@ impl Context {
         }
     }
 
-    /// What a lexeme means here. The bytes that it counts are taken off those that are left.
+    /// What a lexeme means in the context. The bytes that it counts are taken off those that are
+    /// left.
     ///
     /// # Errors
     ///
@@ -206,7 +207,7 @@ impl Context {
         }
     }
 
-    /// Passes a lexeme of this symbol and meaning.
+    /// The context passes a lexeme of this symbol and meaning.
     pub fn advance(&mut self, alloc: Global, symbol: Symbol, meaning: &Meaning) -> Mem<()>
         ensures { OnOk result (self.new
             ≡ advanced self.old.directive self.old symbol meaning.now) }

@@ -18,7 +18,7 @@ pub(crate) struct Given {
     pub(crate) next: u64,
 }
 
-/// The first number from `from` on that is not taken.
+/// The first number from `from` on whose label may be issued, since it is not taken.
 fn next_free(taken: &BTreeSet<u64>, from: u64) -> Mem<u64>
     ensures { IfOk result (IsNextFree (contains nat_cmp taken.now) from) }
 {
@@ -32,7 +32,7 @@ fn next_free(taken: &BTreeSet<u64>, from: u64) -> Mem<u64>
     Ok(number)
 }
 
-/// `g` and the number.
+/// The label that is issued with a number: `g` and the number.
 fn generated(alloc: Global, number: u64) -> Mem<Text>
     ensures { IfOk result (λ label. label ≡ generated number) }
 {
@@ -40,7 +40,7 @@ fn generated(alloc: Global, number: u64) -> Mem<Text>
     Text::from_string(alloc, label)
 }
 
-/// Appends a label. Out of memory, nothing changes.
+/// Appends a label to those that are issued. Out of memory, nothing changes.
 fn push_label(alloc: Global, labels: &mut List<Text>, label: Text) -> Mem<()>
     ensures pushed { OnOk result (labels.new.items ≡ labels.old.items ++ label ∷ []) }
     ensures unchanged { OnErr result (labels.new.items ≡ labels.old.items) }
@@ -51,7 +51,7 @@ fn push_label(alloc: Global, labels: &mut List<Text>, label: Text) -> Mem<()>
     }
 }
 
-/// Gives the next unnamed node its label. Out of memory, nothing changes.
+/// Issues the next unnamed node its label. Out of memory, nothing changes.
 pub(crate) fn give_next(alloc: Global, taken: &BTreeSet<u64>, given: &mut Given) -> Mem<()>
     ensures given { AreGivenBeside (contains nat_cmp taken.now) given.old.labels.items given.old.next
         → AreGivenBeside (contains nat_cmp taken.now) given.new.labels.items given.new.next }
@@ -68,7 +68,7 @@ pub(crate) fn give_next(alloc: Global, taken: &BTreeSet<u64>, given: &mut Given)
     Ok(())
 }
 
-/// Gives labels to the unnamed nodes up to the node k. Out of memory, those that have one keep it.
+/// Issues labels to the unnamed nodes up to the node k. Out of memory, those that have one keep it.
 pub(crate) fn give_up_to(
     alloc: Global,
     taken: &BTreeSet<u64>,

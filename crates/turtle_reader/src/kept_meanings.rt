@@ -29,14 +29,14 @@ pub struct KeptMeanings {
     last: Option<Kept>,
 }
 
-/// Whether a production can refer to a lexeme of this meaning.
+/// Whether a meaning is kept, since a production can refer to its lexeme.
 fn is_referred_to(meaning: &Meaning) -> bool
     ensures { result ≡ is_referred_to meaning.now }
 {
     !matches!(meaning, Meaning::Nothing | Meaning::Name(_))
 }
 
-/// The meaning of the lexeme of this index among these, looked for from the last one on.
+/// The kept meaning of the lexeme of this index, looked for from the last one on.
 fn find(kept: &[Kept], index: usize) -> Option<&Meaning>
     ensures found { IfSome result (λ m. FindsIn kept.now index m.now) }
     ensures none { IfNone result (Has index kept.now → ⊥) }
@@ -51,7 +51,7 @@ fn find(kept: &[Kept], index: usize) -> Option<&Meaning>
     None
 }
 
-/// The meaning of the lexeme of this index, if it is this one.
+/// The meaning that was kept last, if it is of the lexeme of this index.
 fn find_last(last: &Option<Kept>, index: usize) -> Option<&Meaning>
     ensures found { IfSome result (λ m. FindsIn (entries_with [] last.now) index m.now) }
     ensures none { IfNone result (Has index (entries_with [] last.now) → ⊥) }
@@ -62,7 +62,7 @@ fn find_last(last: &Option<Kept>, index: usize) -> Option<&Meaning>
     }
 }
 
-/// These, without those at the end that the machine doesn't name.
+/// The kept meanings without those at the end that the machine doesn't name.
 fn staying<'a>(kept: &'a [Kept], machine: &Machine) -> &'a [Kept]
     ensures { ShortensTo machine.now kept.now result.now }
 {
@@ -76,7 +76,7 @@ fn staying<'a>(kept: &'a [Kept], machine: &Machine) -> &'a [Kept]
     left
 }
 
-/// Drops those at the end that the machine doesn't name.
+/// Drops the kept meanings at the end that the machine doesn't name.
 fn shorten(list: &mut Vec<Kept>, machine: &Machine)
     ensures { ShortensTo machine.now list.old.items list.new.items }
 {
@@ -84,7 +84,7 @@ fn shorten(list: &mut Vec<Kept>, machine: &Machine)
     list.truncate(count);
 }
 
-/// Whether it is one that the machine doesn't name.
+/// Whether the meaning that was kept last is of a lexeme that the machine doesn't name.
 fn is_unnamed(last: &Option<Kept>, machine: &Machine) -> bool
     ensures { OnTrue result (IfSome last.now (λ kept. Avoids kept.index machine.now)) }
 {
@@ -94,7 +94,7 @@ fn is_unnamed(last: &Option<Kept>, machine: &Machine) -> bool
     }
 }
 
-/// Drops it, if the machine doesn't name it.
+/// Drops the meaning that was kept last, if the machine doesn't name it.
 fn drop_last(last: &mut Option<Kept>, machine: &Machine)
     ensures { DropsLast machine.now last.old last.new }
 {
@@ -103,7 +103,7 @@ fn drop_last(last: &mut Option<Kept>, machine: &Machine)
     }
 }
 
-/// Appends it, if there is one.
+/// Appends a meaning to those that are kept, if there is one.
 fn append(list: &mut Vec<Kept>, last: Option<Kept>) -> Mem<()>
     ensures { OnOk result (list.new.items ≡ entries_with list.old.items last) }
 {
@@ -117,7 +117,7 @@ fn append(list: &mut Vec<Kept>, last: Option<Kept>) -> Mem<()>
 }
 
 impl KeptMeanings {
-    /// Before the first lexeme.
+    /// The kept meanings before the first lexeme.
     pub(crate) fn new(alloc: Global) -> KeptMeanings
         ensures { AreKept [] result }
     {
@@ -127,7 +127,7 @@ impl KeptMeanings {
         }
     }
 
-    /// The meaning of the lexeme of this index.
+    /// The kept meaning of the lexeme of this index.
     pub(crate) fn meaning(&self, index: usize) -> Option<&Meaning>
         ensures found { IfSome result (λ m. FindsIn (entries self.now) index m.now) }
         ensures none { IfNone result (Has index (entries self.now) → ⊥) }
@@ -138,7 +138,8 @@ impl KeptMeanings {
         }
     }
 
-    /// Drops what no production after the last lexeme names, which the machine has read.
+    /// Drops the kept meanings that no production after the last lexeme names, which the machine
+    /// has read.
     pub(crate) fn drop_unnamed(&mut self, machine: &Machine)
         ensures unnamed { DropsUnnamed machine.now self.old self.new }
         ensures kept { (all : List Meaning) → AreKept all self.old → AreKept all self.new }
@@ -147,6 +148,7 @@ impl KeptMeanings {
         drop_last(&mut self.last, machine);
     }
 
+    /// Keeps a meaning after the others.
     fn put(&mut self, kept: Kept) -> Mem<()>
         ensures { OnOk result (entries self.new ≡ entries self.old ++ kept ∷ []) }
     {

@@ -18,7 +18,7 @@ use std::alloc::Global;
 use std::collections::BTreeSet;
 use turtle_lex::{Lexer, Token, TokenKind};
 
-/// The number of which these are the decimal digits.
+/// The number of a label `g` n, of which these are the decimal digits.
 fn decimal_number(digits: &str) -> Option<u64>
     ensures some { IfSome result (λ n. digits.now ≡ decimal n) }
     ensures none { IfNone result ((n : ℕ) → n < 2 ^ 64 → digits.now ≡ decimal n → ⊥) }
@@ -36,7 +36,7 @@ fn decimal_number(digits: &str) -> Option<u64>
     }
 }
 
-/// The number of which these bytes are the decimal digits.
+/// The number of a label `g` n, of which these bytes are the decimal digits.
 fn number_of_digits(digits: &[u8]) -> Option<u64>
     ensures some { IfSome result (λ n. digits.now ≡ decimal n) }
     ensures none { IfNone result ((n : ℕ) → n < 2 ^ 64 → digits.now ≡ decimal n → ⊥) }
@@ -47,7 +47,7 @@ fn number_of_digits(digits: &[u8]) -> Option<u64>
     }
 }
 
-/// What follows the `g` of a label.
+/// What follows the `g` of a label that may have a number.
 fn after_g(label: &[u8]) -> Option<&[u8]>
     ensures some { IfSome result (λ digits. label.now ≡ codes "g" ++ digits.now) }
     ensures none { IfNone result ((digits : List ℕ) → label.now ≡ codes "g" ++ digits → ⊥) }
@@ -66,7 +66,7 @@ fn number_of_label(label: &[u8]) -> Option<u64>
     }
 }
 
-/// The label of a BLANK_NODE_LABEL, after its `_:`.
+/// The label of a BLANK_NODE_LABEL, after its `_:`, which may have a number.
 fn after_mark(text: &[u8]) -> &[u8]
     ensures { result.now ≡ drop 2 text.now }
 {
@@ -91,7 +91,7 @@ fn number_of_token(bytes: &[u8], token: &Token) -> Option<u64>
     }
 }
 
-/// Puts in the number of a label.
+/// Puts the number of a label among those that the document writes.
 fn insert_one(taken: &mut BTreeSet<u64>, number: u64) -> Mem<()>
     ensures { OnOk result ((written more : List (List ℕ)) → more ≡ generated number ∷ []
         → HasNumbersOf (contains nat_cmp taken.old) written
@@ -101,7 +101,7 @@ fn insert_one(taken: &mut BTreeSet<u64>, number: u64) -> Mem<()>
     Ok(())
 }
 
-/// Puts in the number of the label that a token writes.
+/// Puts the number of the label that a token writes among those of the document.
 fn insert_number(taken: &mut BTreeSet<u64>, bytes: &[u8], token: &Token) -> Mem<()>
     requires { IsTokenOf bytes.now token.now }
     ensures { OnOk result ((written : List (List ℕ)) → HasNumbersOf (contains nat_cmp taken.old) written
@@ -114,7 +114,7 @@ fn insert_number(taken: &mut BTreeSet<u64>, bytes: &[u8], token: &Token) -> Mem<
     }
 }
 
-/// The next token, if the text has one.
+/// The next token that may write a label with a number, if the text has one.
 fn next_token(lexer: &mut Lexer<'_>) -> Option<Token>
     ensures next { IfSome result (IsNext lexer.old.bytes lexer.old.from) }
     ensures of_bytes { IfSome result (IsTokenOf lexer.old.bytes) }

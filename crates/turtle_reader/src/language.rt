@@ -26,18 +26,18 @@ pub trait Language {
     /// large.
     ghost is_large: { List ℕ → List ℕ → List Lexeme → Type 0 };
 
-    /// The start symbol, which also says how the text is cut into lexemes.
+    /// The start symbol of the language, which also says how the text is cut into lexemes.
     fn start() -> Start
         ensures { result ≡ symbol };
 
-    /// Keeps one triple more.
+    /// Keeps one triple more of the language's text.
     fn keep(&mut self, alloc: Global, bytes: &[u8], triple: ResolvedTriple) -> Mem<()>
         requires { is_sound bytes.now self.old }
         ensures sound { OnOk result (is_sound bytes.now self.new) }
         ensures kept { OnOk result (KeepsOn is_kept bytes.now triple self.old self.new) };
 
-    /// Whether the triples are too large, with the one that is complete only if nothing is added
-    /// to its String.
+    /// Whether the triples of the language's text are too large, with the one that is complete only
+    /// if nothing is added to its String.
     fn judge(&mut self, alloc: Global, bytes: &[u8], waiting: Option<ResolvedTriple>) -> Mem<bool>
         requires { is_sound bytes.now self.old }
         ensures sound { OnOk result (is_sound bytes.now self.new) }

@@ -5,14 +5,14 @@
 ghost use Rattle.turtle_reader.specs.Laws.{HasOneMeaning, HaveOneMeanings, ReadHasNoFault};
 ghost use Rattle.turtle_reader.specs.Laws.{MeansNoFault};
 
-/// A lexeme has one meaning or one fault, and lexemes have one list of meanings.
+/// The law that a lexeme has one meaning or one fault, and lexemes have one list of meanings.
 pub fn one_meaning()
     ensures lexeme { HasOneMeaning }
     ensures lexemes { HaveOneMeanings }
     ensures no_fault { MeansNoFault }
 {}
 
-/// What was read has no fault.
+/// The law that lexemes which were read have no fault.
 pub fn no_fault()
     ensures { ReadHasNoFault }
 {}

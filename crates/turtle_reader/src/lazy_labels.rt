@@ -14,7 +14,7 @@ pub struct LazyLabels {
     made: Option<Labels>,
 }
 
-/// The labels of a document, and that of an unnamed node.
+/// The labels of a document, which are made at the first unnamed node, and that of this node.
 fn first_label(alloc: Global, bytes: &[u8], number: usize) -> Mem<(Labels, Text)>
     ensures labels { IfOk result (λ both. AreLabelsOf bytes.now both.0) }
     ensures label { IfOk result (λ both. IsLabelOf bytes.now number both.1) }
@@ -24,7 +24,7 @@ fn first_label(alloc: Global, bytes: &[u8], number: usize) -> Mem<(Labels, Text)
     Ok((labels, label))
 }
 
-/// The label of an unnamed node, by labels that are made.
+/// The label of an unnamed node after the first, by labels that are made.
 fn next_label(alloc: Global, bytes: &[u8], labels: &mut Labels, number: usize) -> Mem<Text>
     requires { AreLabelsOf bytes.now labels.old }
     ensures labels { AreLabelsOf bytes.now labels.new }
@@ -34,7 +34,7 @@ fn next_label(alloc: Global, bytes: &[u8], labels: &mut Labels, number: usize) -
 }
 
 impl LazyLabels {
-    /// None are made yet, of whatever document.
+    /// No labels, which are made at the first unnamed node of whatever document.
     pub fn new() -> LazyLabels
         ensures { (bytes : List ℕ) → AreLazyLabelsOf bytes result }
     {

@@ -11,7 +11,7 @@ use crate::lexeme::Lexeme;
 use turtle_grammar::{Start, Symbol};
 use turtle_lex::{LexFault, Lexer, TokenKind, listed_token, strip_any_case};
 
-/// Whether a lexeme of this symbol is a String.
+/// Whether the lexeme of this symbol is a String.
 pub(crate) fn is_string(symbol: Symbol) -> bool
     ensures { result ≡ is_string_symbol symbol }
 {
@@ -21,7 +21,7 @@ pub(crate) fn is_string(symbol: Symbol) -> bool
     }
 }
 
-/// Whether a lexeme of this symbol is a tag, or begins a datatype.
+/// Whether the lexeme of this symbol is a tag, or begins a datatype.
 fn adds(symbol: Symbol) -> bool
     ensures { result ≡ adds symbol }
 {
@@ -31,7 +31,7 @@ fn adds(symbol: Symbol) -> bool
     )
 }
 
-/// Whether what comes next adds a tag or a datatype to a String.
+/// Whether the next lexeme adds a tag or a datatype to a String.
 pub(crate) fn adds_to_string(next: &Result<Option<Lexeme>, LexFault>) -> bool
     ensures { result ≡ adds_to_string next.now }
 {
@@ -41,7 +41,7 @@ pub(crate) fn adds_to_string(next: &Result<Option<Lexeme>, LexFault>) -> bool
     }
 }
 
-/// The word at the start of a text, and what follows it.
+/// The word of an update at the start of a text, and what follows it.
 fn first_word(text: &[u8]) -> Option<(Symbol, &[u8])>
     ensures found { IfSome result (λ word. MatchesWord word.0 text.now word.1.now) }
     ensures none { IfNone result (HasNoWord text.now) }
@@ -58,7 +58,7 @@ fn first_word(text: &[u8]) -> Option<(Symbol, &[u8])>
     }
 }
 
-/// The word at a position.
+/// The lexeme of an update's word at a position.
 fn word_at(bytes: &[u8], at: usize) -> Option<Lexeme>
     requires { at < length bytes.now }
     ensures from { IfSome result (λ word. word.from ≡ at) }
@@ -76,7 +76,8 @@ fn word_at(bytes: &[u8], at: usize) -> Option<Lexeme>
     }
 }
 
-/// The word at a position where no token begins. The lexer goes on after it.
+/// The next lexeme at a position where no token begins, an update's word. The lexer goes on after
+/// it.
 fn next_word<'a>(
     lexer: &mut Lexer<'a>,
     bytes: &'a [u8],
@@ -97,7 +98,8 @@ fn next_word<'a>(
     }
 }
 
-/// What a text has at a position where no token begins. The lexer goes on after a word.
+/// The next lexeme, or its fault, at a position where no token begins. The lexer goes on after a
+/// word.
 fn next_tokenless<'a>(
     lexer: &mut Lexer<'a>,
     bytes: &'a [u8],

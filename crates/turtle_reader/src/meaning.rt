@@ -29,7 +29,7 @@ pub enum Meaning {
     Nothing,
 }
 
-/// The meaning of a language tag or a variable.
+/// The meaning of a lexeme that is a language tag or a variable.
 fn special(alloc: Global, bytes: &[u8], token: &Token) -> Mem<Option<Meaning>>
     requires { IsTokenOf bytes.now token.now }
     ensures { IfOk result (λ m. m ≡ special_meaning token.now.kind (text_of bytes.now token.now)) }
@@ -41,7 +41,7 @@ fn special(alloc: Global, bytes: &[u8], token: &Token) -> Mem<Option<Meaning>>
     }
 }
 
-/// The meaning of a token that is neither.
+/// The meaning of a lexeme that is a token, but no language tag and no variable.
 fn term_meaning(
     alloc: Global,
     vocabulary: &Vocabulary,
@@ -62,7 +62,7 @@ fn term_meaning(
     }
 }
 
-/// The meaning of a token that is no prefix about to be declared.
+/// The meaning of a lexeme that is no prefix about to be declared.
 pub(crate) fn plain_meaning(
     alloc: Global,
     vocabulary: &Vocabulary,

@@ -26,7 +26,7 @@ pub(crate) struct Progress {
     pub(crate) last: Option<usize>,
 }
 
-/// A triple that waits, unless something is added to its String.
+/// The triple that waits where a text is read so far, unless something is added to its String.
 fn if_complete(adds: bool, waiting: Option<SymbolicTriple>) -> Option<SymbolicTriple>
     ensures { result ≡ if_complete adds waiting }
 {
@@ -34,7 +34,7 @@ fn if_complete(adds: bool, waiting: Option<SymbolicTriple>) -> Option<SymbolicTr
 }
 
 impl Progress {
-    /// Before the first lexeme.
+    /// The progress before the first lexeme.
     pub(crate) fn new(alloc: Global, start: Start, base: &Iri) -> Mem<Progress>
         ensures reading { IfOk result (λ p. (bytes : List ℕ)
             → IsReading start base.now bytes [] [] [] p.reader) }
@@ -49,7 +49,7 @@ impl Progress {
         })
     }
 
-    /// Notes the lexeme that was read.
+    /// Notes in the progress the lexeme that was read.
     pub(crate) fn pass(&mut self, lexeme: Lexeme)
         ensures reader { self.new.reader ≡ self.old.reader }
         ensures string { self.new.after_string ≡ is_string_symbol lexeme.symbol }

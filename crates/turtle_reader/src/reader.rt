@@ -33,14 +33,15 @@ pub struct Reader {
     left: usize,
 }
 
-/// The fault of this kind at a position.
+/// The reader's fault of this kind at a position.
 fn fault_at(at: usize, kind: TurtleKind) -> TurtleFault
     ensures { result ≡ Bad at kind }
 {
     TurtleFault::Bad { at, kind }
 }
 
-/// How many lexemes come before the present statement, which may begin after those that were read.
+/// How many lexemes the reader has before the present statement, which may begin after those that
+/// were read.
 fn statement_start(begins: bool, read: usize, since: usize) -> usize {
     if begins { read } else { since }
 }
@@ -55,7 +56,7 @@ impl Reader {
     ghost use Rattle.turtle_reader.specs.Readings.{NamesHeld};
     ghost use Rattle.turtle_reader.specs.Readings.{produced_last};
 
-    /// Before the first lexeme.
+    /// The reader before the first lexeme.
     pub fn new(alloc: Global, start: Start, base: &Iri) -> Mem<Reader>
         ensures { IfOk result (λ reader. (bytes : List ℕ)
             → IsReading start base.now bytes [] [] [] reader) }
@@ -73,7 +74,7 @@ impl Reader {
         })
     }
 
-    /// Reads the next lexeme. After a fault the reader has read nothing that is known.
+    /// The reader reads the next lexeme. After a fault the reader has read nothing that is known.
     ///
     /// # Errors
     ///
@@ -108,7 +109,7 @@ impl Reader {
         }
     }
 
-    /// Passes a lexeme with this meaning, with which a statement may begin.
+    /// The reader passes a lexeme with this meaning, with which a statement may begin.
     fn keep(&mut self, alloc: Global, statement: bool, symbol: Symbol, meaning: Meaning) -> Mem<()>
         ensures context { OnOk result (self.new.context
             ≡ advanced self.old.context.directive self.old.context symbol meaning) }
@@ -131,15 +132,15 @@ impl Reader {
         Ok(())
     }
 
-    /// What the last lexeme produced, in order. A String's triple is produced with the lexeme after
-    /// it, which may add a tag or a datatype.
+    /// What the last lexeme of the reader produced, in order. A String's triple is produced with
+    /// the lexeme after it, which may add a tag or a datatype.
     pub fn produced(&self) -> &[Production]
         ensures { result.now ≡ produced_last self.now }
     {
         self.machine.produced()
     }
 
-    /// The triple of the last lexeme, where it is a String to which nothing is added.
+    /// The triple of the reader's last lexeme, where it is a String to which nothing is added.
     pub fn waiting(&self) -> Option<SymbolicTriple>
         ensures waits { Waits result self.now.machine }
         ensures string { HasString self.now.machine → IsTriple result }
@@ -148,7 +149,7 @@ impl Reader {
         self.machine.waiting()
     }
 
-    /// Whether what was read has a derivation.
+    /// Whether what the reader has read has a derivation.
     pub fn is_complete(&self) -> bool
         ensures complete { OnTrue result (IsDerived self.now.machine) }
         ensures unfinished { OnFalse result (IsUnfinished self.now.machine) }

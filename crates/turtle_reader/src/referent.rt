@@ -37,7 +37,7 @@ pub struct ResolvedTriple {
     pub end: usize,
 }
 
-/// What a lexeme of this meaning refers to by itself.
+/// The referent of a lexeme of this meaning by itself.
 fn term_referent(alloc: Global, meaning: &Meaning) -> Mem<Referent>
     ensures { IfOk result (λ r. term_referent (Some meaning.now) ≡ Some r) }
 {
@@ -48,7 +48,7 @@ fn term_referent(alloc: Global, meaning: &Meaning) -> Mem<Referent>
     }
 }
 
-/// The literal of a String and a language tag.
+/// The referent that is the literal of a String and a language tag.
 fn tagged(alloc: Global, string: &Meaning, tag: &Meaning) -> Mem<Referent>
     ensures { IfOk result (λ r. tagged (Some string.now) (Some tag.now) ≡ Some r) }
 {
@@ -65,7 +65,7 @@ fn tagged(alloc: Global, string: &Meaning, tag: &Meaning) -> Mem<Referent>
     }
 }
 
-/// The literal of a String and a datatype.
+/// The referent that is the literal of a String and a datatype.
 fn typed(alloc: Global, string: &Meaning, datatype: &Meaning) -> Mem<Referent>
     ensures { IfOk result (λ r. typed (Some string.now) (Some datatype.now) ≡ Some r) }
 {
@@ -82,7 +82,7 @@ fn typed(alloc: Global, string: &Meaning, datatype: &Meaning) -> Mem<Referent>
     }
 }
 
-/// What a node refers to, where these meanings are kept.
+/// The referent of a node, where these meanings are kept.
 fn refer(alloc: Global, vocabulary: &Vocabulary, kept: &KeptMeanings, node: Node) -> Mem<Referent>
     ensures { IfOk result (λ r. (all : List Meaning) → AreKept all kept.now
         → referent all node ≡ Some r) }
@@ -114,7 +114,7 @@ fn refer(alloc: Global, vocabulary: &Vocabulary, kept: &KeptMeanings, node: Node
     }
 }
 
-/// What the nodes of a triple refer to, where these meanings are kept.
+/// The referents of a triple's nodes, where these meanings are kept.
 pub(crate) fn resolved(
     alloc: Global,
     vocabulary: &Vocabulary,

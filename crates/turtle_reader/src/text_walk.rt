@@ -22,7 +22,7 @@ use turtle_grammar::Production;
 use turtle_lex::{LexFault, Lexer};
 use turtle_terms::{TurtleFault, TurtleKind};
 
-/// The fault of a lexer as that of a text.
+/// The fault of a lexer as that of the walk over a text.
 fn document_fault(fault: LexFault) -> TurtleFault
     ensures { result ≡ document_fault fault }
 {
@@ -39,7 +39,7 @@ fn document_fault(fault: LexFault) -> TurtleFault
     }
 }
 
-/// Keeps the triple that a production is.
+/// Keeps the triple that a production of the walk is.
 fn keep_one<L: Language>(
     alloc: Global,
     bytes: &[u8],
@@ -62,7 +62,7 @@ fn keep_one<L: Language>(
     }
 }
 
-/// Keeps the triples that productions are.
+/// Keeps the triples that productions of the walk are.
 fn keep_all<L: Language>(
     alloc: Global,
     bytes: &[u8],
@@ -81,7 +81,8 @@ fn keep_all<L: Language>(
     Ok(())
 }
 
-/// Where the triples are too large that are complete with the last lexeme, where this comes next.
+/// Where in a walk the triples are too large that are complete with the last lexeme, where this
+/// comes next.
 fn too_large<L: Language>(
     alloc: Global,
     bytes: &[u8],
@@ -108,7 +109,7 @@ fn too_large<L: Language>(
     }
 }
 
-/// The next lexeme of a text.
+/// The next lexeme of a walk over a text.
 fn next<'a, L: Language>(
     alloc: Global,
     lexer: &mut Lexer<'a>,
@@ -141,7 +142,7 @@ fn next<'a, L: Language>(
     }
 }
 
-/// Reads the next lexeme.
+/// Reads the next lexeme of a walk over a text.
 fn take<L: Language>(
     alloc: Global,
     bytes: &[u8],
@@ -173,8 +174,8 @@ fn take<L: Language>(
     }
 }
 
-/// Reads a text under a base, and hands its triples out, in order of production. After an error it
-/// isn't known which of them were kept.
+/// Walks over a text under a base, and hands its triples out, in order of production. After an
+/// error it isn't known which of them were kept.
 ///
 /// # Errors
 ///

@@ -25,8 +25,8 @@ pub(crate) enum Escape {
     Number { more: u8, number: u64 },
 }
 
-/// The value of a hexadecimal digit. Other letters continue the row up to 35, and any other byte
-/// has 36.
+/// The value of a hexadecimal digit in an escape that is decoded. Other letters continue the row up
+/// to 35, and any other byte has 36.
 fn digit_value(byte: u8) -> u64
     ensures value { result ≡ digit_value byte }
     ensures small { result ≤ 36 }
@@ -39,7 +39,7 @@ fn digit_value(byte: u8) -> u64
     }
 }
 
-/// The character of an ECHAR, by the byte after its backslash.
+/// The character to which an ECHAR is decoded, by the byte after its backslash.
 fn echar_value(byte: u8) -> u8
     ensures { result ≡ echar_value byte }
 {
@@ -53,7 +53,7 @@ fn echar_value(byte: u8) -> u8
     }
 }
 
-/// Appends the character with this number, if one has it.
+/// Appends the decoded character with this number, if one has it.
 fn push_char(value: &mut Vec<u8>, number: u64) -> Mem<()>
     ensures { OnOk result (value.new.items ≡ value.old.items ++ char_bytes number) }
 {
@@ -67,7 +67,7 @@ fn push_char(value: &mut Vec<u8>, number: u64) -> Mem<()>
     Ok(())
 }
 
-/// The state after one more byte. What the value has with it is appended.
+/// The state of decoding escapes after one more byte. What the value has with it is appended.
 fn step(value: &mut Vec<u8>, escape: Escape, byte: u8) -> Mem<Escape>
     requires { IsBounded escape }
     ensures next { IfOk result (λ next. next ≡ next_escape escape byte) }
@@ -81,7 +81,7 @@ fn step(value: &mut Vec<u8>, escape: Escape, byte: u8) -> Mem<Escape>
     }
 }
 
-/// [`step`] outside of escapes.
+/// The state of decoding after one more byte outside of escapes, as [`step`] has it.
 fn step_outside(value: &mut Vec<u8>, byte: u8) -> Mem<Escape>
     ensures next { IfOk result (λ next. next ≡ next_escape Outside byte) }
     ensures bounded { IfOk result IsBounded }
@@ -94,7 +94,7 @@ fn step_outside(value: &mut Vec<u8>, byte: u8) -> Mem<Escape>
     Ok(Escape::Outside)
 }
 
-/// [`step`] after a backslash.
+/// The state of decoding after the byte behind an escape's backslash, as [`step`] has it.
 fn step_opened(value: &mut Vec<u8>, byte: u8) -> Mem<Escape>
     ensures next { IfOk result (λ next. next ≡ next_escape Opened byte) }
     ensures bounded { IfOk result IsBounded }
@@ -110,7 +110,7 @@ fn step_opened(value: &mut Vec<u8>, byte: u8) -> Mem<Escape>
     }
 }
 
-/// [`step`] in a UCHAR.
+/// The state of decoding after one more byte in a UCHAR, as [`step`] has it.
 fn step_number(value: &mut Vec<u8>, more: u8, number: u64, byte: u8) -> Mem<Escape>
     requires { IsBounded (Number more number) }
     ensures next { IfOk result (λ next. next ≡ next_escape (Number more number) byte) }
@@ -129,7 +129,7 @@ fn step_number(value: &mut Vec<u8>, more: u8, number: u64, byte: u8) -> Mem<Esca
     })
 }
 
-/// Appends the value of a text.
+/// Appends the decoded value of a text with escapes.
 fn push_decoded(value: &mut Vec<u8>, text: &[u8]) -> Mem<()>
     ensures { OnOk result (value.new.items ≡ value.old.items ++ decoded text.now) }
 {
@@ -147,7 +147,7 @@ pub(crate) fn has_backslash(text: &str) -> bool
     text.as_bytes().contains(&b'\\')
 }
 
-/// The value of a text with escapes.
+/// The decoded value of a text with escapes.
 pub(crate) fn decode(alloc: Global, text: &str) -> Mem<String>
     requires { IsUtf8 (decoded text.now) }
     ensures { IfOk result (λ value. string_bytes value ≡ decoded text.now) }

@@ -36,7 +36,7 @@ fn fault_at(at: usize, fault: IriFault) -> TurtleFault
     }
 }
 
-/// The IRI that a reference stands for.
+/// The IRI that a reference means under a base.
 fn iri_at(alloc: Global, base: &Iri, at: usize, reference: &str) -> Result<Iri, TurtleFault>
     ensures iri { IfOk result (λ iri. IsReferenceMeaning base.now reference.now (Ok iri)) }
     ensures fault { IfErr result (λ fault. fault ≢ NoMemory → IsFault at
@@ -48,7 +48,7 @@ fn iri_at(alloc: Global, base: &Iri, at: usize, reference: &str) -> Result<Iri, 
     }
 }
 
-/// The IRI that what stands between the brackets of an IRIREF stands for.
+/// The IRI that an IRIREF means, by what is between its brackets.
 fn content_iri(alloc: Global, base: &Iri, at: usize, content: &str) -> Result<Iri, TurtleFault>
     requires { IsUtf8 (decoded content.now) }
     ensures iri { IfOk result (λ iri. IsReferenceMeaning base.now (decoded content.now) (Ok iri)) }
@@ -62,7 +62,7 @@ fn content_iri(alloc: Global, base: &Iri, at: usize, content: &str) -> Result<Ir
     iri_at(alloc, base, at, reference.as_str())
 }
 
-/// A text without its backslashes.
+/// A local name of an IRI without its backslashes.
 fn without_backslashes(alloc: Global, text: &str) -> Mem<String>
     ensures { IfOk result (λ rest. string_bytes rest
         ≡ filter (λ b. not (is_backslash b)) text.now) }
@@ -79,7 +79,7 @@ fn without_backslashes(alloc: Global, text: &str) -> Mem<String>
     }
 }
 
-/// An IRI with a text appended.
+/// A prefix's IRI with a text appended.
 fn append_at(alloc: Global, prefix: &Iri, at: usize, local: &str) -> Result<Iri, TurtleFault>
     ensures iri { IfOk result (λ iri. IsNameMeaning (Some prefix.now) local.now (Ok iri)) }
     ensures fault { IfErr result (λ fault. fault ≢ NoMemory → IsFault at
@@ -96,7 +96,7 @@ fn append_at(alloc: Global, prefix: &Iri, at: usize, local: &str) -> Result<Iri,
     }
 }
 
-/// An IRI with a local name appended, whose escapes lose their backslashes.
+/// A prefix's IRI with a local name appended, whose escapes lose their backslashes.
 fn append_local(alloc: Global, prefix: &Iri, at: usize, local: &str) -> Result<Iri, TurtleFault>
     ensures iri { IfOk result (λ iri. IsNameMeaning (Some prefix.now)
         (filter (λ b. not (is_backslash b)) local.now) (Ok iri)) }
@@ -111,7 +111,7 @@ fn append_local(alloc: Global, prefix: &Iri, at: usize, local: &str) -> Result<I
     append_at(alloc, prefix, at, local.as_str())
 }
 
-/// The IRI of a name.
+/// The IRI that a name means.
 fn name_iri(alloc: Global, scope: &Scope, at: usize, text: &str) -> Result<Iri, TurtleFault>
     ensures iri { IfOk result (λ iri. IsNameMeaning
         (map.get scope.now (prefix_value text.now)) (local_value text.now) (Ok iri)) }

@@ -5,19 +5,20 @@
 ghost use Rattle.turtle_terms.specs.Laws.{HasOneIri, HasOneTerm, PlainIsItself, NumbersAreDecoded};
 ghost use Rattle.turtle_terms.specs.Laws.{ReferenceIsRead, StringIsRead};
 
-/// A token has at most one meaning.
+/// The law that a token has at most one meaning.
 pub fn one_meaning()
     ensures iri { HasOneIri }
     ensures term { HasOneTerm }
 {}
 
-/// A text without escapes is its own value, and a UCHAR is the character of its number.
+/// The law that a text without escapes is its own value, and a UCHAR is the character of its
+/// number.
 pub fn decoded_texts()
     ensures plain { PlainIsItself }
     ensures numbers { NumbersAreDecoded }
 {}
 
-/// What is written of an IRI and of a lexical form has that value again.
+/// The law that what is written of an IRI and of a lexical form has that value again.
 pub fn written_values()
     ensures reference { ReferenceIsRead }
     ensures string { StringIsRead }

@@ -25,7 +25,7 @@ use rdf_graph::Term;
 use std::alloc::Global;
 use turtle_lex::{Token, TokenKind};
 
-/// The literal with the text of a token and a datatype of XML Schema.
+/// The term that is the literal with the text of a token and a datatype of XML Schema.
 fn literal(
     alloc: Global,
     shared: Option<&Vocabulary>,
@@ -42,7 +42,7 @@ fn literal(
     Ok(Term::Literal { lexical, datatype })
 }
 
-/// The plain string that a String means.
+/// The term that a String means, which is a plain string.
 fn plain_string(
     alloc: Global,
     shared: Option<&Vocabulary>,
@@ -59,7 +59,7 @@ fn plain_string(
     Ok(Term::Literal { lexical, datatype })
 }
 
-/// The datatype of the literals of a kind that are written without one.
+/// The datatype of the term of a token whose kind is written without one.
 fn datatype_of(kind: TokenKind) -> Option<Word>
     ensures { option_map word_text result ≡ datatype_of kind }
 {
@@ -141,7 +141,8 @@ pub fn term(
 }
 
 impl Vocabulary {
-    /// [`term`], where the IRIs of words share the memory of the vocabulary.
+    /// The term that a token means by itself, as [`term`] has it, where the IRIs of words share the
+    /// memory of the vocabulary.
     ///
     /// # Errors
     ///
@@ -162,7 +163,7 @@ impl Vocabulary {
         meaning(alloc, Some(self), base, scope, bytes, token)
     }
 
-    /// The IRI that a token means: that of an IRIREF, a name or `a`.
+    /// The IRI of the term that a token means: that of an IRIREF, a name or `a`.
     ///
     /// # Errors
     ///

@@ -28,7 +28,7 @@ pub(crate) fn text_of<'a>(bytes: &'a [u8], token: &Token) -> &'a str
     }
 }
 
-/// How many quotes begin and end a String.
+/// How many quotes begin and end the text of a String.
 fn quote_count(text: &[u8]) -> usize
     ensures { result ≡ quote_count text.now }
 {
@@ -38,7 +38,7 @@ fn quote_count(text: &[u8]) -> usize
     }
 }
 
-/// What stands between the quotes of a String.
+/// The part of a String's text between its quotes.
 fn string_content(text: &str) -> &str
     requires { MatchesKind Kind.Quoted text.now [] }
     ensures content { result.now ≡ without_ends (quote_count text.now) text.now }
@@ -48,7 +48,7 @@ fn string_content(text: &str) -> &str
     &text[count..text.len() - count]
 }
 
-/// What stands between the brackets of an IRIREF.
+/// The part of an IRIREF's text between its brackets.
 pub(crate) fn iri_content(text: &str) -> &str
     requires { MatchesKind Kind.IriRef text.now [] }
     ensures content { result.now ≡ without_ends 1 text.now }
@@ -57,7 +57,7 @@ pub(crate) fn iri_content(text: &str) -> &str
     &text[1..text.len() - 1]
 }
 
-/// The prefix of a name, and what follows its `:`.
+/// The parts of a name's text, its prefix and what follows its `:`.
 pub(crate) fn split_name(text: &str) -> (&str, &str)
     ensures prefix { result.0.now ≡ prefix_value text.now }
     ensures local { result.1.now ≡ after_first is_colon text.now }
@@ -65,7 +65,7 @@ pub(crate) fn split_name(text: &str) -> (&str, &str)
     text.split_once(':').unwrap_or((text, ""))
 }
 
-/// The value of a text with escapes.
+/// The value of a part of a token's text that has escapes.
 fn decoded_text(alloc: Global, content: &str) -> Mem<Text>
     requires { IsUtf8 (decoded content.now) }
     ensures { IfOk result (λ value. value ≡ decoded content.now) }
@@ -77,7 +77,8 @@ fn decoded_text(alloc: Global, content: &str) -> Mem<Text>
     Text::from_string(alloc, value)
 }
 
-/// The lexical form of a String: what stands between its quotes, with its escapes decoded.
+/// The lexical form in the text of a String: what stands between its quotes, with its escapes
+/// decoded.
 pub fn lexical_form(alloc: Global, bytes: &[u8], token: &Token) -> Mem<Text>
     requires of_bytes { IsTokenOf bytes.now token.now }
     requires kind { token.now.kind ≡ Kind.Quoted }
@@ -86,7 +87,7 @@ pub fn lexical_form(alloc: Global, bytes: &[u8], token: &Token) -> Mem<Text>
     decoded_text(alloc, string_content(text_of(bytes, token)))
 }
 
-/// The label of a BLANK_NODE_LABEL, without `_:`.
+/// The label in the text of a BLANK_NODE_LABEL, without `_:`.
 pub fn label(alloc: Global, bytes: &[u8], token: &Token) -> Mem<Text>
     requires of_bytes { IsTokenOf bytes.now token.now }
     requires kind { token.now.kind ≡ Kind.BlankLabel }
@@ -96,7 +97,7 @@ pub fn label(alloc: Global, bytes: &[u8], token: &Token) -> Mem<Text>
     Text::of(alloc, &text[2..])
 }
 
-/// The tag of a LANGTAG, without `@` and in lower case.
+/// The tag in the text of a LANGTAG, without `@` and in lower case.
 pub fn language(alloc: Global, bytes: &[u8], token: &Token) -> Mem<Text>
     requires of_bytes { IsTokenOf bytes.now token.now }
     requires kind { token.now.kind ≡ Kind.LangTag }
@@ -107,7 +108,7 @@ pub fn language(alloc: Global, bytes: &[u8], token: &Token) -> Mem<Text>
     Text::from_string(alloc, tag)
 }
 
-/// The name of a variable, without its `?`.
+/// The name in the text of a variable, without its `?`.
 pub fn variable(alloc: Global, bytes: &[u8], token: &Token) -> Mem<Text>
     requires of_bytes { IsTokenOf bytes.now token.now }
     requires kind { token.now.kind ≡ Kind.Variable }
@@ -117,7 +118,7 @@ pub fn variable(alloc: Global, bytes: &[u8], token: &Token) -> Mem<Text>
     Text::of(alloc, &text[1..])
 }
 
-/// The prefix of a name, without its `:`.
+/// The prefix in the text of a name, without its `:`.
 pub fn prefix<'a>(bytes: &'a [u8], token: &Token) -> &'a str
     requires { IsTokenOf bytes.now token.now }
     ensures { result.now ≡ prefix_value (text_of_token bytes.now token.now) }

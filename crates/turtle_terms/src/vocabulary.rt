@@ -33,7 +33,7 @@ pub enum Word {
 }
 
 impl Word {
-    /// The text of the IRI.
+    /// The text of the word's IRI.
     pub fn text(self) -> &'static str
         ensures { result.now ≡ word_text self }
     {
@@ -50,7 +50,7 @@ impl Word {
         }
     }
 
-    /// The IRI, in memory of its own.
+    /// The word's IRI, in memory of its own.
     pub fn iri(self, alloc: Global) -> Mem<Iri>
         ensures { IfOk result (λ iri. iri ≡ word_text self) }
     {
@@ -75,6 +75,7 @@ struct RdfIris {
 }
 
 impl RdfIris {
+    /// Makes the vocabulary's IRIs of RDF.
     fn new(alloc: Global) -> Mem<RdfIris> {
         let rdf_type = Word::RdfType.iri(alloc)?;
         let nil = Word::RdfNil.iri(alloc)?;
@@ -105,6 +106,7 @@ struct XsdIris {
 }
 
 impl XsdIris {
+    /// Makes the vocabulary's IRIs of XML Schema.
     fn new(alloc: Global) -> Mem<XsdIris> {
         let string = Word::XsdString.iri(alloc)?;
         let integer = Word::XsdInteger.iri(alloc)?;
@@ -129,14 +131,14 @@ pub struct Vocabulary {
 }
 
 impl Vocabulary {
-    /// Makes the IRIs.
+    /// Makes the IRIs of the vocabulary.
     pub fn new(alloc: Global) -> Mem<Vocabulary> {
         let rdf = RdfIris::new(alloc)?;
         let xsd = XsdIris::new(alloc)?;
         Ok(Vocabulary { rdf, xsd })
     }
 
-    /// The IRI of a word.
+    /// The vocabulary's IRI of a word, by reference.
     fn lent(&self, word: Word) -> &Iri
         ensures { result.now ≡ word_text word }
     {
@@ -153,7 +155,7 @@ impl Vocabulary {
         }
     }
 
-    /// The IRI of a word, which shares the memory of the others. It takes none.
+    /// The vocabulary's IRI of a word, which shares the memory of the others. It takes none.
     pub fn iri(&self, alloc: Global, word: Word) -> Mem<Iri>
         ensures { IfOk result (λ iri. iri ≡ word_text word) }
     {
@@ -164,7 +166,7 @@ impl Vocabulary {
     }
 }
 
-/// The IRI of a word: shared, where a vocabulary is given.
+/// The vocabulary's IRI of a word: shared, where a vocabulary is given.
 pub(crate) fn word_iri(alloc: Global, shared: Option<&Vocabulary>, word: Word) -> Mem<Iri>
     ensures { IfOk result (λ iri. iri ≡ word_text word) }
 {

@@ -16,7 +16,7 @@ use Rattle.turtle_reader.specs.Languages.{IsJudged, Judges}
 use Rattle.turtle_reader.specs.Texts.{AreComplete}
 use Rattle.turtle_reader.proofs.Handing.{each_more, one_each}
 use Rattle.turtle_reader.proofs.OneText.{one_complete}
-use Rattle.turtle_text.specs.declared.collected_triples.Triples.{Triples}
+use Rattle.turtle_text.specs.declared.document_triples.Triples.{Triples}
 use Rattle.turtle_text.specs.Triples.{IsReferentTerm, IsReferentTriple, AreReferentTriples}
 use Rattle.turtle_text.specs.Faults.{HasSize, IsLarge}
 use Rattle.turtle_text.specs.Progress.{IsKept}

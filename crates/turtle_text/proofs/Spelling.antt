@@ -20,7 +20,7 @@ use Rattle.turtle_reader.specs.Referents.{referent, IsResolved}
 use Rattle.turtle_reader.proofs.Firsts.{one_list}
 use Rattle.turtle_reader.proofs.Handing.{made_each, one_made}
 use Rattle.turtle_reader.proofs.OneText.{one_text, no_fault}
-use Rattle.turtle_text.specs.declared.collected_triples.Triples.{Triples}
+use Rattle.turtle_text.specs.declared.document_triples.Triples.{Triples}
 use Rattle.turtle_text.specs.Triples.{IsReferentTerm, IsReferentTriple, IsTripleOf, AreTriplesOf, AreReferentTriples}
 use Rattle.turtle_text.specs.Spells.{SpellsTriples, Spells}
 use Rattle.turtle_text.specs.Faults.{IsLarge, HasNoFault, IsFirstFault, IsWithinLimits, HasOnlyGraph}

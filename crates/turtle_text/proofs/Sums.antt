@@ -8,7 +8,7 @@ use Rattle.rdf_graph.specs.declared.triple.Triple.{Triple as RdfTriple}
 use Rattle.rdf_graph.specs.Triple.{IsRdf}
 use Rattle.rdf_graph.specs.Size.{saturated, triple_size, triples_size}
 use Rattle.turtle_reader.proofs.Handing.{each_more}
-use Rattle.turtle_text.specs.declared.collected_triples.Triples.{Triples}
+use Rattle.turtle_text.specs.declared.document_triples.Triples.{Triples}
 use Rattle.turtle_text.specs.Triples.{IsReferentTriple, AreReferentTriples}
 use Rattle.turtle_text.specs.Progress.{IsKept, KeepsTriple}
 

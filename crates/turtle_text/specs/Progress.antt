@@ -6,7 +6,7 @@ use Rattle.rdf_graph.specs.Size.{saturated, triples_size}
 use Rattle.rdf_graph.specs.Triple.{IsRdf}
 use Rattle.turtle_reader.specs.Documents.{AreLazyLabelsOf}
 use Rattle.turtle_reader.specs.declared.referent.ResolvedTriple.{ResolvedTriple}
-use Rattle.turtle_text.specs.declared.collected_triples.Triples.{Triples}
+use Rattle.turtle_text.specs.declared.document_triples.Triples.{Triples}
 use Rattle.turtle_text.specs.Triples.{IsReferentTriple, AreReferentTriples}
 
 -- The triples are those of these referents, of RDF, and of this size.

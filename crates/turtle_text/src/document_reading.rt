@@ -7,7 +7,7 @@ ghost use Rattle.turtle_terms.specs.declared.fault.TurtleFault.TheVariants.{NoMe
 ghost use Rattle.turtle_text.specs.Faults.{HasNoFault, IsFirstFault, HasOnlyGraph};
 ghost use Rattle.turtle_text.specs.Spells.{Spells, SpellsTriples};
 
-use crate::collected_triples::Triples;
+use crate::document_triples::Triples;
 use iri_ref::Iri;
 use pod_base::List;
 use rdf_graph::{Graph, Triple};
@@ -15,7 +15,7 @@ use std::alloc::Global;
 use turtle_reader::walk;
 use turtle_terms::TurtleFault;
 
-/// The triples of a document, in order of production.
+/// Reads the triples of a Turtle document, in order of production.
 fn read_triples(alloc: Global, base: &Iri, bytes: &[u8]) -> Result<List<Triple>, TurtleFault>
     ensures spells { IfOk result (λ list. SpellsTriples base.now bytes.now list.items) }
     ensures rdf { IfOk result (λ list. All IsRdf list.items) }
@@ -30,7 +30,7 @@ fn read_triples(alloc: Global, base: &Iri, bytes: &[u8]) -> Result<List<Triple>,
     }
 }
 
-/// The graph that the bytes spell under a base.
+/// Reads the graph that the bytes of a Turtle document spell under a base.
 ///
 /// # Errors
 ///

@@ -13,12 +13,13 @@ use std::alloc::Global;
 /// How many lines are measured before they are appended.
 const RUN_LIMIT: usize = 32;
 
-/// The number of bytes as a count of items, at most `usize::MAX`.
+/// The length of a graph's text as a count of items, at most `usize::MAX`.
 fn count_of(len: u64) -> usize {
     usize::try_from(len).unwrap_or(usize::MAX)
 }
 
-/// Appends the lines of triples. After an `Err` only a part of them may have been appended.
+/// Appends the lines of triples to a graph's text. After an `Err` only a part of them may have been
+/// appended.
 fn append_lines(alloc: Global, into: &mut Vec<u8>, triples: &[Triple]) -> Mem<()>
     ensures { OnOk result (into.new.items ≡ into.old.items ++ flat_map line triples.now) }
 {
@@ -28,9 +29,9 @@ fn append_lines(alloc: Global, into: &mut Vec<u8>, triples: &[Triple]) -> Mem<()
     Ok(())
 }
 
-/// Appends the lines of the first triples, at most `RUN_LIMIT`, and returns the other triples. The
-/// lines are measured first: that brings the triples' terms into the processor's caches, many at a
-/// time, where copying would wait for each of them.
+/// Appends the lines of the first triples to a graph's text, at most `RUN_LIMIT`, and returns the
+/// other triples. The lines are measured first: that brings the triples' terms into the processor's
+/// caches, many at a time, where copying would wait for each of them.
 fn append_run<'a>(alloc: Global, into: &mut Vec<u8>, triples: &'a [Triple]) -> Mem<&'a [Triple]>
     requires { 0 < length triples.now }
     ensures text { IfOk result (λ left. into.new.items ++ flat_map line left.now
@@ -43,8 +44,8 @@ fn append_run<'a>(alloc: Global, into: &mut Vec<u8>, triples: &'a [Triple]) -> M
     Ok(&triples[count..])
 }
 
-/// Appends the lines of triples, run by run. After an `Err` only a part of them may have been
-/// appended.
+/// Appends the lines of triples to a graph's text, run by run. After an `Err` only a part of them
+/// may have been appended.
 fn append_runs(alloc: Global, into: &mut Vec<u8>, triples: &[Triple]) -> Mem<()>
     ensures { OnOk result (into.new.items ≡ into.old.items ++ flat_map line triples.now) }
 {
@@ -55,9 +56,9 @@ fn append_runs(alloc: Global, into: &mut Vec<u8>, triples: &[Triple]) -> Mem<()>
     Ok(())
 }
 
-/// The text of a graph: a line for each triple, in byte order of the lines. A line is subject,
-/// space, predicate, space, object, space, `.` and LF. In a literal `\`, `"`, LF and CR are written
-/// as `\\`, `\"`, `\n` and `\r`, and all else as it is.
+/// The text of a graph in Turtle: a line for each triple, in byte order of the lines. A line is
+/// subject, space, predicate, space, object, space, `.` and LF. In a literal `\`, `"`, LF and CR
+/// are written as `\\`, `\"`, `\n` and `\r`, and all else as it is.
 pub fn write(alloc: Global, graph: &Graph) -> Mem<Bytes>
     ensures { IfOk result (λ bytes. bytes ≡ graph_text graph.now) }
 {

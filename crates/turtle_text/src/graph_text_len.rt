@@ -11,7 +11,7 @@ ghost use Rattle.turtle_text.specs.HasEscape.{has_escape};
 use rdf_graph::vocabulary::XSD_STRING;
 use rdf_graph::{Graph, Term, Triple};
 
-/// The number as a length.
+/// The number as a length of a graph's Turtle text.
 #[tactic(auto, unfolding(rdf_graph::specs::Size::saturated))]
 fn len_of(number: usize) -> u64
     ensures { result ≡ saturated number }
@@ -19,21 +19,21 @@ fn len_of(number: usize) -> u64
     number as u64
 }
 
-/// The sum of two lengths, at most 2^64 - 1.
+/// The sum of two lengths of a graph's Turtle text, at most 2^64 - 1.
 fn sum(first: u64, second: u64) -> u64
     ensures { (m : ℕ) (n : ℕ) → first ≡ saturated m → second ≡ saturated n → result ≡ saturated (m + n) }
 {
     first.saturating_add(second)
 }
 
-/// Whether the byte is written as two.
+/// Whether a literal's byte is written as two in a graph's text, with its escape.
 fn has_escape(byte: u8) -> bool
     ensures { result ≡ has_escape byte }
 {
     matches!(byte, b'\\' | b'"' | b'\n' | b'\r')
 }
 
-/// The length of a lexical form with its escapes.
+/// The length of a literal's lexical form in a graph's text, with its escapes.
 fn escaped_len(lexical: &[u8]) -> u64
     ensures { result ≡ saturated (length (escaped lexical.now)) }
 {
@@ -41,14 +41,15 @@ fn escaped_len(lexical: &[u8]) -> u64
     sum(len_of(lexical.len()), len_of(escapes))
 }
 
-/// The length of a text between two delimiters, which have so many bytes together.
+/// The length in a graph's text of an IRI or a label between two delimiters, which have so many
+/// bytes together.
 fn delimited_len(delimiters: usize, text: &str) -> u64
     ensures { result ≡ saturated (delimiters + length text.now) }
 {
     sum(len_of(delimiters), len_of(text.len()))
 }
 
-/// The length of what follows the closing quote of a literal with that datatype.
+/// The length of what follows a literal's closing quote in a graph's text, with that datatype.
 fn datatype_len(datatype: &str) -> u64
     ensures { result ≡ saturated (length (datatype_text datatype.now)) }
 {
@@ -58,14 +59,14 @@ fn datatype_len(datatype: &str) -> u64
     delimited_len(4, datatype)
 }
 
-/// The length of a lexical form with its escapes, between quotes.
+/// The length of a literal's lexical form in a graph's text, with its escapes and between quotes.
 fn quoted_len(lexical: &str) -> u64
     ensures { result ≡ saturated (2 + length (escaped lexical.now)) }
 {
     sum(len_of(2), escaped_len(lexical.as_bytes()))
 }
 
-/// The length of a term's text, at most 2^64 - 1.
+/// The length of a term in a graph's text, at most 2^64 - 1.
 #[tactic(auto, unfolding(rdf_graph::specs::Term::text))]
 pub fn term_len(term: &Term) -> u64
     ensures { result ≡ saturated (length (text term.now)) }
@@ -88,7 +89,7 @@ pub fn term_len(term: &Term) -> u64
     }
 }
 
-/// The length of a triple's line.
+/// The length of a triple's line in a graph's text.
 fn line_len(triple: &Triple) -> u64
     ensures { result ≡ saturated (length (line triple.now)) }
 {
@@ -96,7 +97,7 @@ fn line_len(triple: &Triple) -> u64
     sum(term_len(&triple.s), sum(term_len(&triple.p), rest))
 }
 
-/// The length of the lines of triples.
+/// The length of the lines of triples in a graph's text.
 pub(crate) fn lines_len(triples: &[Triple]) -> u64
     ensures { result ≡ saturated (length (flat_map line triples.now)) }
 {
@@ -107,7 +108,8 @@ pub(crate) fn lines_len(triples: &[Triple]) -> u64
     len
 }
 
-/// How many bytes [`write`](crate::write()) returns for the graph, at most 2^64 - 1.
+/// The length of the graph's text in bytes, as [`write`](crate::write()) returns it, at most 2^64 -
+/// 1.
 pub fn len(graph: &Graph) -> u64
     ensures { result ≡ saturated (length (graph_text graph.now)) }
 {

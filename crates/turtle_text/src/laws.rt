@@ -6,22 +6,24 @@ ghost use Rattle.turtle_reader.specs.LanguageFaults.{HasOneFirstFault, PlacesAsc
 ghost use Rattle.turtle_text.specs.Faults.{IsLarge};
 ghost use Rattle.turtle_text.specs.Laws.{HasOneGraph, HasOneDerivation};
 
-/// A text spells at most one graph under a base.
+/// The law that a text of Turtle spells at most one graph under a base.
 pub fn one_graph()
     ensures { HasOneGraph }
 {}
 
-/// The derivation of a text has one list of lexemes, one tree and one list of triples.
+/// The law that the derivation of a text of Turtle has one list of lexemes, one tree and one list
+/// of triples.
 pub fn one_derivation()
     ensures { HasOneDerivation }
 {}
 
-/// A text has at most one first fault.
+/// The law that a text of Turtle has at most one first fault.
 pub fn one_first_fault()
     ensures { HasOneFirstFault IsLarge Document }
 {}
 
-/// Faults of a lesser index have a lesser position: the first fault has the least.
+/// The law that faults in a text of Turtle with a lesser index have a lesser position: the first
+/// fault has the least.
 pub fn places()
     ensures { PlacesAscend IsLarge Document }
 {}

@@ -28,8 +28,8 @@
 //! a term's text.
 #![tactic(auto)]
 
-mod collected_triples;
 mod document_reading;
+mod document_triples;
 mod graph_text;
 mod graph_text_len;
 pub mod laws;

@@ -4,7 +4,7 @@ use Rattle.pod_path.specs.Hierarchy.{root}
 use Rattle.access_index.specs.Index.{IsIndex}
 use Rattle.access_index.specs.Listing.{is_listed, is_listed_after, IsListOf}
 use Rattle.access_index.specs.Tables.{keys, AreInOrder, without_all, list_subjects, add_lists, add_paths, refreshed, lists_after, entries_after}
-use Rattle.access_index.specs.declared.table.Entry.{Entry}
+use Rattle.access_index.specs.declared.path_table.Entry.{Entry}
 use Rattle.access_index.proofs.Kept.{order_after, order_refreshed, root_after, index_changed}
 use Rattle.access_index.proofs.OrderedTables.{order_without_all}
 use Rattle.access_index.proofs.index.changed.Goals as goal

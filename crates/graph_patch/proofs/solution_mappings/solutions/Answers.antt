@@ -2,7 +2,7 @@ use Rattle.std.proofs.Common.{◌≡◌, ◌∙◌, ap, sym, subst, length, map,
 use Rattle.graph_patch.specs.Lookup.{IsIndex, IsLookup}
 use Rattle.graph_patch.specs.Search.{AnyBinding, IsSearchResult}
 use Rattle.graph_patch.specs.Solutions.{AreSolutions}
-use Rattle.graph_patch.specs.declared.index.KeyOrder.TheVariants.{PredicateObject, ObjectSubject}
+use Rattle.graph_patch.specs.declared.triple_index.KeyOrder.TheVariants.{PredicateObject, ObjectSubject}
 use Rattle.graph_patch.specs.declared.pattern.Found.TheVariants.{Nothing, One}
 use Rattle.graph_patch.proofs.Solving.{below, with_label, result_before, result_more, result_after, none_in_component, one_of_none, solutions_from}
 use Rattle.graph_patch.proofs.solution_mappings.solutions.Goals as goal

@@ -28,7 +28,7 @@ loop-taken-preserved c =
     let taken = c.loop-taken.taken in
     let more = c.in_ok-step.step.taken in
     let before = payload_state c.loop-taken.stage c.loop-taken.line.items c.loop-taken.body.items in
-    let later = payload_state c.in_ok-step.step.stage c.advance.new.line.items c.advance.new.body.items in
+    let later = payload_state c.in_ok-step.step.stage c.feed_step.new.line.items c.feed_step.new.body.items in
     let advances = subst (λ t. Advances before t more later) (rest_of piece taken) c.in_ok-step.ensures.ok in
     record {
       within = omega (arith, advances.within, length-drop taken piece, c.loop-taken.invariant.within);

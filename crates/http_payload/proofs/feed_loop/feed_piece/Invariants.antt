@@ -1,6 +1,6 @@
 use Rattle.std.proofs.Common.{◌≡◌, ◌-◌, ◌≤◌, ◌++◌, List, ℕ, length, take, None}
 use Rattle.http_head.specs.declared.body_form.BodyForm.{BodyForm}
-use Rattle.http_payload.specs.declared.stage.Stage.TheVariants.{Rest}
+use Rattle.http_payload.specs.declared.body_stage.Stage.TheVariants.{Rest}
 use Rattle.http_payload.specs.PayloadState.{payload_state, IsSoundAt, RepresentsBody, fault_at}
 use Rattle.http_payload.proofs.feed_loop.feed_piece.Given as goal
 

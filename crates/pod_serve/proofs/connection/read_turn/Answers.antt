@@ -1,6 +1,6 @@
 use Rattle.std.proofs.Common.{false, [], drop, take, Err, ap, refl, ◌∙◌, rules}
 use Rattle.conn_talk.specs.Agents.{asking_of}
-use Rattle.conn_talk.specs.declared.connection.Connection.{Connection}
+use Rattle.conn_talk.specs.declared.connection_events.Connection.{Connection}
 use Rattle.pod_io.specs.Links.{quiet_after, quiet_row_after}
 use Rattle.pod_pipe.proofs.ReadsLemmas.{ended_at, met_end, met_no_end, reads_more, reads_none, some_read}
 use Rattle.pod_serve.specs.Served.{link_view_of}

@@ -12,4 +12,4 @@ returns-clause-plain c = λ folder.
     let plain = c.in_ok-push_fitting.ensures.plain (subst IsPlainText (sym empty) nothing_plain) in
     let is : string_bytes c.push_fitting.new.text ≡ fitting 128 (without_dots c.as_slice.result.now) =
     c.in_ok-push_fitting.ensures.text ∙ ap (λ text. text ++ fitting 128 c.without_dots.result.now) empty ∙ ap (fitting 128) c.without_dots.ensures in
-    subst (λ text. IsPlainName text folder) (sym c.in_ok-finish.ensures) (finished_plain (string_bytes c.push_fitting.new.text) plain (ap begins_with_dot is ∙ fitting_first 128 c.as_slice.result.now) folder)
+    subst (λ text. IsPlainName text folder) (sym c.in_ok-finish_stem.ensures) (finished_plain (string_bytes c.push_fitting.new.text) plain (ap begins_with_dot is ∙ fitting_first 128 c.as_slice.result.now) folder)

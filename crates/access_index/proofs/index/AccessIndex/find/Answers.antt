@@ -5,7 +5,7 @@ use Rattle.access_index.specs.Governing.{effective_among}
 use Rattle.access_index.specs.Index.{IsResolved}
 use Rattle.access_index.specs.Listing.{is_listed}
 use Rattle.access_index.specs.Tables.{entry_at, keys}
-use Rattle.access_index.specs.declared.resolved.Resolved.{Resolved}
+use Rattle.access_index.specs.declared.resolved_list.Resolved.{Resolved}
 use Rattle.access_index.proofs.OrderedTables.{all_at, entry_listed}
 use Rattle.access_index.proofs.index.AccessIndex.find.Goals as goal
 

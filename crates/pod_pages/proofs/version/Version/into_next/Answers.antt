@@ -4,7 +4,7 @@ use Rattle.pod_rows.specs.Apply.{Applies}
 use Rattle.pod_pages.specs.Effects.{entry_effects, oldest_after}
 use Rattle.pod_pages.specs.Placings.{IsPlacing}
 use Rattle.pod_pages.specs.State.{VersionState, state_after, with_effects}
-use Rattle.pod_pages.specs.declared.effects.Effect.{Effect}
+use Rattle.pod_pages.specs.declared.entry_effects.Effect.{Effect}
 use Rattle.pod_pages.specs.declared.single_put.Placing.{Placing}
 use Rattle.pod_pages.proofs.Placed.{entry_placed, placed_all}
 use Rattle.pod_pages.proofs.version.Version.into_next.Goals as goal

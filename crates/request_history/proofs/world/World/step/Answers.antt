@@ -3,7 +3,7 @@ use Rattle.request_history.proofs.Outcomes.{came_fine, came_not, came_steps, cam
 use Rattle.request_history.proofs.Storing.{steps_storable}
 use Rattle.request_history.specs.Worlds.{HasNoStep, Steps, StepsStorable, event_of}
 use Rattle.request_history.specs.declared.event.StepFault.TheVariants as faults
-use Rattle.request_history.specs.declared.world_parts.Parts.{Parts}
+use Rattle.request_history.specs.declared.parts_and_events.Parts.{Parts}
 use Rattle.request_history.proofs.world.World.step.Goals as goal
 
 pub invariant_of-self : goal.invariant_of-self

@@ -1,6 +1,6 @@
 use Rattle.std.proofs.Common.{false, refl}
 use Rattle.request_history.proofs.FirstWorlds.{first_fine, first_is}
-use Rattle.request_history.specs.declared.world_parts.Parts.{Parts}
+use Rattle.request_history.specs.declared.parts_and_events.Parts.{Parts}
 use Rattle.request_history.proofs.world.World.with_tokens.Goals as goal
 
 pub invariant_of-result : goal.invariant_of-result

@@ -1,0 +1,12 @@
+use Rattle.std.proofs.Common.{◌≡◌, length, map}
+use Rattle.httparse.specs.Grammar.{trim_ows}
+use Rattle.field_list.specs.Parts.{parts_rest}
+use Rattle.content_nego.specs.Parameters.{weight}
+use Rattle.content_nego.proofs.accept_parameters.weight.Given as goal
+
+abbrev pub invariant-loop-part : goal.invariant-loop-part
+invariant-loop-part l =
+    weight (map trim_ows (parts_rest l.parts)) ≡ weight (map trim_ows (parts_rest l.initial.parts))
+
+abbrev pub decreases-loop-part : goal.decreases-loop-part
+decreases-loop-part l = length (parts_rest l.parts)

@@ -1,5 +1,0 @@
-use Rattle.pod_records.proofs.Snapshots.{encodable}
-use Rattle.request_history.proofs.journal.first_journal.Goals as goal
-
-pub encode_snapshot-requires : goal.encode_snapshot-requires
-encode_snapshot-requires c = encodable c.args.first.now c.requires

@@ -1,7 +1,0 @@
-use Rattle.std.proofs.Common.{rules}
-use Rattle.journal_log.specs.Heads.{encoded_head}
-use Rattle.request_history.proofs.journal.head.Goals as goal
-
-pub returns : goal.returns
-unfolding encoded_head
-returns c = search rules

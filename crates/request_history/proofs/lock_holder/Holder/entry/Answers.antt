@@ -1,0 +1,6 @@
+use Rattle.std.proofs.Common.{ap}
+use Rattle.pod_core.specs.KeeperSteps.{Holder}
+use Rattle.request_history.proofs.lock_holder.Holder.entry.Goals as goal
+
+pub returns : goal.returns
+returns c = ap (λ (h : Holder). h.entry) c.self.view_is

@@ -1,5 +1,0 @@
-use Rattle.std.proofs.lemmas.List.{take_rest}
-use Rattle.row_pages.proofs.listing.suffix.Goals as goal
-
-pub returns : goal.returns
-returns c = take_rest c.args.text.now c.args.at
