@@ -1,6 +1,5 @@
 -- A run of a keeper that is served.
-use Rattle.std.proofs.Common.{◌≡◌, inr, ℕ, Bool, List, [], ◌∷◌, Option, refl, ap, arith}
-use Rattle.journal_log.specs.declared.fault.OpenFault.TheVariants as faulty
+use Rattle.std.proofs.Common.{◌≡◌, inr, ℕ, Bool, List, [], ◌∷◌, Option, ap}
 use Rattle.pod_command.specs.declared.entry.Entry.{Entry}
 use Rattle.pod_core.specs.History.{History, longer}
 use Rattle.pod_core.specs.Session.{Item, entries_of}
@@ -11,9 +10,9 @@ use Rattle.pod_pipe.specs.Statuses.{PipesAndTells, status_of}
 use Rattle.pod_pipe.specs.Streams.{AddsReads, CountsInput}
 use Rattle.conn_talk.specs.declared.agents.Agents.{Agents}
 use Rattle.pod_pipe.specs.declared.status.PipeEnd.{PipeEnd}
-use Rattle.pod_pipe.specs.declared.status.PipeEnd.TheVariants.{Peer, Cut, Closed, Limit, Upgraded, Bad, ReadFault, WriteFault, NoMemory, ReadLimit}
 use Rattle.pod_pipe.proofs.Weaker.{pipes_weaker, session_weaker}
-use Rattle.pod_pipe.specs.StoreRuns.{RunsKeeper, Streams}
+use Rattle.pod_pipe.specs.RunStreams.{Streams}
+use Rattle.pod_pipe.specs.StoreRuns.{RunsKeeper}
 use Rattle.pod_pipe.specs.StoredPods.{LeavesKeeper, stored_faults}
 use Rattle.pod_pipe.specs.Tables.{IsAsked, TokenSource}
 use Rattle.pod_pipe.specs.declared.stored_pod.StoredPod.{StoredPod}
@@ -44,7 +43,7 @@ module _ {D : Type 0} (image : D → List ℕ → Type 0) (moment : D → ℕ) (
 module _ {D : Type 0} (image : D → List ℕ → Type 0) (moment : D → ℕ) (left_since : D → ℕ → List ℕ → Type 0) (faults : D → ℕ) (may_give : ℕ → Type 0) (by_tokens trail : Bool) (old new : StoredPod D) (tokens : TokenSource) (streams : Streams) (status : ℕ) where
   pub runs_piped : (agents : Agents) (end : PipeEnd) → IsAsked by_tokens old.keeper.pod.owner agents tokens → AddsReads tokens.old_reads tokens.new_reads → status ≡ status_of end
       → ((history : History) (doubt : Option Entry) → StandsWith image old.keeper history doubt → PipesAndTells may_give (asking_of agents) trail history (LeavesHolder image moment left_since may_give faults old new history doubt) end
-      streams.old_input streams.new_input streams.old_output streams.new_output streams.old_errors streams.new_errors streams.old_faults streams.new_faults)
+      streams.old_input streams.new_input streams.old_output streams.new_output streams.old_errors streams.new_errors streams.old_error_faults streams.new_error_faults)
       → ((history : History) (doubt : Option Entry) → StandsWith image old.keeper history doubt → WritesSession may_give (asking_of agents) trail history (LeavesHolder image moment left_since may_give faults old new history doubt)
       streams.old_input streams.new_input streams.old_output streams.new_output)
       → CountsInput end streams.old_reads streams.new_reads streams.old_ends streams.new_ends → RunsKeeper image moment left_since faults may_give by_tokens trail old.keeper new.keeper tokens streams status
@@ -55,34 +54,8 @@ module _ {D : Type 0} (image : D → List ℕ → Type 0) (moment : D → ℕ) (
     end = end;
     status_is = is;
     pipes = λ history doubt stands. pipes_weaker may_give (asking_of agents) trail history (LeavesHolder image moment left_since may_give faults old new history doubt) _ (keeper_left image moment left_since may_give faults old new history doubt) end
-        streams.old_input streams.new_input streams.old_output streams.new_output streams.old_errors streams.new_errors streams.old_faults streams.new_faults (pipes history doubt stands);
+        streams.old_input streams.new_input streams.old_output streams.new_output streams.old_errors streams.new_errors streams.old_error_faults streams.new_error_faults (pipes history doubt stands);
     session = λ history doubt stands. session_weaker may_give (asking_of agents) trail history (LeavesHolder image moment left_since may_give faults old new history doubt) _ (keeper_left image moment left_since may_give faults old new history doubt)
         streams.old_input streams.new_input streams.old_output streams.new_output (session history doubt stands);
     counts = counts;
   })
-
--- the one end of status 3
-pub is_read_fault : (end : PipeEnd) → status_of end ≡ 3 → end ≡ ReadFault
-is_read_fault ReadFault is = refl
-is_read_fault Peer is = absurd (omega (arith, is))
-is_read_fault Closed is = absurd (omega (arith, is))
-is_read_fault Limit is = absurd (omega (arith, is))
-is_read_fault Upgraded is = absurd (omega (arith, is))
-is_read_fault NoMemory is = absurd (omega (arith, is))
-is_read_fault (Cut rest) is = absurd (omega (arith, is))
-is_read_fault (Bad status) is = absurd (omega (arith, is))
-is_read_fault ReadLimit is = absurd (omega (arith, is))
-is_read_fault WriteFault is = absurd (omega (arith, is))
-
--- the one end of status 4
-pub is_write_fault : (end : PipeEnd) → status_of end ≡ 4 → end ≡ WriteFault
-is_write_fault WriteFault is = refl
-is_write_fault Peer is = absurd (omega (arith, is))
-is_write_fault Closed is = absurd (omega (arith, is))
-is_write_fault Limit is = absurd (omega (arith, is))
-is_write_fault Upgraded is = absurd (omega (arith, is))
-is_write_fault NoMemory is = absurd (omega (arith, is))
-is_write_fault (Cut rest) is = absurd (omega (arith, is))
-is_write_fault (Bad status) is = absurd (omega (arith, is))
-is_write_fault ReadLimit is = absurd (omega (arith, is))
-is_write_fault ReadFault is = absurd (omega (arith, is))

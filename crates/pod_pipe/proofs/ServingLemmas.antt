@@ -1,5 +1,5 @@
 -- The pieces of an input, one after the other.
-use Rattle.std.proofs.Common.{◌≡◌, inl, inr, ⊎_elim, ℕ, Bool, ◌+◌, ◌<◌, ◌≤◌, ◌^◌, ◌==◌, true, false, if◌then◌else◌, List, [], ◌++◌, length, ◌⊎◌, Option, Some, None, Ok, Err, refl, sym, ap, subst, append_assoc, length-append, ◌∙◌, arith}
+use Rattle.std.proofs.Common.{◌≡◌, inl, inr, ℕ, Bool, ◌+◌, ◌<◌, ◌≤◌, ◌^◌, ◌==◌, true, false, if◌then◌else◌, List, [], ◌++◌, length, ◌⊎◌, Option, Some, None, Ok, Err, refl, sym, ap, subst, append_assoc, length-append, ◌∙◌, arith}
 use Rattle.std.proofs.lemmas.Bool.Decides.{nat_tests}
 use Rattle.std.proofs.lemmas.List.{append-nil}
 use Rattle.conn_talk.specs.Talks.{Ends, EndsPart, EndsWhole, TurnsIn}
@@ -346,11 +346,8 @@ module _ (may_give : ℕ → Type 0) (asking : Request → AskedAgent) (trails :
 
 -- ---- counts since an earlier moment
 
-pub rose_since : (first middle last : ℕ) → first ≤ middle → CountIncreased middle last → CountIncreased first last
+rose_since : (first middle last : ℕ) → first ≤ middle → CountIncreased middle last → CountIncreased first last
 rose_since first middle last le rose = λ below. omega (arith, le, rose below)
-
-rose_by : (first middle last : ℕ) → CountIncreased first middle → middle ≤ last → CountIncreased first last
-rose_by first middle last rose le = λ below. omega (arith, rose (omega (arith, le, below)), le)
 
 part_since : (line : List ℕ) (old new : Option (List ℕ)) (first middle last : ℕ) → first ≤ middle → AddsPart line old new middle last → AddsPart line old new first last
 part_since line old new first middle last le p = (rose_since first middle last le p.0, p.1)
@@ -374,14 +371,6 @@ tells_since WriteFault old new first middle last le t = fault_since old new firs
 tells_since NoMemory old new first middle last le t = t
 tells_since ReadFault old new first middle last le t = t
 tells_since ReadLimit old new first middle last le t = t
-
--- a write that failed, in serving or at the last line
-pub write_failed : (before told : PipeEnd) (output output_now errors middle errors_now : ℕ) → (told ≡ WriteFault → (before ≡ WriteFault) ⊎ CountIncreased middle errors_now)
-    → (before ≡ WriteFault → CountIncreased output output_now ⊎ CountIncreased errors middle) → errors ≤ middle → middle ≤ errors_now → told ≡ WriteFault → CountIncreased output output_now ⊎ CountIncreased errors errors_now
-write_failed before told output output_now errors middle errors_now line serving le le_2 is = ⊎_elim
-    (λ at. ⊎_elim (λ rose. inl rose) (λ rose. inr (rose_by errors middle errors_now rose le_2)) (serving at))
-    (λ rose. inr (rose_since errors middle errors_now le rose))
-    (line is)
 
 -- a write failed in the last piece, after counts that didn't fall
 pub rose_in_one : (a b c d e f : ℕ) → a ≤ b → d ≤ e → CountIncreased b c ⊎ CountIncreased e f → CountIncreased a c ⊎ CountIncreased d f

@@ -173,11 +173,3 @@ module _ (may_give : ℕ → Type 0) (asking : Request → AskedAgent) (trails :
         → (stops : IsStopped may_give asking trails begun leaves all pipes.written pipes.trail)
         × (stops.session ≡ written_session may_give asking trails begun leaves end pipes.heard
         pipes.written pipes.trail pipes.serves)
-
--- nothing was read or written
-pub record Untouched
-    (old_input new_input old_output new_output old_errors new_errors : Option (List ℕ))
-    : Type 0 where
-  pub input : new_input ≡ old_input
-  pub output : new_output ≡ old_output
-  pub errors : new_errors ≡ old_errors

@@ -8,6 +8,8 @@ use Rattle.pod_keeper.specs.KeeperRuns.{StandsWith}
 use Rattle.pod_keeper.specs.KeeperState.{KeeperState}
 use Rattle.pod_keeper.specs.OpenedPods.{IsOpened, OpensDisks}
 use Rattle.conn_talk.specs.Agents.{asking_of}
+use Rattle.pod_pipe.specs.DiskRuns.{AreOpened, DiskRun}
+use Rattle.pod_pipe.specs.RunStreams.{Streams}
 use Rattle.pod_pipe.specs.Served.{WritesSession}
 use Rattle.pod_io.specs.Writing.{AddsOrPart}
 use Rattle.pod_pipe.specs.Statuses.{PipesAndTells, status_of}
@@ -32,21 +34,6 @@ abbrev pub TellsLine : List ℕ → ℕ → ℕ → Option (List ℕ) → Option
 TellsLine line wanted status old new before after =
     (status ≡ wanted) × AddsOrPart line old new before after
 
--- what the streams of a run were before it and after it, where they show that, and their counts
-pub record Streams : Type 0 where
-  pub old_input : Option (List ℕ)
-  pub new_input : Option (List ℕ)
-  pub old_output : Option (List ℕ)
-  pub new_output : Option (List ℕ)
-  pub old_errors : Option (List ℕ)
-  pub new_errors : Option (List ℕ)
-  pub old_faults : ℕ
-  pub new_faults : ℕ
-  pub old_reads : ℕ
-  pub new_reads : ℕ
-  pub old_ends : ℕ
-  pub new_ends : ℕ
-
 -- nothing was read of the input, and nothing written to the output
 pub record IsUnserved (streams : Streams) : Type 0 where
   pub input : streams.new_input ≡ streams.old_input
@@ -65,7 +52,7 @@ module _ {D : Type 0} (image : D → List ℕ → Type 0) (moment : D → ℕ)
     pub cause : HasAgentsCause by_tokens fault tokens
     pub table_reads : AddsReads tokens.old_reads tokens.new_reads
     pub tells : TellsLine (fault_line fault) (table_status fault) status streams.old_errors
-        streams.new_errors streams.old_faults streams.new_faults
+        streams.new_errors streams.old_error_faults streams.new_error_faults
 
   -- It was served. For each history that the keeper represented, with an entry in doubt or without,
   -- what was written is the output of a session from its end on, and the keeper has advanced to that
@@ -81,7 +68,8 @@ module _ {D : Type 0} (image : D → List ℕ → Type 0) (moment : D → ℕ)
         → PipesAndTells may_give (asking_of agents) trail history
         (LeavesKeeper image moment left_since may_give faults keeper left history doubt) end
         streams.old_input streams.new_input streams.old_output streams.new_output
-        streams.old_errors streams.new_errors streams.old_faults streams.new_faults
+        streams.old_errors streams.new_errors streams.old_error_faults
+        streams.new_error_faults
     pub session : (history : History) (doubt : Option Entry) → StandsWith image keeper history doubt
         → WritesSession may_give (asking_of agents) trail history
         (LeavesKeeper image moment left_since may_give faults keeper left history doubt)
@@ -94,30 +82,35 @@ module _ {D : Type 0} (image : D → List ℕ → Type 0) (moment : D → ℕ)
       IsUntabled keeper left tokens streams status
       ⊎ IsPiped keeper left tokens streams status
 
-  module _ (content : D → Option (List ℕ)) (first second first_new second_new : D) where
-    -- The store wasn't opened, and nothing was served. The token table wasn't read.
-    pub record IsRefused (tokens : TokenSource) (streams : Streams) (status : ℕ) : Type 0 where
-      pub unserved : IsUnserved streams
-      pub unread : IsUnread tokens
-      pub fault : OpenFault
-      pub cause : HasPodCause (content first) (content second) (faults first) (faults first_new)
-          (faults second) (faults second_new) fault
-      pub disks : OpensDisks image moment left_since faults first second first_new second_new
-      pub status_is : status ≡ open_status fault
-      pub tells : TellsRefusal fault streams.old_errors streams.new_errors streams.old_faults
-          streams.new_faults
+module _ {D : Type 0} (run : DiskRun D) where
+  -- The store wasn't opened, and nothing was served. The token table wasn't read.
+  pub record IsRefused (tokens : TokenSource) (streams : Streams) (status : ℕ) : Type 0 where
+    pub unserved : IsUnserved streams
+    pub unread : IsUnread tokens
+    pub fault : OpenFault
+    pub cause : HasPodCause (run.content run.old.first) (run.content run.old.second)
+        (run.faults run.old.first) (run.faults run.new.first) (run.faults run.old.second)
+        (run.faults run.new.second) fault
+    pub disks : AreOpened run
+    pub status_is : status ≡ open_status fault
+    pub tells : TellsRefusal fault streams.old_errors streams.new_errors streams.old_error_faults
+        streams.new_error_faults
 
+  module _ (may_give : ℕ → Type 0) (by_tokens trail : Bool) where
     -- It was opened as this keeper, and its disks are those that are left.
     pub record IsRun (tokens : TokenSource) (streams : Streams) (status : ℕ) : Type 0 where
       pub keeper : KeeperState D
       pub left : KeeperState D
       pub bodies : List (List ℕ)
-      pub opened : IsOpened image (content first) (content second) bodies keeper
-      pub sure : IsSure image keeper.first keeper.second keeper.pair
-      pub disks : OpensDisks image moment left_since faults first second keeper.first keeper.second
-      pub first_is : first_new ≡ left.first
-      pub second_is : second_new ≡ left.second
-      pub runs : RunsKeeper keeper left tokens streams status
+      pub opened : IsOpened run.image (run.content run.old.first) (run.content run.old.second)
+          bodies keeper
+      pub sure : IsSure run.image keeper.first keeper.second keeper.pair
+      pub disks : OpensDisks run.image run.moment run.left_since run.faults run.old.first
+          run.old.second keeper.first keeper.second
+      pub first_is : run.new.first ≡ left.first
+      pub second_is : run.new.second ≡ left.second
+      pub runs : RunsKeeper run.image run.moment run.left_since run.faults may_give by_tokens
+          trail keeper left tokens streams status
 
     abbrev pub RunsStore : TokenSource → Streams → ℕ → Type 0
     RunsStore tokens streams status =

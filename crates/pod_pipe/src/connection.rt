@@ -1,11 +1,12 @@
 //! [`pipe`]: one connection over two streams, with its last line.
-ghost use Rattle.std.specs.Prelude.{◌≡◌, ◌≤◌, ◌⊎◌, Option};
-ghost use Rattle.pod_base.specs.Counts.{CountIncreased};
+ghost use Rattle.std.specs.Prelude.{Option};
 ghost use Rattle.pod_command.specs.declared.entry.Entry.{Entry};
 ghost use Rattle.pod_core.specs.History.{History};
 ghost use Rattle.conn_talk.specs.Agents.{asking_of};
+ghost use Rattle.pod_pipe.specs.CountedFaults.{StreamFaultsCounted, no_table};
+ghost use Rattle.pod_pipe.specs.RunStreams.{streams_of};
 ghost use Rattle.pod_pipe.specs.Served.{Leaves, WritesSession};
-ghost use Rattle.pod_pipe.specs.Statuses.{PipesAndTells};
+ghost use Rattle.pod_pipe.specs.Statuses.{PipesAndTells, status_of};
 ghost use Rattle.pod_pipe.specs.Streams.{CountsInput};
 
 use crate::end_line_text::write_end_line;
@@ -60,15 +61,11 @@ pub fn pipe<H: PodHolder, S: Source, K: Sink, E: Sink, C: Clock>(
     ensures counts { CountsInput result.end (S.reads input.old) (S.reads input.new)
         (S.ends input.old) (S.ends input.new) }
 
-    // A fault is returned only where a count increased.
-    ensures read_fault { result.end ≡ PipeEnd.ReadFault
-        → CountIncreased (S.faults input.old) (S.faults input.new) }
-    ensures write_fault { result.end ≡ PipeEnd.WriteFault
-        → CountIncreased (K.faults output.old) (K.faults output.new)
-        ⊎ CountIncreased (E.faults errors.old) (E.faults errors.new) }
-    ensures faults { S.faults input.old ≤ S.faults input.new }
-    ensures writes { K.faults output.old ≤ K.faults output.new }
-    ensures tells { E.faults errors.old ≤ E.faults errors.new }
+    // It ends by a fault only where a count increased.
+    ensures counted { StreamFaultsCounted no_table
+        (streams_of S.rest S.faults S.reads S.ends K.taken K.faults E.taken E.faults
+        input.old input.new output.old output.new errors.old errors.new)
+        (status_of result.end) }
 {
     let mut held = Held { holder };
     let end = serve(alloc, &mut held, options, input, output, errors, clock);

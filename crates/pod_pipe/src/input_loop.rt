@@ -78,9 +78,9 @@ pub(crate) fn serve<H: PodHolder, S: Source, K: Sink, E: Sink, C: Clock>(
         (E.taken errors.old) (E.taken errors.new) }
     ensures counts { CountsInput result (S.reads input.old) (S.reads input.new)
         (S.ends input.old) (S.ends input.new) }
-    ensures faults { S.faults input.old ≤ S.faults input.new }
-    ensures writes { K.faults output.old ≤ K.faults output.new }
-    ensures tells { E.faults errors.old ≤ E.faults errors.new }
+    ensures input_faults { S.faults input.old ≤ S.faults input.new }
+    ensures output_faults { K.faults output.old ≤ K.faults output.new }
+    ensures error_faults { E.faults errors.old ≤ E.faults errors.new }
     ensures read_fault { result ≡ PipeEnd.ReadFault
         → CountIncreased (S.faults input.old) (S.faults input.new) }
     ensures write_fault { result ≡ PipeEnd.WriteFault

@@ -16,7 +16,7 @@
 //! whatever the end, what was written is a prefix of that of a session (`session`); the trail has
 //! the lines of the items that were answered, and the last line reports the end; nothing is read
 //! after the end of the input (`counts`); and a fault comes only where a count of an object passed
-//! in increased (`read_fault`, `write_fault`, and `faults` of the returned holder). Where one agent
+//! in increased (`counted`, and `Leaves` of the returned holder). Where one agent
 //! makes all requests, the session is one over each history that ends alike for the agent, and each
 //! run of the same events at the same moments over that history writes the same bytes, where no 500
 //! and no 503 came in either (`isolated` of `Continues`).

@@ -1,10 +1,12 @@
 //! [`pipe_store`]: `pipe` over a store.
-ghost use Rattle.std.specs.Prelude.{◌≡◌, ◌≢◌, ◌≤◌, ◌⊎◌, Option, Some, false, IfOk, IfErr, IfSome};
-ghost use Rattle.std.specs.Prelude.{IsSome};
-ghost use Rattle.pod_base.specs.Counts.{CountIncreased};
+ghost use Rattle.std.specs.Prelude.{◌≡◌, ◌≢◌, ◌≤◌, Option, Some, false, IfOk, IfErr, IsSome};
 ghost use Rattle.pod_command.specs.declared.entry.Entry.{Entry};
 ghost use Rattle.pod_core.specs.History.{History};
 ghost use Rattle.pod_keeper.specs.KeeperRuns.{StandsWith};
+ghost use Rattle.pod_pipe.specs.CountedFaults.{DiskCountIncreased, DiskFaultCounted};
+ghost use Rattle.pod_pipe.specs.CountedFaults.{StreamFaultsCounted};
+ghost use Rattle.pod_pipe.specs.DiskRuns.{HoldsOfDisks, disks_of};
+ghost use Rattle.pod_pipe.specs.RunStreams.{streams_of};
 ghost use Rattle.pod_pipe.specs.Streams.{AddsReads};
 ghost use Rattle.pod_pipe.specs.StoreRuns.{RunsKeeper, RunsStore};
 ghost use Rattle.pod_pipe.specs.Tables.{HasAgentsCause, IsAsked, tokens_of};
@@ -72,32 +74,16 @@ fn pipe_keeper<D: Disk, T: Source, S: Source, K: Sink, E: Sink, C: Clock>(
         × StandsWith D.image keeper history doubt }
     ensures runs { RunsKeeper D.image D.moment D.left_since D.faults (C.may_give clock.now)
         by_tokens trail keeper result.1
-        (tokens_of T.rest T.faults T.reads T.ends tokens.old tokens.new) (record {
-          old_input = S.rest input.old;
-          new_input = S.rest input.new;
-          old_output = K.taken output.old;
-          new_output = K.taken output.new;
-          old_errors = E.taken errors.old;
-          new_errors = E.taken errors.new;
-          old_faults = E.faults errors.old;
-          new_faults = E.faults errors.new;
-          old_reads = S.reads input.old;
-          new_reads = S.reads input.new;
-          old_ends = S.ends input.old;
-          new_ends = S.ends input.new;
-        }) result.0.0 }
-    ensures not_words { result.0.0 ≢ 2 }
+        (tokens_of T.rest T.faults T.reads T.ends tokens.old tokens.new)
+        (streams_of S.rest S.faults S.reads S.ends K.taken K.faults E.taken E.faults
+        input.old input.new output.old output.new errors.old errors.new) result.0.0 }
+    ensures not_invalid { result.0.0 ≢ 2 }
     ensures no_refusal { result.0.0 ≢ 6 }
     ensures no_tokens { by_tokens ≡ false → tokens.new ≡ tokens.old }
-    ensures read_fault { result.0.0 ≡ 3
-        → CountIncreased (S.faults input.old) (S.faults input.new)
-        ⊎ CountIncreased (T.faults tokens.old) (T.faults tokens.new) }
-    ensures write_fault { result.0.0 ≡ 4
-        → CountIncreased (K.faults output.old) (K.faults output.new)
-        ⊎ CountIncreased (E.faults errors.old) (E.faults errors.new) }
-    ensures faults { S.faults input.old ≤ S.faults input.new }
-    ensures writes { K.faults output.old ≤ K.faults output.new }
-    ensures tells { E.faults errors.old ≤ E.faults errors.new }
+    ensures counted { StreamFaultsCounted
+        (tokens_of T.rest T.faults T.reads T.ends tokens.old tokens.new)
+        (streams_of S.rest S.faults S.reads S.ends K.taken K.faults E.taken E.faults
+        input.old input.new output.old output.new errors.old errors.new) result.0.0 }
 {
     match agents_of(alloc, by_tokens, &keeper, tokens) {
         Ok(agents) => {
@@ -126,36 +112,19 @@ fn run_store<D: Disk, T: Source, S: Source, K: Sink, E: Sink, C: Clock>(
     errors: &mut E,
     clock: &C,
 ) -> (Status, Disks<D>)
-    ensures not_words { result.0.0 ≢ 2 }
-    ensures runs { RunsStore D.image D.moment D.left_since D.faults (C.may_give clock.now) by_tokens
-        trail D.content disks.first disks.second result.1.first result.1.second
-        (tokens_of T.rest T.faults T.reads T.ends tokens.old tokens.new) (record {
-          old_input = S.rest input.old;
-          new_input = S.rest input.new;
-          old_output = K.taken output.old;
-          new_output = K.taken output.new;
-          old_errors = E.taken errors.old;
-          new_errors = E.taken errors.new;
-          old_faults = E.faults errors.old;
-          new_faults = E.faults errors.new;
-          old_reads = S.reads input.old;
-          new_reads = S.reads input.new;
-          old_ends = S.ends input.old;
-          new_ends = S.ends input.new;
-        }) result.0.0 }
+    ensures not_invalid { result.0.0 ≢ 2 }
+    ensures runs { RunsStore
+        (disks_of D.content D.image D.moment D.left_since D.faults disks result.1)
+        (C.may_give clock.now) by_tokens trail
+        (tokens_of T.rest T.faults T.reads T.ends tokens.old tokens.new)
+        (streams_of S.rest S.faults S.reads S.ends K.taken K.faults E.taken E.faults
+        input.old input.new output.old output.new errors.old errors.new) result.0.0 }
     ensures no_tokens { by_tokens ≡ false → tokens.new ≡ tokens.old }
-    ensures read_fault { result.0.0 ≡ 3
-        → CountIncreased (S.faults input.old) (S.faults input.new)
-        ⊎ CountIncreased (T.faults tokens.old) (T.faults tokens.new) }
-    ensures write_fault { result.0.0 ≡ 4
-        → CountIncreased (K.faults output.old) (K.faults output.new)
-        ⊎ CountIncreased (E.faults errors.old) (E.faults errors.new) }
-    ensures disk_fault { result.0.0 ≡ 6
-        → CountIncreased (D.faults disks.first) (D.faults result.1.first)
-        ⊎ CountIncreased (D.faults disks.second) (D.faults result.1.second) }
-    ensures faults { S.faults input.old ≤ S.faults input.new }
-    ensures writes { K.faults output.old ≤ K.faults output.new }
-    ensures tells { E.faults errors.old ≤ E.faults errors.new }
+    ensures counted { StreamFaultsCounted
+        (tokens_of T.rest T.faults T.reads T.ends tokens.old tokens.new)
+        (streams_of S.rest S.faults S.reads S.ends K.taken K.faults E.taken E.faults
+        input.old input.new output.old output.new errors.old errors.new) result.0.0 }
+    ensures disk_fault { result.0.0 ≡ 6 → DiskCountIncreased D.faults disks result.1 }
 {
     match Keeper::open(alloc, disks) {
         Ok(keeper) => {
@@ -185,38 +154,18 @@ pub fn pipe_store<D: Disk, T: Source, S: Source, K: Sink, E: Sink, C: Clock>(
 ) -> Status
     requires { IsSome place.old.disks }
     ensures place { IsSome place.new.disks }
-    ensures not_words { result.0 ≢ 2 }
-    ensures runs { IfSome place.old.disks (λ old. IfSome place.new.disks (λ new.
-        RunsStore D.image D.moment D.left_since D.faults (C.may_give clock.now) by_tokens trail
-        D.content old.first old.second new.first new.second
-        (tokens_of T.rest T.faults T.reads T.ends place.old.tokens place.new.tokens) (record {
-          old_input = S.rest input.old;
-          new_input = S.rest input.new;
-          old_output = K.taken output.old;
-          new_output = K.taken output.new;
-          old_errors = E.taken errors.old;
-          new_errors = E.taken errors.new;
-          old_faults = E.faults errors.old;
-          new_faults = E.faults errors.new;
-          old_reads = S.reads input.old;
-          new_reads = S.reads input.new;
-          old_ends = S.ends input.old;
-          new_ends = S.ends input.new;
-        }) result.0)) }
+    ensures not_invalid { result.0 ≢ 2 }
+    ensures runs { HoldsOfDisks D.content D.image D.moment D.left_since D.faults place.old place.new
+        (λ disks. RunsStore disks (C.may_give clock.now) by_tokens trail
+        (tokens_of T.rest T.faults T.reads T.ends place.old.tokens place.new.tokens)
+        (streams_of S.rest S.faults S.reads S.ends K.taken K.faults E.taken E.faults
+        input.old input.new output.old output.new errors.old errors.new) result.0) }
     ensures no_tokens { by_tokens ≡ false → place.new.tokens ≡ place.old.tokens }
-    ensures read_fault { result.0 ≡ 3
-        → CountIncreased (S.faults input.old) (S.faults input.new)
-        ⊎ CountIncreased (T.faults place.old.tokens) (T.faults place.new.tokens) }
-    ensures write_fault { result.0 ≡ 4
-        → CountIncreased (K.faults output.old) (K.faults output.new)
-        ⊎ CountIncreased (E.faults errors.old) (E.faults errors.new) }
-    ensures disk_fault { result.0 ≡ 6
-        → IfSome place.old.disks (λ old. IfSome place.new.disks (λ new.
-        CountIncreased (D.faults old.first) (D.faults new.first)
-        ⊎ CountIncreased (D.faults old.second) (D.faults new.second))) }
-    ensures faults { S.faults input.old ≤ S.faults input.new }
-    ensures writes { K.faults output.old ≤ K.faults output.new }
-    ensures tells { E.faults errors.old ≤ E.faults errors.new }
+    ensures counted { StreamFaultsCounted
+        (tokens_of T.rest T.faults T.reads T.ends place.old.tokens place.new.tokens)
+        (streams_of S.rest S.faults S.reads S.ends K.taken K.faults E.taken E.faults
+        input.old input.new output.old output.new errors.old errors.new) result.0 }
+    ensures disk_fault { DiskFaultCounted D.faults place.old place.new result.0 }
 {
     let Some(disks) = place.disks.take() else {
         unreachable!()

@@ -15,12 +15,12 @@ use Rattle.conn_talk.specs.declared.agents.Agents.TheVariants.{Owner}
 use Rattle.pod_pipe.specs.declared.memory_pod.MemoryPod.{MemoryPod}
 use Rattle.pod_pipe.specs.declared.options.PipeOptions.{PipeOptions}
 use Rattle.pod_pipe.specs.declared.status.PipeEnd.{PipeEnd}
-use Rattle.pod_pipe.specs.declared.status.PipeEnd.TheVariants.{Peer, Cut, Closed, Limit, Upgraded, Bad, ReadFault, WriteFault, NoMemory, ReadLimit}
+use Rattle.pod_pipe.specs.declared.status.PipeEnd.TheVariants.{NoMemory}
 use Rattle.pod_pipe.proofs.ReadsLemmas.{no_reads}
 use Rattle.pod_pipe.proofs.Weaker.{pipes_weaker, session_weaker, unserved, unserved_session}
 use Rattle.pod_rows.specs.Pod.{Pod}
 use Rattle.pod_tool.specs.Fresh.{MeetsNoDisk, RunsFresh, asking_owner, fresh_base, fresh_history}
-use Rattle.pod_pipe.specs.StoreRuns.{Streams}
+use Rattle.pod_pipe.specs.RunStreams.{Streams}
 
 -- the history of a new pod is one
 pub fresh_is_history : (owner : List ℕ) (made : ℕ) → IsHistory (fresh_history owner made)
@@ -39,7 +39,7 @@ no_disk may_give owner made old new items left = omega (arith, left.counted.disk
 
 module _ (may_give : ℕ → Type 0) (owner : List ℕ) (trail : Bool) (streams : Streams) (status made : ℕ) (given : IsClockMoment may_give made) where
   pub runs_fresh : (options : PipeOptions) → options.agents ≡ Owner owner → options.trail ≡ trail → (end : PipeEnd) → status ≡ status_of end → (old new : MemoryPod)
-      → PipesAndTells may_give (asking_of options.agents) options.trail (fresh_history owner made) (LeavesPod may_give owner made old new) end streams.old_input streams.new_input streams.old_output streams.new_output streams.old_errors streams.new_errors streams.old_faults streams.new_faults
+      → PipesAndTells may_give (asking_of options.agents) options.trail (fresh_history owner made) (LeavesPod may_give owner made old new) end streams.old_input streams.new_input streams.old_output streams.new_output streams.old_errors streams.new_errors streams.old_error_faults streams.new_error_faults
       → WritesSession may_give (asking_of options.agents) options.trail (fresh_history owner made) (LeavesPod may_give owner made old new) streams.old_input streams.new_input streams.old_output streams.new_output
       → CountsInput end streams.old_reads streams.new_reads streams.old_ends streams.new_ends → RunsFresh may_give owner trail streams status
   runs_fresh options agents trailed end is old new pipes session counts = record {
@@ -47,9 +47,9 @@ module _ (may_give : ℕ → Type 0) (owner : List ℕ) (trail : Bool) (streams 
     status_is = is;
     made = made;
     clock = given;
-    pipes = subst (λ (t : Bool). PipesAndTells may_give (asking_owner owner) t (fresh_history owner made) MeetsNoDisk end streams.old_input streams.new_input streams.old_output streams.new_output streams.old_errors streams.new_errors streams.old_faults streams.new_faults) trailed
-        (subst (λ (a : Request → AskedAgent). PipesAndTells may_give a options.trail (fresh_history owner made) MeetsNoDisk end streams.old_input streams.new_input streams.old_output streams.new_output streams.old_errors streams.new_errors streams.old_faults streams.new_faults) (ap asking_of agents)
-        (pipes_weaker may_give (asking_of options.agents) options.trail (fresh_history owner made) _ MeetsNoDisk (no_disk may_give owner made old new) end streams.old_input streams.new_input streams.old_output streams.new_output streams.old_errors streams.new_errors streams.old_faults streams.new_faults pipes));
+    pipes = subst (λ (t : Bool). PipesAndTells may_give (asking_owner owner) t (fresh_history owner made) MeetsNoDisk end streams.old_input streams.new_input streams.old_output streams.new_output streams.old_errors streams.new_errors streams.old_error_faults streams.new_error_faults) trailed
+        (subst (λ (a : Request → AskedAgent). PipesAndTells may_give a options.trail (fresh_history owner made) MeetsNoDisk end streams.old_input streams.new_input streams.old_output streams.new_output streams.old_errors streams.new_errors streams.old_error_faults streams.new_error_faults) (ap asking_of agents)
+        (pipes_weaker may_give (asking_of options.agents) options.trail (fresh_history owner made) _ MeetsNoDisk (no_disk may_give owner made old new) end streams.old_input streams.new_input streams.old_output streams.new_output streams.old_errors streams.new_errors streams.old_error_faults streams.new_error_faults pipes));
     session = subst (λ (t : Bool). WritesSession may_give (asking_owner owner) t (fresh_history owner made) MeetsNoDisk streams.old_input streams.new_input streams.old_output streams.new_output) trailed
         (subst (λ (a : Request → AskedAgent). WritesSession may_give a options.trail (fresh_history owner made) MeetsNoDisk streams.old_input streams.new_input streams.old_output streams.new_output) (ap asking_of agents)
         (session_weaker may_give (asking_of options.agents) options.trail (fresh_history owner made) _ MeetsNoDisk (no_disk may_give owner made old new) streams.old_input streams.new_input streams.old_output streams.new_output session));
@@ -57,27 +57,14 @@ module _ (may_give : ℕ → Type 0) (owner : List ℕ) (trail : Bool) (streams 
   }
 
 -- a run for which no memory was left before anything was read
-pub unserved_run : (may_give : ℕ → Type 0) (owner : List ℕ) (trail : Bool) (made : ℕ) → IsClockMoment may_give made → (input output errors : Option (List ℕ)) (faults reads ends status : ℕ) → status ≡ 7
-    → RunsFresh may_give owner trail (record { old_input = input; new_input = input; old_output = output; new_output = output; old_errors = errors; new_errors = errors; old_faults = faults; new_faults = faults; old_reads = reads; new_reads = reads; old_ends = ends; new_ends = ends }) status
-unserved_run may_give owner trail made given input output errors faults reads ends status is = record {
+pub unserved_run : (may_give : ℕ → Type 0) (owner : List ℕ) (trail : Bool) (made : ℕ) → IsClockMoment may_give made → (input output errors : Option (List ℕ)) (input_faults output_faults error_faults reads ends status : ℕ) → status ≡ 7
+    → RunsFresh may_give owner trail (record { old_input = input; new_input = input; old_output = output; new_output = output; old_errors = errors; new_errors = errors; old_input_faults = input_faults; new_input_faults = input_faults; old_output_faults = output_faults; new_output_faults = output_faults; old_error_faults = error_faults; new_error_faults = error_faults; old_reads = reads; new_reads = reads; old_ends = ends; new_ends = ends }) status
+unserved_run may_give owner trail made given input output errors input_faults output_faults error_faults reads ends status is = record {
   end = NoMemory;
   status_is = is;
   made = made;
   clock = given;
-  pipes = unserved may_give (asking_owner owner) trail (fresh_history owner made) (fresh_is_history owner made) MeetsNoDisk refl input output errors faults;
+  pipes = unserved may_give (asking_owner owner) trail (fresh_history owner made) (fresh_is_history owner made) MeetsNoDisk refl input output errors error_faults;
   session = unserved_session may_give (asking_owner owner) trail (fresh_history owner made) (fresh_is_history owner made) MeetsNoDisk refl input output errors;
   counts = record { reads = no_reads reads; limit = λ e. absurd cc; ends = refl };
 }
-
--- the one end of status 4
-pub is_write_fault : (end : PipeEnd) → status_of end ≡ 4 → end ≡ WriteFault
-is_write_fault WriteFault is = refl
-is_write_fault Peer is = absurd (omega (arith, is))
-is_write_fault Closed is = absurd (omega (arith, is))
-is_write_fault Limit is = absurd (omega (arith, is))
-is_write_fault Upgraded is = absurd (omega (arith, is))
-is_write_fault ReadFault is = absurd (omega (arith, is))
-is_write_fault NoMemory is = absurd (omega (arith, is))
-is_write_fault (Cut rest) is = absurd (omega (arith, is))
-is_write_fault (Bad status) is = absurd (omega (arith, is))
-is_write_fault ReadLimit is = absurd (omega (arith, is))

@@ -1,4 +1,3 @@
 pub mod FreshLemmas
 pub mod LoadLemmas
 pub mod EndLemmas
-pub mod FollowLemmas

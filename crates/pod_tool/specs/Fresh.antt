@@ -8,7 +8,7 @@ use Rattle.pod_pipe.specs.Served.{WritesSession, disk_faults}
 use Rattle.pod_pipe.specs.Statuses.{PipesAndTells, status_of}
 use Rattle.pod_pipe.specs.Streams.{CountsInput}
 use Rattle.pod_pipe.specs.declared.status.PipeEnd.{PipeEnd}
-use Rattle.pod_pipe.specs.StoreRuns.{Streams}
+use Rattle.pod_pipe.specs.RunStreams.{Streams}
 use Rattle.token_table.specs.Credentials.{AskedAgent, known}
 
 -- the base of a pod in memory
@@ -38,7 +38,7 @@ pub record RunsFresh (may_give : ℕ → Type 0) (owner : List ℕ) (trail : Boo
   pub clock : IsClockMoment may_give made
   pub pipes : PipesAndTells may_give (asking_owner owner) trail (fresh_history owner made)
       MeetsNoDisk end streams.old_input streams.new_input streams.old_output streams.new_output
-      streams.old_errors streams.new_errors streams.old_faults streams.new_faults
+      streams.old_errors streams.new_errors streams.old_error_faults streams.new_error_faults
   pub session : WritesSession may_give (asking_owner owner) trail (fresh_history owner made)
       MeetsNoDisk streams.old_input streams.new_input streams.old_output streams.new_output
   pub counts : CountsInput end streams.old_reads streams.new_reads streams.old_ends streams.new_ends

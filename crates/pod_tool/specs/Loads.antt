@@ -11,7 +11,7 @@ use Rattle.history_laws.specs.Isolated.{grown}
 use Rattle.pod_pipe.specs.Statuses.{IsTold, Pipes}
 use Rattle.pod_pipe.specs.declared.status.PipeEnd.{PipeEnd}
 use Rattle.pod_tool.specs.Fresh.{asking_owner, fresh_history}
-use Rattle.pod_pipe.specs.StoreRuns.{Streams}
+use Rattle.pod_pipe.specs.RunStreams.{Streams}
 
 -- the clock of a run is fixed
 abbrev pub IsLoadMoment : ℕ → Type 0

@@ -1,8 +1,8 @@
 //! `follow`: a follower over the streams of a run.
-ghost use Rattle.std.specs.Prelude.{◌≡◌, ◌≢◌, ◌≤◌, ◌⊎◌};
-ghost use Rattle.pod_base.specs.Counts.{CountIncreased};
+ghost use Rattle.std.specs.Prelude.{◌≢◌};
+ghost use Rattle.pod_pipe.specs.CountedFaults.{StreamFaultsCounted, no_table};
+ghost use Rattle.pod_pipe.specs.RunStreams.{streams_of};
 ghost use Rattle.pod_tool.specs.Follows.{FollowsStreams};
-ghost use Rattle.pod_tool.specs.Runs.{streams_of};
 
 use pod_io::{Sink, Source};
 use pod_pipe::Status;
@@ -17,18 +17,14 @@ pub(crate) fn follow_streams<S: Source, K: Sink, E: Sink>(
     output: &mut K,
     errors: &mut E,
 ) -> Status
-    ensures not_words { result.0 ≢ 2 }
+    ensures not_invalid { result.0 ≢ 2 }
     ensures no_disk { result.0 ≢ 6 }
     ensures runs { FollowsStreams
-        (streams_of S.rest S.reads S.ends K.taken E.taken E.faults input.old input.new
-        output.old output.new errors.old errors.new) result.0 }
-    ensures read_fault { result.0 ≡ 3 → CountIncreased (S.faults input.old) (S.faults input.new) }
-    ensures write_fault { result.0 ≡ 4
-        → CountIncreased (K.faults output.old) (K.faults output.new)
-        ⊎ CountIncreased (E.faults errors.old) (E.faults errors.new) }
-    ensures faults { S.faults input.old ≤ S.faults input.new }
-    ensures writes { K.faults output.old ≤ K.faults output.new }
-    ensures tells { E.faults errors.old ≤ E.faults errors.new }
+        (streams_of S.rest S.faults S.reads S.ends K.taken K.faults E.taken E.faults
+        input.old input.new output.old output.new errors.old errors.new) result.0 }
+    ensures counted { StreamFaultsCounted no_table
+        (streams_of S.rest S.faults S.reads S.ends K.taken K.faults E.taken E.faults
+        input.old input.new output.old output.new errors.old errors.new) result.0 }
 {
     follow(alloc, input, output, errors).status()
 }

@@ -1,11 +1,11 @@
 //! `pipe --fresh`: a connection of a new pod in memory.
-ghost use Rattle.std.specs.Prelude.{◌≡◌, ◌≢◌, ◌≤◌, ◌⊎◌, IfOk, None};
+ghost use Rattle.std.specs.Prelude.{◌≡◌, ◌≢◌, IfOk, None};
 ghost use Rattle.pod_rows.specs.FirstPods.{first_pod};
-ghost use Rattle.pod_base.specs.Counts.{CountIncreased};
+ghost use Rattle.pod_pipe.specs.CountedFaults.{StreamFaultsCounted, no_table};
 ghost use Rattle.pod_pipe.specs.Memory.{memory_stands};
+ghost use Rattle.pod_pipe.specs.RunStreams.{streams_of};
 ghost use Rattle.pod_rows.specs.WellFormed.{WellFormed};
 ghost use Rattle.pod_tool.specs.Fresh.{RunsFresh, fresh_base, fresh_history};
-ghost use Rattle.pod_tool.specs.Runs.{streams_of};
 
 use iri_ref::Iri;
 use pod_base::{Mem, Moment, NoMemory, Text};
@@ -88,17 +88,13 @@ pub(crate) fn pipe_fresh<S: Source, K: Sink, E: Sink, C: Clock>(
     errors: &mut E,
     clock: &C,
 ) -> Status
-    ensures not_words { result.0 ≢ 2 }
+    ensures not_invalid { result.0 ≢ 2 }
     ensures runs { RunsFresh (C.may_give clock.now) owner.now trail
-        (streams_of S.rest S.reads S.ends K.taken E.taken E.faults input.old input.new
-        output.old output.new errors.old errors.new) result.0 }
-    ensures read_fault { result.0 ≡ 3 → CountIncreased (S.faults input.old) (S.faults input.new) }
-    ensures write_fault { result.0 ≡ 4
-        → CountIncreased (K.faults output.old) (K.faults output.new)
-        ⊎ CountIncreased (E.faults errors.old) (E.faults errors.new) }
-    ensures faults { S.faults input.old ≤ S.faults input.new }
-    ensures writes { K.faults output.old ≤ K.faults output.new }
-    ensures tells { E.faults errors.old ≤ E.faults errors.new }
+        (streams_of S.rest S.faults S.reads S.ends K.taken K.faults E.taken E.faults
+        input.old input.new output.old output.new errors.old errors.new) result.0 }
+    ensures counted { StreamFaultsCounted no_table
+        (streams_of S.rest S.faults S.reads S.ends K.taken K.faults E.taken E.faults
+        input.old input.new output.old output.new errors.old errors.new) result.0 }
 {
     let moment = clock_moment(clock);
     match fresh_start(alloc, owner, trail, moment) {

@@ -8,10 +8,9 @@
 //!
 //! Proved of [`run_podctl`], for every stream, disk and clock that meets its contract: what the run
 //! of each command does (`runs`, by `Runs` of `specs/Runs.antt`, with a line for each command);
-//! status 2 exactly where the arguments are invalid (`words`), and then nothing is done
-//! (`no_output`); each fault only where a count of an object passed in increased (`read_fault`,
-//! `write_fault`, `disk_fault`); and what a command doesn't need stays as it was (`in_memory`,
-//! `no_input`, `no_tokens`).
+//! status 2 exactly where the arguments are invalid (`words`), and then nothing is done; a fault
+//! only where a count of an object passed in increased (`counted`, `disk_fault`); and what a
+//! command doesn't need stays as it was (`unneeded`).
 //!
 //! It depends on `program_words` for the words, on `podctl_commands` for commands over a store and
 //! for a follower, on `pod_pipe` for one connection, on `pod_rows` for a pod in memory, and on

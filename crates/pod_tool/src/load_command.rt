@@ -83,7 +83,7 @@ pub(crate) fn load<K: Sink>(alloc: Global, requests: u16, output: &mut K) -> Sta
     ensures prints { PrintsLoad requests (K.taken output.old) (K.taken output.new) result.0 }
     ensures write_fault { result.0 ≡ 4
         → CountIncreased (K.faults output.old) (K.faults output.new) }
-    ensures writes { K.faults output.old ≤ K.faults output.new }
+    ensures output_faults { K.faults output.old ≤ K.faults output.new }
 {
     let Ok(line) = load_line(alloc, requests) else {
         return PipeEnd::NoMemory.status();

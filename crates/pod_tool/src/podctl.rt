@@ -1,13 +1,12 @@
 //! The command `podctl`.
-ghost use Rattle.std.specs.Prelude.{◌≡◌, ◌≢◌, ◌≤◌, ◌⊎◌, ◌↔◌, None, Some, IfSome, IsSome, map};
-ghost use Rattle.std.specs.Prelude.{true, false};
+ghost use Rattle.std.specs.Prelude.{◌≡◌, ◌≢◌, ◌↔◌, None, Some, IfSome, IsSome, map};
 ghost use Rattle.std.specs.String.{string_bytes};
-ghost use Rattle.pod_base.specs.Counts.{CountIncreased};
-ghost use Rattle.pod_tool.specs.Fresh.{RunsFresh};
-ghost use Rattle.pod_tool.specs.Runs.{NeedsNoInput, NeedsNoOutput, NeedsNoStore, NeedsNoTokens};
-ghost use Rattle.pod_tool.specs.Runs.{Runs, streams_of};
-ghost use Rattle.program_words.specs.Readings.{IsSound, reading};
+ghost use Rattle.pod_pipe.specs.CountedFaults.{DiskFaultCounted, StreamFaultsCounted};
+ghost use Rattle.pod_pipe.specs.DiskRuns.{HoldsOfDisks};
+ghost use Rattle.pod_pipe.specs.RunStreams.{streams_of};
 ghost use Rattle.pod_pipe.specs.Tables.{tokens_of};
+ghost use Rattle.pod_tool.specs.Runs.{LeavesUnneeded, Runs};
+ghost use Rattle.program_words.specs.Readings.{IsSound, reading};
 
 use crate::follow_command::follow_streams;
 use crate::fresh_pipe::pipe_fresh;
@@ -18,9 +17,6 @@ use pod_io::{Clock, Sink, Source};
 use pod_pipe::{PipeEnd, Status, pipe_store};
 use program_words::{Asking, Command, read};
 use std::alloc::Global;
-
-/// The status of invalid arguments.
-const NO_READING: u8 = 2;
 
 /// Runs `podctl pipe`, which serves the input as one connection: of a new pod in memory, or of the
 /// pod of the store.
@@ -36,29 +32,19 @@ fn pipe_asked<S: Source, K: Sink, E: Sink, D: Disk, T: Source, C: Clock>(
 ) -> Status
     requires { IsSome place.old.disks }
     ensures place { IsSome place.new.disks }
-    ensures not_words { result.0 ≢ 2 }
-    ensures runs { IfSome place.old.disks (λ old. IfSome place.new.disks (λ new.
-        Runs D.content D.image D.moment D.left_since D.faults old.first old.second new.first
-        new.second (C.may_give clock.now) (Command.Pipe asking trail)
+    ensures not_invalid { result.0 ≢ 2 }
+    ensures runs { HoldsOfDisks D.content D.image D.moment D.left_since D.faults place.old place.new
+        (λ disks. Runs disks (C.may_give clock.now) (Command.Pipe asking trail)
         (tokens_of T.rest T.faults T.reads T.ends place.old.tokens place.new.tokens)
-        (streams_of S.rest S.reads S.ends K.taken E.taken E.faults input.old input.new
-        output.old output.new errors.old errors.new) result.0)) }
-    ensures in_memory { NeedsNoStore (Some (Command.Pipe asking trail)) → place.new ≡ place.old }
-    ensures no_tokens { NeedsNoTokens (Some (Command.Pipe asking trail))
-        → place.new.tokens ≡ place.old.tokens }
-    ensures read_fault { result.0 ≡ 3
-        → CountIncreased (S.faults input.old) (S.faults input.new)
-        ⊎ CountIncreased (T.faults place.old.tokens) (T.faults place.new.tokens) }
-    ensures write_fault { result.0 ≡ 4
-        → CountIncreased (K.faults output.old) (K.faults output.new)
-        ⊎ CountIncreased (E.faults errors.old) (E.faults errors.new) }
-    ensures disk_fault { result.0 ≡ 6
-        → IfSome place.old.disks (λ old. IfSome place.new.disks (λ new.
-        CountIncreased (D.faults old.first) (D.faults new.first)
-        ⊎ CountIncreased (D.faults old.second) (D.faults new.second))) }
-    ensures faults { S.faults input.old ≤ S.faults input.new }
-    ensures writes { K.faults output.old ≤ K.faults output.new }
-    ensures tells { E.faults errors.old ≤ E.faults errors.new }
+        (streams_of S.rest S.faults S.reads S.ends K.taken K.faults E.taken E.faults
+        input.old input.new output.old output.new errors.old errors.new) result.0) }
+    ensures unneeded { LeavesUnneeded (Some (Command.Pipe asking trail)) place.old place.new
+        input.old input.new output.old output.new errors.old errors.new }
+    ensures counted { StreamFaultsCounted
+        (tokens_of T.rest T.faults T.reads T.ends place.old.tokens place.new.tokens)
+        (streams_of S.rest S.faults S.reads S.ends K.taken K.faults E.taken E.faults
+        input.old input.new output.old output.new errors.old errors.new) result.0 }
+    ensures disk_fault { DiskFaultCounted D.faults place.old place.new result.0 }
 {
     match asking {
         Asking::Fresh(owner) => pipe_fresh(alloc, &owner, trail, input, output, errors, clock),
@@ -80,31 +66,19 @@ fn run<S: Source, K: Sink, E: Sink, D: Disk, T: Source, C: Clock>(
     requires disks { IsSome place.old.disks }
     requires sound { IsSound command }
     ensures place { IsSome place.new.disks }
-    ensures not_words { result.0 ≢ 2 }
-    ensures runs { IfSome place.old.disks (λ old. IfSome place.new.disks (λ new.
-        Runs D.content D.image D.moment D.left_since D.faults old.first old.second new.first
-        new.second (C.may_give clock.now) command
+    ensures not_invalid { result.0 ≢ 2 }
+    ensures runs { HoldsOfDisks D.content D.image D.moment D.left_since D.faults place.old place.new
+        (λ disks. Runs disks (C.may_give clock.now) command
         (tokens_of T.rest T.faults T.reads T.ends place.old.tokens place.new.tokens)
-        (streams_of S.rest S.reads S.ends K.taken E.taken E.faults input.old input.new
-        output.old output.new errors.old errors.new) result.0)) }
-    ensures in_memory { NeedsNoStore (Some command) → place.new ≡ place.old }
-    ensures no_input { NeedsNoInput (Some command) → input.new ≡ input.old }
-    ensures no_output { NeedsNoOutput (Some command)
-        → (output.new ≡ output.old) × (errors.new ≡ errors.old) }
-    ensures no_tokens { NeedsNoTokens (Some command) → place.new.tokens ≡ place.old.tokens }
-    ensures read_fault { result.0 ≡ 3
-        → CountIncreased (S.faults input.old) (S.faults input.new)
-        ⊎ CountIncreased (T.faults place.old.tokens) (T.faults place.new.tokens) }
-    ensures write_fault { result.0 ≡ 4
-        → CountIncreased (K.faults output.old) (K.faults output.new)
-        ⊎ CountIncreased (E.faults errors.old) (E.faults errors.new) }
-    ensures disk_fault { result.0 ≡ 6
-        → IfSome place.old.disks (λ old. IfSome place.new.disks (λ new.
-        CountIncreased (D.faults old.first) (D.faults new.first)
-        ⊎ CountIncreased (D.faults old.second) (D.faults new.second))) }
-    ensures faults { S.faults input.old ≤ S.faults input.new }
-    ensures writes { K.faults output.old ≤ K.faults output.new }
-    ensures tells { E.faults errors.old ≤ E.faults errors.new }
+        (streams_of S.rest S.faults S.reads S.ends K.taken K.faults E.taken E.faults
+        input.old input.new output.old output.new errors.old errors.new) result.0) }
+    ensures unneeded { LeavesUnneeded (Some command) place.old place.new input.old input.new
+        output.old output.new errors.old errors.new }
+    ensures counted { StreamFaultsCounted
+        (tokens_of T.rest T.faults T.reads T.ends place.old.tokens place.new.tokens)
+        (streams_of S.rest S.faults S.reads S.ends K.taken K.faults E.taken E.faults
+        input.old input.new output.old output.new errors.old errors.new) result.0 }
+    ensures disk_fault { DiskFaultCounted D.faults place.old place.new result.0 }
 {
     match command {
         Command::Init { base, owner } => init_store(alloc, base, &owner, place, clock),
@@ -155,42 +129,27 @@ pub fn run_podctl<S: Source, K: Sink, E: Sink, D: Disk, T: Source, C: Clock>(
 
     // What the run of each command does.
     ensures runs { IfSome (reading (map string_bytes words.now)) (λ command.
-        IfSome place.old.disks (λ old. IfSome place.new.disks (λ new.
-        Runs D.content D.image D.moment D.left_since D.faults old.first old.second new.first
-        new.second (C.may_give clock.old) command
+        HoldsOfDisks D.content D.image D.moment D.left_since D.faults place.old place.new
+        (λ disks. Runs disks (C.may_give clock.old) command
         (tokens_of T.rest T.faults T.reads T.ends place.old.tokens place.new.tokens)
-        (streams_of S.rest S.reads S.ends K.taken E.taken E.faults input.old input.new
-        output.old output.new errors.old errors.new) result.0))) }
+        (streams_of S.rest S.faults S.reads S.ends K.taken K.faults E.taken E.faults
+        input.old input.new output.old output.new errors.old errors.new) result.0)) }
 
     // With invalid arguments nothing is done. What a command doesn't need stays as it was.
     ensures words { (result.0 ≡ 2) ↔ (reading (map string_bytes words.now) ≡ None) }
-    ensures in_memory { NeedsNoStore (reading (map string_bytes words.now))
-        → place.new ≡ place.old }
-    ensures no_input { NeedsNoInput (reading (map string_bytes words.now))
-        → input.new ≡ input.old }
-    ensures no_output { NeedsNoOutput (reading (map string_bytes words.now))
-        → (output.new ≡ output.old) × (errors.new ≡ errors.old) }
-    ensures no_tokens { NeedsNoTokens (reading (map string_bytes words.now))
-        → place.new.tokens ≡ place.old.tokens }
+    ensures unneeded { LeavesUnneeded (reading (map string_bytes words.now)) place.old place.new
+        input.old input.new output.old output.new errors.old errors.new }
 
     // A fault is returned only where a count increased.
-    ensures read_fault { result.0 ≡ 3
-        → CountIncreased (S.faults input.old) (S.faults input.new)
-        ⊎ CountIncreased (T.faults place.old.tokens) (T.faults place.new.tokens) }
-    ensures write_fault { result.0 ≡ 4
-        → CountIncreased (K.faults output.old) (K.faults output.new)
-        ⊎ CountIncreased (E.faults errors.old) (E.faults errors.new) }
-    ensures disk_fault { result.0 ≡ 6
-        → IfSome place.old.disks (λ old. IfSome place.new.disks (λ new.
-        CountIncreased (D.faults old.first) (D.faults new.first)
-        ⊎ CountIncreased (D.faults old.second) (D.faults new.second))) }
-    ensures faults { S.faults input.old ≤ S.faults input.new }
-    ensures writes { K.faults output.old ≤ K.faults output.new }
-    ensures tells { E.faults errors.old ≤ E.faults errors.new }
+    ensures counted { StreamFaultsCounted
+        (tokens_of T.rest T.faults T.reads T.ends place.old.tokens place.new.tokens)
+        (streams_of S.rest S.faults S.reads S.ends K.taken K.faults E.taken E.faults
+        input.old input.new output.old output.new errors.old errors.new) result.0 }
+    ensures disk_fault { DiskFaultCounted D.faults place.old place.new result.0 }
 {
     match read(alloc, words) {
         Ok(Some(command)) => run(alloc, command, input, output, errors, place, clock),
-        Ok(None) => Status(NO_READING),
+        Ok(None) => Status::INVALID_ARGUMENTS,
         Err(_none) => PipeEnd::NoMemory.status(),
     }
 }

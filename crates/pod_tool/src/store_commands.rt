@@ -1,13 +1,15 @@
 //! The commands that make a store in a place, and print of it.
-ghost use Rattle.std.specs.Prelude.{◌≡◌, ◌≢◌, ◌⊎◌, ◌≤◌, IsTrue, IfOk, IfSome, IsSome};
+ghost use Rattle.std.specs.Prelude.{◌≡◌, ◌≢◌, IsTrue, IfOk, IsSome};
 ghost use Rattle.podctl_commands.specs.Lines.{report_text};
 ghost use Rattle.iri_ref.specs.Components.{IsAbsolute};
-ghost use Rattle.pod_base.specs.Counts.{CountIncreased};
 ghost use Rattle.pod_keeper.specs.OpenedPods.{OpensDisks};
+ghost use Rattle.pod_pipe.specs.CountedFaults.{DiskCountIncreased, DiskFaultCounted};
+ghost use Rattle.pod_pipe.specs.DiskRuns.{HoldsOfDisks, disks_of};
 ghost use Rattle.pod_rows.specs.Base.{is_base};
-ghost use Rattle.pod_tool.specs.Stores.{IsUnbegun, Makes, PrintsStore};
-ghost use Rattle.pod_tool.specs.Stores.{PrintsUnless, ShipsStore, agent_in};
+ghost use Rattle.pod_tool.specs.Stores.{Makes, PrintFaultsCounted, PrintsStore, PrintsUnless};
+ghost use Rattle.pod_tool.specs.Stores.{RunsInit, ShipsStore, agent_in};
 ghost use Rattle.pod_tool.specs.Texts.{text_of};
+ghost use Rattle.podctl_commands.specs.CountedEnds.{EndFaultsCounted};
 ghost use Rattle.podctl_commands.specs.Prints.{Prints, ReportsDamage};
 
 use iri_ref::Iri;
@@ -17,9 +19,6 @@ use pod_io::{Clock, Sink, Source};
 use pod_pipe::{Status, clock_moment};
 use podctl_commands::{Ended, StoreEnd, audit, check, init, report, ship};
 use std::alloc::Global;
-
-/// The status of a run that ran out of memory.
-const NO_MEMORY: u8 = 7;
 
 /// What a command prints of a store.
 #[derive(Debug, Drop)]
@@ -43,13 +42,11 @@ fn make<D: Disk, C: Clock>(
 ) -> (Status, Disks<D>)
     requires base { IsTrue (is_base base) }
     requires owner { IsAbsolute owner }
-    ensures makes { Makes D.content D.image D.moment D.left_since disks.first disks.second
-        result.1.first result.1.second (C.may_give clock.now) base owner result.0.0 }
+    ensures makes { Makes (disks_of D.content D.image D.moment D.left_since D.faults disks result.1)
+        (C.may_give clock.now) base owner result.0.0 }
     ensures no_read { result.0.0 ≢ 3 }
     ensures no_write { result.0.0 ≢ 4 }
-    ensures disk_fault { result.0.0 ≡ 6
-        → CountIncreased (D.faults disks.first) (D.faults result.1.first)
-        ⊎ CountIncreased (D.faults disks.second) (D.faults result.1.second) }
+    ensures disk_fault { result.0.0 ≡ 6 → DiskCountIncreased D.faults disks result.1 }
 {
     let moment = clock_moment(clock);
     let mut disks = disks;
@@ -70,19 +67,14 @@ pub(crate) fn init_store<D: Disk, T: Source, C: Clock>(
     requires base { IsTrue (is_base base) }
     ensures place { IsSome place.new.disks }
     ensures tokens { place.new.tokens ≡ place.old.tokens }
-    ensures runs { IfSome place.old.disks (λ old. IfSome place.new.disks (λ new.
-        IsUnbegun old.first old.second new.first new.second result.0
-        ⊎ Makes D.content D.image D.moment D.left_since old.first old.second new.first new.second
-        (C.may_give clock.now) base owner.now result.0)) }
+    ensures runs { HoldsOfDisks D.content D.image D.moment D.left_since D.faults place.old place.new
+        (λ disks. RunsInit disks (C.may_give clock.now) base owner.now result.0) }
     ensures no_read { result.0 ≢ 3 }
     ensures no_write { result.0 ≢ 4 }
-    ensures disk_fault { result.0 ≡ 6
-        → IfSome place.old.disks (λ old. IfSome place.new.disks (λ new.
-        CountIncreased (D.faults old.first) (D.faults new.first)
-        ⊎ CountIncreased (D.faults old.second) (D.faults new.second))) }
+    ensures disk_fault { DiskFaultCounted D.faults place.old place.new result.0 }
 {
     let Ok(owner) = Text::of(alloc, owner.as_str()) else {
-        return Status(NO_MEMORY);
+        return Status::NO_MEMORY;
     };
     let Some(disks) = place.disks.take() else {
         unreachable!()
@@ -106,13 +98,8 @@ fn print<D: Disk, K: Sink, E: Sink>(
         (E.faults errors.old) (E.faults errors.new) }
     ensures disks { OpensDisks D.image D.moment D.left_since D.faults disks.first disks.second
         result.disks.first result.disks.second }
-    ensures disk_fault { result.end ≡ StoreEnd.DiskFault
-        → CountIncreased (D.faults disks.first) (D.faults result.disks.first)
-        ⊎ CountIncreased (D.faults disks.second) (D.faults result.disks.second) }
-    ensures write_fault { result.end ≡ StoreEnd.WriteFault
-        → CountIncreased (K.faults output.old) (K.faults output.new) }
-    ensures writes { K.faults output.old ≤ K.faults output.new }
-    ensures tells { E.faults errors.old ≤ E.faults errors.new }
+    ensures counted { EndFaultsCounted D.faults disks result.disks (K.faults output.old)
+        (K.faults output.new) (E.faults errors.old) (E.faults errors.new) result.end }
 {
     match printing {
         Printing::Counts => check(alloc, disks, output, errors),
@@ -132,19 +119,13 @@ pub(crate) fn print_store<D: Disk, T: Source, K: Sink, E: Sink>(
     requires { IsSome place.old.disks }
     ensures place { IsSome place.new.disks }
     ensures tokens { place.new.tokens ≡ place.old.tokens }
-    ensures prints { IfSome place.old.disks (λ old. IfSome place.new.disks (λ new.
-        PrintsStore D.content D.image D.moment D.left_since D.faults old.first old.second
-        new.first new.second (text_of printing.now) (K.taken output.old) (K.taken output.new)
-        (E.taken errors.old) (E.taken errors.new) (E.faults errors.old) (E.faults errors.new)
-        result.0)) }
-    ensures disk_fault { result.0 ≡ 6
-        → IfSome place.old.disks (λ old. IfSome place.new.disks (λ new.
-        CountIncreased (D.faults old.first) (D.faults new.first)
-        ⊎ CountIncreased (D.faults old.second) (D.faults new.second))) }
-    ensures write_fault { result.0 ≡ 4
-        → CountIncreased (K.faults output.old) (K.faults output.new) }
-    ensures writes { K.faults output.old ≤ K.faults output.new }
-    ensures tells { E.faults errors.old ≤ E.faults errors.new }
+    ensures prints { HoldsOfDisks D.content D.image D.moment D.left_since D.faults place.old
+        place.new (λ disks. PrintsStore disks (text_of printing.now) (K.taken output.old)
+        (K.taken output.new) (E.taken errors.old) (E.taken errors.new) (E.faults errors.old)
+        (E.faults errors.new) result.0) }
+    ensures disk_fault { DiskFaultCounted D.faults place.old place.new result.0 }
+    ensures counted { PrintFaultsCounted (K.faults output.old) (K.faults output.new)
+        (E.faults errors.old) (E.faults errors.new) result.0 }
 {
     let Some(disks) = place.disks.take() else {
         unreachable!()
@@ -179,22 +160,16 @@ pub(crate) fn report_store<D: Disk, T: Source, K: Sink, E: Sink>(
     requires { IsSome place.old.disks }
     ensures place { IsSome place.new.disks }
     ensures tokens { place.new.tokens ≡ place.old.tokens }
-    ensures prints { IfSome place.old.disks (λ old. IfSome place.new.disks (λ new.
-        PrintsUnless D.content D.image D.moment D.left_since D.faults old.first old.second
-        new.first new.second (report_text (agent_in agent)) (K.taken output.old)
+    ensures prints { HoldsOfDisks D.content D.image D.moment D.left_since D.faults place.old
+        place.new (λ disks. PrintsUnless disks (report_text (agent_in agent)) (K.taken output.old)
         (K.taken output.new) (E.taken errors.old) (E.taken errors.new) (E.faults errors.old)
-        (E.faults errors.new) result.0)) }
-    ensures disk_fault { result.0 ≡ 6
-        → IfSome place.old.disks (λ old. IfSome place.new.disks (λ new.
-        CountIncreased (D.faults old.first) (D.faults new.first)
-        ⊎ CountIncreased (D.faults old.second) (D.faults new.second))) }
-    ensures write_fault { result.0 ≡ 4
-        → CountIncreased (K.faults output.old) (K.faults output.new) }
-    ensures writes { K.faults output.old ≤ K.faults output.new }
-    ensures tells { E.faults errors.old ≤ E.faults errors.new }
+        (E.faults errors.new) result.0) }
+    ensures disk_fault { DiskFaultCounted D.faults place.old place.new result.0 }
+    ensures counted { PrintFaultsCounted (K.faults output.old) (K.faults output.new)
+        (E.faults errors.old) (E.faults errors.new) result.0 }
 {
     let Ok(agent) = reported_agent(alloc, agent) else {
-        return Status(NO_MEMORY);
+        return Status::NO_MEMORY;
     };
     print_store(alloc, &Printing::Report(agent), output, errors, place)
 }
@@ -210,18 +185,13 @@ pub(crate) fn ship_store<D: Disk, T: Source, K: Sink, E: Sink>(
     requires { IsSome place.old.disks }
     ensures place { IsSome place.new.disks }
     ensures tokens { place.new.tokens ≡ place.old.tokens }
-    ensures ships { IfSome place.old.disks (λ old. IfSome place.new.disks (λ new.
-        ShipsStore D.content D.image D.moment D.left_since D.faults old.first old.second
-        new.first new.second (K.taken output.old) (K.taken output.new) (E.taken errors.old)
-        (E.taken errors.new) (E.faults errors.old) (E.faults errors.new) result.0)) }
-    ensures disk_fault { result.0 ≡ 6
-        → IfSome place.old.disks (λ old. IfSome place.new.disks (λ new.
-        CountIncreased (D.faults old.first) (D.faults new.first)
-        ⊎ CountIncreased (D.faults old.second) (D.faults new.second))) }
-    ensures write_fault { result.0 ≡ 4
-        → CountIncreased (K.faults output.old) (K.faults output.new) }
-    ensures writes { K.faults output.old ≤ K.faults output.new }
-    ensures tells { E.faults errors.old ≤ E.faults errors.new }
+    ensures ships { HoldsOfDisks D.content D.image D.moment D.left_since D.faults place.old
+        place.new (λ disks. ShipsStore disks (K.taken output.old) (K.taken output.new)
+        (E.taken errors.old) (E.taken errors.new) (E.faults errors.old) (E.faults errors.new)
+        result.0) }
+    ensures disk_fault { DiskFaultCounted D.faults place.old place.new result.0 }
+    ensures counted { PrintFaultsCounted (K.faults output.old) (K.faults output.new)
+        (E.faults errors.old) (E.faults errors.new) result.0 }
 {
     let Some(disks) = place.disks.take() else {
         unreachable!()

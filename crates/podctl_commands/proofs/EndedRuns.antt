@@ -69,10 +69,6 @@ pub written_fails : (written : Result (Unit {0}) Failed) → written_end written
 written_fails (Ok done) e = search (rules, e)
 written_fails (Err failed) e = refl
 
-pub written_disk : (written : Result (Unit {0}) Failed) → written_end written ≡ ends.DiskFault → ⊥
-written_disk (Ok done) e = search (rules, e)
-written_disk (Err failed) e = search (rules, e)
-
 -- ---- a text that was written
 
 pub written_so : (written : Result (Unit {0}) Failed) (text : List ℕ) (old new : Option (List ℕ)) → Writes written text old new → IsReportedSo text old new (written_end written)

@@ -1,5 +1,5 @@
 -- What a command prints and reports of a store that wasn't opened, and the store of one that was.
-use Rattle.std.proofs.Common.{◌≡◌, inl, ℕ, List, Option, refl, rules}
+use Rattle.std.proofs.Common.{◌≡◌, inl, ℕ, List, Option, refl}
 use Rattle.journal_log.specs.declared.fault.OpenFault.{OpenFault}
 use Rattle.journal_log.specs.declared.fault.OpenFault.TheVariants as opening
 use Rattle.pod_command.specs.declared.entry.Entry.{Entry}
@@ -10,7 +10,6 @@ use Rattle.pod_records.specs.OpenedStores.{HasPodCause}
 use Rattle.journal_log.specs.Refusals.{TellsRefusal}
 use Rattle.podctl_commands.specs.Ends.{refused_end}
 use Rattle.podctl_commands.specs.Prints.{IsStoreOf, Prints, ReportsDamage}
-use Rattle.podctl_commands.specs.declared.store_end.StoreEnd.TheVariants as ends
 
 -- what is reported of it is what the command reports by its end
 pub refused_tells : (fault : OpenFault) (old new : Option (List ℕ)) (before after : ℕ) → TellsRefusal fault old new before after → ReportsDamage (refused_end fault) old new before after
@@ -26,12 +25,6 @@ module _ (text : Snapshot → List Entry → List ℕ) (first second : Option (L
   refused_prints old (opening.Damaged side at) cause = (cause, refl)
   refused_prints old opening.DiskFault cause = refl
   refused_prints old opening.NoMemory cause = inl refl
-
-pub refused_write : (fault : OpenFault) → refused_end fault ≡ ends.WriteFault → ⊥
-refused_write opening.Empty e = search (rules, e)
-refused_write (opening.Damaged side at) e = search (rules, e)
-refused_write opening.DiskFault e = search (rules, e)
-refused_write opening.NoMemory e = search (rules, e)
 
 -- a store that was opened
 unfoldable pub store_of : {D : Type 0} (image : D → List ℕ → Type 0) (first second : Option (List ℕ)) (bodies : List (List ℕ)) (keeper : KeeperState D) (h : IsOpened image first second bodies keeper) → IsStoreOf first second h.snapshot h.entries

@@ -158,10 +158,6 @@ module _ (first last : Option (List ℕ)) (following : Following) (kept : List �
 
 -- ---- the last line
 
-pub rose : {A P Q : Type 0} → A ⊎ Q → (A → P) → P ⊎ Q
-rose (inl a) from = inl (from a)
-rose (inr q) from = inr q
-
 pub told_after : (end told : FollowEnd) (first last out out_now : Option (List ℕ)) → ComesOf end told → FollowsInput end first last out out_now → FollowsInput told first last out out_now
 told_after end told first last out out_now (inl same) f = subst (λ (e : FollowEnd). FollowsInput e first last out out_now) (sym same) f
 told_after (ends.Done next) told first last out out_now (inr (done, is)) f =

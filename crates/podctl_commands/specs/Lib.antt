@@ -3,6 +3,7 @@ pub mod Ends
 pub mod Making
 pub mod Texts
 pub mod Prints
+pub mod CountedEnds
 pub mod Laws
 -- what a read is, what a follower makes of frames, how a run ends, and what it has read and written
 -- then

@@ -1,5 +1,5 @@
 //! Printing the changes of a store.
-ghost use Rattle.std.specs.Prelude.{◌≡◌, ◌⊎◌, ◌≤◌, ◌∷◌, List as ListOf, ℕ, IsErrOf, IsTrue};
+ghost use Rattle.std.specs.Prelude.{◌≡◌, ◌≤◌, ◌∷◌, List as ListOf, ℕ, IsErrOf, IsTrue};
 ghost use Rattle.std.specs.Prelude.{IfOk, false};
 ghost use Rattle.audit_trail.specs.Lines.{entry_line};
 ghost use Rattle.pod_io.specs.Writing.{Writes};
@@ -7,6 +7,7 @@ ghost use Rattle.pod_base.specs.Counts.{CountIncreased};
 ghost use Rattle.pod_command.specs.declared.entry.Entry.{Entry as EntryValue};
 ghost use Rattle.pod_keeper.specs.OpenedPods.{OpensDisks};
 ghost use Rattle.pod_records.specs.Readings.{IsEntryOf};
+ghost use Rattle.podctl_commands.specs.CountedEnds.{EndFaultsCounted};
 ghost use Rattle.podctl_commands.specs.Prints.{Prints, ReportsDamage};
 ghost use Rattle.podctl_commands.specs.Records.{HasLine, HaveLines, IsRecordOf};
 ghost use Rattle.podctl_commands.specs.Texts.{audit_text};
@@ -131,14 +132,9 @@ pub fn audit<D: Disk, K: Sink, E: Sink>(
     ensures disks { OpensDisks D.image D.moment D.left_since D.faults disks.first disks.second
         result.disks.first result.disks.second }
 
-    // A fault is returned only where a count increased.
-    ensures disk_fault { result.end ≡ StoreEnd.DiskFault
-        → CountIncreased (D.faults disks.first) (D.faults result.disks.first)
-        ⊎ CountIncreased (D.faults disks.second) (D.faults result.disks.second) }
-    ensures write_fault { result.end ≡ StoreEnd.WriteFault
-        → CountIncreased (K.faults output.old) (K.faults output.new) }
-    ensures writes { K.faults output.old ≤ K.faults output.new }
-    ensures tells { E.faults errors.old ≤ E.faults errors.new }
+    // It ends by a fault only where a count increased.
+    ensures counted { EndFaultsCounted D.faults disks result.disks (K.faults output.old)
+        (K.faults output.new) (E.faults errors.old) (E.faults errors.new) result.end }
 {
     match Keeper::open_records(alloc, disks) {
         Ok((keeper, records)) => {

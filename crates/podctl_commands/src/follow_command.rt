@@ -1,7 +1,10 @@
 //! [`follow`]: a follower over two streams.
-ghost use Rattle.std.specs.Prelude.{◌≡◌, ◌≤◌, ◌⊎◌, ◌<◌, length};
+ghost use Rattle.std.specs.Prelude.{◌≡◌, ◌≤◌, ◌<◌, length};
 ghost use Rattle.pod_base.specs.Counts.{CountIncreased};
+ghost use Rattle.pod_pipe.specs.CountedFaults.{StreamFaultsCounted, no_table};
+ghost use Rattle.pod_pipe.specs.RunStreams.{streams_of};
 ghost use Rattle.podctl_commands.specs.FollowEnds.{CountsFrames, FollowsInput, ReportsFollowEnd};
+ghost use Rattle.podctl_commands.specs.FollowEnds.{status_of_follow_end};
 ghost use Rattle.podctl_commands.specs.Steps.{end_at, fault_end};
 
 use crate::follow_end::FollowEnd;
@@ -53,8 +56,8 @@ fn take_input<S: Source, K: Sink>(alloc: Global, input: &mut S, output: &mut K) 
         → CountIncreased (S.faults input.old) (S.faults input.new) }
     ensures write_fault { result ≡ FollowEnd.WriteFault
         → CountIncreased (K.faults output.old) (K.faults output.new) }
-    ensures faults { S.faults input.old ≤ S.faults input.new }
-    ensures writes { K.faults output.old ≤ K.faults output.new }
+    ensures input_faults { S.faults input.old ≤ S.faults input.new }
+    ensures output_faults { K.faults output.old ≤ K.faults output.new }
 {
     let mut following = Following {
         follower: None,
@@ -99,15 +102,11 @@ pub fn follow<S: Source, K: Sink, E: Sink>(
     ensures counts { CountsFrames result (S.reads input.old) (S.reads input.new)
         (S.ends input.old) (S.ends input.new) }
 
-    // A fault is returned only where a count increased.
-    ensures read_fault { result ≡ FollowEnd.ReadFault
-        → CountIncreased (S.faults input.old) (S.faults input.new) }
-    ensures write_fault { result ≡ FollowEnd.WriteFault
-        → CountIncreased (K.faults output.old) (K.faults output.new)
-        ⊎ CountIncreased (E.faults errors.old) (E.faults errors.new) }
-    ensures faults { S.faults input.old ≤ S.faults input.new }
-    ensures writes { K.faults output.old ≤ K.faults output.new }
-    ensures tells { E.faults errors.old ≤ E.faults errors.new }
+    // It ends by a fault only where a count increased.
+    ensures counted { StreamFaultsCounted no_table
+        (streams_of S.rest S.faults S.reads S.ends K.taken K.faults E.taken E.faults
+        input.old input.new output.old output.new errors.old errors.new)
+        (status_of_follow_end result) }
 {
     let end = take_input(alloc, input, output);
     write_end_line(end, errors)

@@ -3,12 +3,12 @@ ghost use Rattle.std.specs.Prelude.{◌≡◌, ◌⊎◌, ◌≤◌, ◌<◌, []
 ghost use Rattle.std.specs.Prelude.{false};
 ghost use Rattle.iri_ref.specs.Components.{IsAbsolute};
 ghost use Rattle.journal_pair.specs.PairMoments.{EachPair, LeavesPairs};
-ghost use Rattle.pod_base.specs.Counts.{CountIncreased};
 ghost use Rattle.pod_disk.specs.Disk.{Passes, Unchanged};
 ghost use Rattle.pod_io.specs.Counts.{CountsFaults};
 ghost use Rattle.pod_io.specs.Visible.{IfVisible};
 ghost use Rattle.pod_keeper.specs.CrashedPods.{StandsFor};
 ghost use Rattle.pod_keeper.specs.NewStores.{new_history, IsNewStore};
+ghost use Rattle.pod_pipe.specs.CountedFaults.{DiskCountIncreased};
 ghost use Rattle.pod_rows.specs.Base.{is_base};
 ghost use Rattle.podctl_commands.specs.Ends.{IsInitEnd, IsMadeEnd};
 ghost use Rattle.podctl_commands.specs.Making.{HoldsBytes};
@@ -51,9 +51,7 @@ fn are_empty<D: Disk>(disks: &mut Disks<D>) -> Result<bool, Failed>
         (λ c d. D.image disks.old.first c × D.image disks.old.second d) }
     ensures no_fewer_first { D.faults disks.old.first ≤ D.faults disks.new.first }
     ensures no_fewer_second { D.faults disks.old.second ≤ D.faults disks.new.second }
-    ensures counted { IsErr result
-        → CountIncreased (D.faults disks.old.first) (D.faults disks.new.first)
-        ⊎ CountIncreased (D.faults disks.old.second) (D.faults disks.new.second) }
+    ensures counted { IsErr result → DiskCountIncreased D.faults disks.old disks.new }
 {
     if is_empty(&mut disks.first)? {
         is_empty(&mut disks.second)
@@ -84,8 +82,7 @@ fn make<D: Disk>(
     ensures memory_first { result ≡ StoreEnd.NoMemory → disks.new.first ≡ disks.old.first }
     ensures memory_second { result ≡ StoreEnd.NoMemory → disks.new.second ≡ disks.old.second }
     ensures disk_fault { result ≡ StoreEnd.DiskFault
-        → CountIncreased (D.faults disks.old.first) (D.faults disks.new.first)
-        ⊎ CountIncreased (D.faults disks.old.second) (D.faults disks.new.second) }
+        → DiskCountIncreased D.faults disks.old disks.new }
     ensures no_fewer_first { D.faults disks.old.first ≤ D.faults disks.new.first }
     ensures no_fewer_second { D.faults disks.old.second ≤ D.faults disks.new.second }
 {
@@ -128,8 +125,7 @@ pub fn init<D: Disk>(
     ensures empty_second { (result ≡ StoreEnd.Done) ⊎ (result ≡ StoreEnd.NoMemory)
         → IfVisible (D.content disks.old.second) (λ b. b ≡ []) }
     ensures disk_fault { result ≡ StoreEnd.DiskFault
-        → CountIncreased (D.faults disks.old.first) (D.faults disks.new.first)
-        ⊎ CountIncreased (D.faults disks.old.second) (D.faults disks.new.second) }
+        → DiskCountIncreased D.faults disks.old disks.new }
     ensures no_fewer_first { D.faults disks.old.first ≤ D.faults disks.new.first }
     ensures no_fewer_second { D.faults disks.old.second ≤ D.faults disks.new.second }
 

@@ -13,7 +13,7 @@
 //! Proved, for every disk and sink that meets its contract: what is printed is the text of the
 //! snapshot and the entries of the journal that is taken, or the lines of what an agent may do in
 //! the pod after them (`printed`), or the frames of its records (`ships`), whole with status 0; each
-//! end has its cause (`printed`, `told`, `not_empty`, `disk_fault`, `write_fault`), which the others
+//! end has its cause (`printed`, `told`, `not_empty`, `disk_fault`, `counted`), which the others
 //! exclude ([`laws`]); and the disks are returned as an opening leaves them (`disks`).
 //! [`report_laws`] says what the lines of a report are: those of the modes that the agent is
 //! granted, each with a rule that grants it.
@@ -22,7 +22,7 @@
 //! frames and what is left of them; the follower has taken each of these frames (`FollowsAll`); a
 //! frame is refused exactly where nothing can be made of it, by its number; each read is the reply of
 //! the pod at the follower's place; nothing is read after the end of the input (`counts`); and a
-//! fault comes only where a count of an object passed in increased (`read_fault`, `write_fault`).
+//! fault comes only where a count of an object passed in increased (`counted`).
 //! [`follow_laws`] says of which history the pod is where the frames are those of one.
 //!
 //! It depends on `pod_keeper` for the store, on `audit_trail` and `access_report` for lines, on

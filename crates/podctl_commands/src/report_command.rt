@@ -1,7 +1,8 @@
 //! Reporting what an agent may do in the pod of a store.
-ghost use Rattle.std.specs.Prelude.{◌≡◌, ◌⊎◌, ◌≤◌};
+ghost use Rattle.std.specs.Prelude.{◌≡◌, ◌≤◌};
 ghost use Rattle.pod_base.specs.Counts.{CountIncreased};
 ghost use Rattle.pod_keeper.specs.OpenedPods.{OpensDisks};
+ghost use Rattle.podctl_commands.specs.CountedEnds.{EndFaultsCounted};
 ghost use Rattle.podctl_commands.specs.Endings.{IsReportedSo};
 ghost use Rattle.podctl_commands.specs.Lines.{pod_text, report_text};
 ghost use Rattle.podctl_commands.specs.Prints.{Prints, ReportsDamage};
@@ -27,7 +28,7 @@ fn print_report<D: Disk, K: Sink>(
         (K.taken output.new) result }
     ensures write_fault { result ≡ StoreEnd.WriteFault
         → CountIncreased (K.faults output.old) (K.faults output.new) }
-    ensures writes { K.faults output.old ≤ K.faults output.new }
+    ensures output_faults { K.faults output.old ≤ K.faults output.new }
 {
     match report_text(alloc, &**keeper.version(), agent) {
         Ok(text) => written_end(write_all(output, &text)),
@@ -58,14 +59,9 @@ pub fn report<D: Disk, K: Sink, E: Sink>(
     ensures disks { OpensDisks D.image D.moment D.left_since D.faults disks.first disks.second
         result.disks.first result.disks.second }
 
-    // A fault is returned only where a count increased.
-    ensures disk_fault { result.end ≡ StoreEnd.DiskFault
-        → CountIncreased (D.faults disks.first) (D.faults result.disks.first)
-        ⊎ CountIncreased (D.faults disks.second) (D.faults result.disks.second) }
-    ensures write_fault { result.end ≡ StoreEnd.WriteFault
-        → CountIncreased (K.faults output.old) (K.faults output.new) }
-    ensures writes { K.faults output.old ≤ K.faults output.new }
-    ensures tells { E.faults errors.old ≤ E.faults errors.new }
+    // It ends by a fault only where a count increased.
+    ensures counted { EndFaultsCounted D.faults disks result.disks (K.faults output.old)
+        (K.faults output.new) (E.faults errors.old) (E.faults errors.new) result.end }
 {
     match Keeper::open_records(alloc, disks) {
         Ok((keeper, _records)) => {

@@ -1,11 +1,11 @@
 //! Shipping the records of a store.
-ghost use Rattle.std.specs.Prelude.{◌≡◌, ◌⊎◌, ◌≤◌, IfErr, IfOk};
+ghost use Rattle.std.specs.Prelude.{IfErr, IfOk};
 ghost use Rattle.pod_io.specs.Writing.{Writes};
-ghost use Rattle.pod_base.specs.Counts.{CountIncreased};
 ghost use Rattle.pod_follow.specs.Frames.{frame_of, frames_of};
 ghost use Rattle.pod_io.specs.Counts.{CountsFaults};
 ghost use Rattle.pod_keeper.specs.OpenedPods.{OpensDisks};
 ghost use Rattle.pod_records.specs.OpenedStores.{HasPodCause};
+ghost use Rattle.podctl_commands.specs.CountedEnds.{EndFaultsCounted};
 ghost use Rattle.podctl_commands.specs.Endings.{AreStored};
 ghost use Rattle.podctl_commands.specs.Ships.{Ships};
 ghost use Rattle.podctl_commands.specs.Prints.{ReportsDamage};
@@ -89,14 +89,9 @@ pub fn ship<D: Disk, K: Sink, E: Sink>(
     ensures disks { OpensDisks D.image D.moment D.left_since D.faults disks.first disks.second
         result.disks.first result.disks.second }
 
-    // A fault is returned only where a count increased.
-    ensures disk_fault { result.end ≡ StoreEnd.DiskFault
-        → CountIncreased (D.faults disks.first) (D.faults result.disks.first)
-        ⊎ CountIncreased (D.faults disks.second) (D.faults result.disks.second) }
-    ensures write_fault { result.end ≡ StoreEnd.WriteFault
-        → CountIncreased (K.faults output.old) (K.faults output.new) }
-    ensures writes { K.faults output.old ≤ K.faults output.new }
-    ensures tells { E.faults errors.old ≤ E.faults errors.new }
+    // It ends by a fault only where a count increased.
+    ensures counted { EndFaultsCounted D.faults disks result.disks (K.faults output.old)
+        (K.faults output.new) (E.faults errors.old) (E.faults errors.new) result.end }
 {
     match stored_records(alloc, disks) {
         Ok((records, disks)) => {

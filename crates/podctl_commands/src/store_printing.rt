@@ -88,7 +88,7 @@ fn report_fault<E: Sink>(errors: &mut E, fault: OpenFault) -> StoreEnd
     ensures end { result ≡ refused_end fault }
     ensures told { ReportsDamage result (E.taken errors.old) (E.taken errors.new)
         (E.faults errors.old) (E.faults errors.new) }
-    ensures tells { E.faults errors.old ≤ E.faults errors.new }
+    ensures error_faults { E.faults errors.old ≤ E.faults errors.new }
 {
     report_refusal(errors, fault);
     refused_end(fault)
@@ -101,7 +101,7 @@ pub(crate) fn refuse<D: Disk, E: Sink>(refused: NotOpened<D>, errors: &mut E) ->
     ensures second { result.disks.second ≡ refused.disks.second }
     ensures told { ReportsDamage result.end (E.taken errors.old) (E.taken errors.new)
         (E.faults errors.old) (E.faults errors.new) }
-    ensures tells { E.faults errors.old ≤ E.faults errors.new }
+    ensures error_faults { E.faults errors.old ≤ E.faults errors.new }
 {
     let NotOpened { fault, disks } = refused;
     Ended {

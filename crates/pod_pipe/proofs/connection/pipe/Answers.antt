@@ -1,5 +1,5 @@
 use Rattle.pod_pipe.proofs.LongerSessions.{stops_over, writes_session}
-use Rattle.pod_pipe.proofs.ServingLemmas.{comes_to, counts_come_to, tells_since, write_failed}
+use Rattle.pod_pipe.proofs.ServingLemmas.{comes_to, counts_come_to, tells_since}
 use Rattle.pod_pipe.proofs.connection.pipe.Goals as goal
 
 pub returns-clause-pipes : goal.returns-clause-pipes
@@ -8,7 +8,7 @@ returns-clause-pipes g c = λ history doubt held.
     record {
       trailed = g.E.Sink.taken c.serve-end.new.errors;
       pipes = pipes;
-      tells = tells_since c.write_end_line-end.result (g.E.Sink.taken c.serve-end.new.errors) (g.E.Sink.taken c.write_end_line-end.new.errors) (g.E.Sink.faults c.args.errors.now) (g.E.Sink.faults c.serve-end.new.errors) (g.E.Sink.faults c.write_end_line-end.new.errors) c.serve-end.ensures.tells c.write_end_line-end.ensures.told;
+      tells = tells_since c.write_end_line-end.result (g.E.Sink.taken c.serve-end.new.errors) (g.E.Sink.taken c.write_end_line-end.new.errors) (g.E.Sink.faults c.args.errors.now) (g.E.Sink.faults c.serve-end.new.errors) (g.E.Sink.faults c.write_end_line-end.new.errors) c.serve-end.ensures.error_faults c.write_end_line-end.ensures.told;
       over_all = stops_over _ _ _ _ _ c.write_end_line-end.result _ _ _ _ _ _ pipes;
     }
 
@@ -17,6 +17,3 @@ returns-clause-session g c = λ history doubt held. writes_session _ _ _ _ _ c.s
 
 pub returns-clause-counts : goal.returns-clause-counts
 returns-clause-counts g c = counts_come_to c.serve-end.result _ _ _ _ _ c.write_end_line-end.ensures.end c.serve-end.ensures.counts
-
-pub returns-clause-write_fault : goal.returns-clause-write_fault
-returns-clause-write_fault g c = write_failed c.serve-end.result c.write_end_line-end.result _ _ _ (g.E.Sink.faults c.serve-end.new.errors) _ c.write_end_line-end.ensures.failed c.serve-end.ensures.write_fault c.serve-end.ensures.tells c.write_end_line-end.ensures.no_fewer

@@ -1,5 +1,3 @@
-use Rattle.std.proofs.Common.{sym, ◌∙◌}
-use Rattle.pod_tool.proofs.EndLemmas.{init_reads, init_writes, is_disk_fault}
 use Rattle.pod_tool.proofs.store_commands.make.Goals as goal
 
 pub returns-clause-makes : goal.returns-clause-makes
@@ -14,12 +12,3 @@ returns-clause-makes g c = record {
   left = c.init-end.ensures.left;
   stays = c.init-end.ensures.stays;
 }
-
-pub returns-clause-disk_fault : goal.returns-clause-disk_fault
-returns-clause-disk_fault g c = λ is. c.init-end.ensures.disk_fault (is_disk_fault c.init-end.result (sym c.status.ensures ∙ is))
-
-pub returns-clause-no_read : goal.returns-clause-no_read
-returns-clause-no_read g c = λ is. init_reads c.init-end.result c.init-end.ensures.ends (sym c.status.ensures ∙ is)
-
-pub returns-clause-no_write : goal.returns-clause-no_write
-returns-clause-no_write g c = λ is. init_writes c.init-end.result c.init-end.ensures.ends (sym c.status.ensures ∙ is)

@@ -1,4 +1,4 @@
-use Rattle.podctl_commands.proofs.Running.{counted_after, rose, told_after}
+use Rattle.podctl_commands.proofs.Running.{counted_after, told_after}
 use Rattle.podctl_commands.proofs.follow_command.follow.Goals as goal
 
 pub returns-clause-follows : goal.returns-clause-follows
@@ -8,6 +8,3 @@ returns-clause-follows g c =
 pub returns-clause-counts : goal.returns-clause-counts
 returns-clause-counts g c =
     counted_after c.take_input-end.result c.write_end_line.result (g.S.Source.reads c.args.input.now) (g.S.Source.reads c.take_input-end.new.input) (g.S.Source.ends c.args.input.now) (g.S.Source.ends c.take_input-end.new.input) c.write_end_line.ensures.end c.take_input-end.ensures.counts
-
-pub returns-clause-write_fault : goal.returns-clause-write_fault
-returns-clause-write_fault g c = λ e. rose (c.write_end_line.ensures.failed e) c.take_input-end.ensures.write_fault

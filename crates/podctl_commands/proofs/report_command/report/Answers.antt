@@ -1,8 +1,8 @@
-use Rattle.std.proofs.Common.{subst, sym, ◌∙◌}
+use Rattle.std.proofs.Common.{subst, sym}
 use Rattle.podctl_commands.specs.Endings.{IsReportedSo}
 use Rattle.podctl_commands.specs.Lines.{pod_text, report_text}
-use Rattle.podctl_commands.specs.Prints.{Prints, ReportsDamage}
-use Rattle.podctl_commands.proofs.Refused.{refused_prints, refused_write}
+use Rattle.podctl_commands.specs.Prints.{Prints}
+use Rattle.podctl_commands.proofs.Refused.{refused_prints}
 use Rattle.podctl_commands.proofs.EndedRuns.{prints}
 use Rattle.podctl_commands.proofs.report_command.report.Goals as goal
 

@@ -1,10 +1,9 @@
-use Rattle.std.proofs.Common.{subst, sym, ◌∙◌}
+use Rattle.std.proofs.Common.{subst, sym}
 use Rattle.pod_io.specs.Writing.{Writes}
 use Rattle.pod_follow.specs.Frames.{frames_of}
 use Rattle.podctl_commands.specs.Ships.{Ships}
 use Rattle.podctl_commands.specs.Prints.{ReportsDamage}
-use Rattle.podctl_commands.proofs.Refused.{refused_write}
-use Rattle.podctl_commands.proofs.EndedRuns.{refused_ships, ships, written_disk, written_fails, written_told}
+use Rattle.podctl_commands.proofs.EndedRuns.{refused_ships, ships, written_told}
 use Rattle.podctl_commands.proofs.ship_command.ship.Goals as goal
 
 pub returns-in-Ok-clause-ships : goal.returns-in-Ok-clause-ships
@@ -31,12 +30,3 @@ returns-in-Ok-clause-told g c =
     let before = g.E.Sink.faults c.args.errors.now in
     subst (λ end. ReportsDamage end old old before before) (sym c.written_end.ensures)
     (written_told c.write_frames-written.result old before before)
-
-pub returns-in-Ok-clause-disk_fault : goal.returns-in-Ok-clause-disk_fault
-returns-in-Ok-clause-disk_fault g c = λ e. absurd (written_disk c.write_frames-written.result (sym c.written_end.ensures ∙ e))
-
-pub returns-in-Ok-clause-write_fault : goal.returns-in-Ok-clause-write_fault
-returns-in-Ok-clause-write_fault g c = λ e. c.write_frames-written.ensures.faults.failed (written_fails c.write_frames-written.result (sym c.written_end.ensures ∙ e))
-
-pub returns-in-Err-clause-write_fault : goal.returns-in-Err-clause-write_fault
-returns-in-Err-clause-write_fault g c = λ e. absurd (refused_write c.in-Err.refused.fault (sym c.refuse.ensures.end ∙ e))
