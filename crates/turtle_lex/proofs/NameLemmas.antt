@@ -1,21 +1,23 @@
 -- Names of parts and dots, which don't end in a dot.
 use mathlib.Core.List.{IsSuffix}
-use Rattle.std.proofs.Common.{◌≡◌, ℕ, zero, suc, ◌<◌, ◌≤◌, true, ◌⊎◌, inl, inr, List, [], ◌∷◌, ◌++◌, length, get_or, Option, Some, None, IfSome, refl, sym, ap, ◌∙◌, subst, arith, append_assoc, length-append}
+use Rattle.std.proofs.Common.{◌≡◌, ℕ, zero, suc, ◌<◌, ◌≤◌, true, ◌⊎◌, inl, inr, List, [], ◌∷◌, ◌++◌, length, take, drop, get_or, Option, Some, None, IfSome, refl, sym, ap, ◌∙◌, subst, arith, append_assoc, length-append}
 use Rattle.std.proofs.lemmas.Bool.{false≢true, cases_lt}
 use Rattle.std.proofs.lemmas.List.{get_or_at}
 use Rattle.std.proofs.lemmas.Bool.Decides.{nat_tests}
 use Rattle.std.proofs.lemmas.Str.{inside_one, encode_ascii}
 use Rattle.std.specs.Char.{encode_utf8}
+use Rattle.std.specs.List.{list_all}
 use lib.Chars.{codes}
+use lib.Utf8.{low_scalar}
 use Rattle.std.specs.Char.{is_ascii_alphabetic, is_ascii_digit}
 use Rattle.turtle_lex.specs.declared.names.Parts.{Parts}
 use Rattle.turtle_lex.specs.declared.names.Parts.TheVariants.{Plain, Local}
 use Rattle.turtle_lex.specs.Classes.{is_pn_chars, is_pn_chars_u, is_pn_chars_base, is_local_escaped}
 use Rattle.turtle_lex.specs.Pattern.{Pattern, word, one, ◌∘◌, ◌∣◌, many, Matches, Times, MatchesOnly, MatchesLongest}
 use Rattle.turtle_lex.specs.Terminals.{plx, dotted, label, pn_local, pn_prefix, pname_ns}
-use Rattle.turtle_lex.specs.Names.{two_digits, colon_or_plx, name_part, dot, tail, IsTail, label_first, local_first, prefix_and_colon, StartsWithAscii, HasNoPrefixBefore, PrefixesEnd}
-use Rattle.turtle_lex.proofs.Matching.{leaves_suffix, suffix_trans, refused, not_matched, matched_rest, word_clashes, or_left, or_right, then_only, then_refused, heads, char_same, ones_found}
-use Rattle.turtle_lex.proofs.FirstBytes.{excluded}
+use Rattle.turtle_lex.specs.Names.{two_digits, colon_or_plx, name_part, dot, tail, IsTail, label_first, local_first, prefix_and_colon, StartsWithAscii, HasNoPrefixBefore, PrefixesEnd, is_name_byte}
+use Rattle.turtle_lex.proofs.Matching.{one_found, leaves_suffix, suffix_trans, refused, not_matched, matched_rest, word_clashes, or_left, or_right, then_only, then_refused, heads, char_same, ones_found}
+use Rattle.turtle_lex.proofs.FirstBytes.{excluded, and_left, and_right}
 
 pub plx_of_digits : (s m : List ℕ) (o : Option (List ℕ)) → MatchesOnly (word (codes "%")) s (Some m) → MatchesOnly two_digits m o → MatchesOnly plx s o
 unfolding plx
@@ -358,6 +360,61 @@ inside_end s end t run h k u r f less low x = elim (run.inside u r f less low x)
   | inl y ↦ absurd (none_first (name_part Plain) t y.0 h k y.1)
   | inr y ↦ y
 ]
+
+-- how far a name is read
+pub record Reach (parts : Parts) (s end rest : List ℕ) : Type 0 where
+  pub run : Run (name_part parts) s end rest
+  pub suffix : IsSuffix rest s
+  pub inside : parts ≡ Plain → PrefixesContinue s end rest
+
+pub reach_start : (parts : Parts) (s : List ℕ) → Reach parts s s s
+reach_start parts s = record {
+  run = run_start (name_part parts) s;
+  suffix = ([], refl);
+  inside = λ plain. inside_start s;
+}
+
+pub reach_part : (parts : Parts) (s end t m : List ℕ) → Reach parts s end t → MatchesOnly (name_part parts) t (Some m) → Reach parts s m m
+reach_part parts s end t m h k =
+    let no_dot = part_no_dot parts t m k.found in
+    record {
+      run = run_part (name_part parts) s end t m h.run k no_dot;
+      suffix = suffix_trans s t m h.suffix (leaves_suffix (name_part parts) t m k.found);
+      inside = λ plain. inside_part s end t m h.suffix (h.inside plain) (subst (λ (p : Parts). MatchesOnly (name_part p) t (Some m)) plain k) no_dot;
+    }
+
+pub reach_dot : (parts : Parts) (s end t m : List ℕ) → Reach parts s end t → MatchesOnly (name_part parts) t None → MatchesOnly dot t (Some m) → Reach parts s end m
+reach_dot parts s end t m h none k = record {
+  run = run_dot (name_part parts) s end t m h.run none k;
+  suffix = suffix_trans s t m h.suffix (leaves_suffix dot t m k.found);
+  inside = λ plain. inside_dot s end t m h.suffix (h.inside plain) (subst (λ (p : Parts). MatchesOnly (name_part p) t None) plain none) k;
+}
+
+reach_times : (parts : Parts) (s t r : List ℕ) (n : ℕ) → Reach parts s t t → Times (Matches (one is_pn_chars)) n t r → Reach parts s r r
+reach_times parts s t r zero h e = subst (λ (u : List ℕ). Reach parts s u u) e h
+reach_times parts s t r (suc n) h (m, x, xs) =
+    reach_times parts s m r n (reach_part parts s t t m h (part_found parts t m (one_found is_pn_chars t x.0 m x.1 x.3 x.2))) xs
+
+-- the name goes on over a run of PN_CHARS
+pub reach_run : (parts : Parts) (s t r : List ℕ) → Reach parts s t t → Matches (many (one is_pn_chars)) t r → Reach parts s r r
+reach_run parts s t r h x = reach_times parts s t r x.0 h x.1
+
+name_byte_small : (b : ℕ) → is_name_byte b ≡ true → b < 128
+unfolding is_name_byte
+name_byte_small b h = grind (arith, nat_tests)
+
+name_byte_part : (b : ℕ) → is_name_byte b ≡ true → is_pn_chars b ≡ true
+unfolding is_name_byte is_pn_chars is_pn_chars_u is_pn_chars_base
+name_byte_part b h = grind (arith, nat_tests)
+
+pub name_bytes_run : (text : List ℕ) (n : ℕ) → list_all is_name_byte (take n text) ≡ true → Matches (many (one is_pn_chars)) text (drop n text)
+name_bytes_run text zero h = (0, refl)
+name_bytes_run [] (suc n) h = (0, refl)
+name_bytes_run (b ∷ s) (suc n) h =
+    let passes = and_left (is_name_byte b) (list_all is_name_byte (take n s)) h in
+    let small = name_byte_small b passes in
+    let more = name_bytes_run s n (and_right (is_name_byte b) (list_all is_name_byte (take n s)) h) in
+    (suc more.0, (s, (b, low_scalar b (omega (arith, small)), name_byte_part b passes, ap (λ (t : List ℕ). t ++ s) (sym (encode_ascii b small))), more.1))
 
 -- what is known of names
 pub nothing_known : (s : List ℕ) → HasNoPrefixBefore s s

@@ -1,14 +1,15 @@
 -- Runs of plain characters in an IRIREF or a String.
-use Rattle.std.proofs.Common.{◌≡◌, ℕ, zero, suc, ◌<◌, ◌≤◌, Bool, true, false, ◌&&◌, ⊎_elim, List, [], ◌∷◌, ◌++◌}
-use Rattle.std.proofs.Common.{take, drop, Some, None, refl, sym, ap, ◌∙◌, subst, arith, append_assoc}
+use Rattle.std.proofs.Common.{◌≡◌, ℕ, zero, suc, ◌<◌, ◌≤◌, Bool, true, false, not, ◌&&◌, ⊎_elim, List, [], ◌∷◌, ◌++◌}
+use Rattle.std.proofs.Common.{length, take, drop, Some, None, refl, sym, ap, ◌∙◌, subst, arith, append_assoc}
 use Rattle.std.specs.List.{list_all}
 use Rattle.std.specs.Str.{IsUtf8, all_scalars, encode_utf8_all}
 use Rattle.std.specs.Char.{encode_utf8}
 use Rattle.std.proofs.Math.Utf8.{scalar}
 use Rattle.std.proofs.lemmas.Bool.{false≢true, cases_lt}
 use Rattle.std.proofs.lemmas.Bool.Decides.{nat_tests}
-use Rattle.std.proofs.lemmas.List.{take-take, take-append-drop}
+use Rattle.std.proofs.lemmas.List.{take-take, take-append-drop, length-take}
 use Rattle.std.proofs.lemmas.Str.{encode_ascii}
+use Rattle.memchr.specs.Find.{Passes}
 use Rattle.turtle_lex.specs.declared.classes.Quote.{Quote}
 use Rattle.turtle_lex.specs.declared.classes.Quote.TheVariants.{Double, Single}
 use Rattle.turtle_lex.specs.declared.delimited.Content.{Content}
@@ -17,7 +18,7 @@ use Rattle.turtle_lex.specs.Classes.{is_iri_char, is_line_char, is_long_char, qu
 use Rattle.turtle_lex.specs.ClassOf.{in_class}
 use Rattle.turtle_lex.specs.Pattern.{word, one, ◌∘◌, ◌∣◌, many, Matches, Times, MatchesOnly}
 use Rattle.turtle_lex.specs.Terminals.{uchar, echar}
-use Rattle.turtle_lex.specs.Delimited.{part, close, plain_class}
+use Rattle.turtle_lex.specs.Delimited.{part, close, plain_class, is_neither}
 use Rattle.turtle_lex.proofs.Matching.{refused, not_matched, one_found, or_left, ascii_one, SameEnds, same_step}
 use Rattle.turtle_lex.proofs.FirstBytes.{and_left, and_right}
 use Rattle.turtle_lex.proofs.EscapeLemmas.{uchar_head, escape_head, char_no_escape}
@@ -35,17 +36,58 @@ plain_high (Line Single) c h = grind (arith, nat_tests)
 plain_high (Long Double) c h = grind (arith, nat_tests)
 plain_high (Long Single) c h = grind (arith, nat_tests)
 
+both : (x y : Bool) → x ≡ true → y ≡ true → (x && y) ≡ true
+both true y p q = q
+both false y p q = absurd (false≢true p)
+
 all_left : (f : ℕ → Bool) (t u : List ℕ) → list_all f (t ++ u) ≡ true → list_all f t ≡ true
 all_left f [] u h = refl
 all_left f (b ∷ t) u h = both (f b) (list_all f t) (and_left (f b) (list_all f (t ++ u)) h) (all_left f t u (and_right (f b) (list_all f (t ++ u)) h))
-  where
-    both : (x y : Bool) → x ≡ true → y ≡ true → (x && y) ≡ true
-    both true y p q = q
-    both false y p q = absurd (false≢true p)
 
 all_right : (f : ℕ → Bool) (t u : List ℕ) → list_all f (t ++ u) ≡ true → list_all f u ≡ true
 all_right f [] u h = h
 all_right f (b ∷ t) u h = all_right f t u (and_right (f b) (list_all f (t ++ u)) h)
+
+-- the bytes before the first that passes
+not_passed : (x y : Bool) → (x ≡ true → ⊥) → y ≡ true → (not x && y) ≡ true
+not_passed true y h e = absurd (h refl)
+not_passed false y h e = e
+
+pub all_before : (test : ℕ → Bool) (text : List ℕ) (n : ℕ) → ((k : ℕ) → k < n → Passes test text k → ⊥) → list_all (λ b. not (test b)) (take n text) ≡ true
+all_before test text zero h = refl
+all_before test [] (suc n) h = refl
+all_before test (b ∷ text) (suc n) h =
+    not_passed (test b) (list_all (λ b. not (test b)) (take n text)) (λ e. h 0 (omega arith) e) (all_before test text n (λ k lt e. h (suc k) (omega (arith, lt)) e))
+
+-- what holds of each byte where two tests do
+all_by : (f g h : ℕ → Bool) → ((b : ℕ) → f b ≡ true → g b ≡ true → h b ≡ true) → (s : List ℕ) → list_all f s ≡ true → list_all g s ≡ true → list_all h s ≡ true
+all_by f g h by [] p q = refl
+all_by f g h by (b ∷ s) p q = both (h b) (list_all h s)
+    (by b (and_left (f b) (list_all f s) p) (and_left (g b) (list_all g s) q))
+    (all_by f g h by s (and_right (f b) (list_all f s) p) (and_right (g b) (list_all g s) q))
+
+neither_long : (quote : Quote) (b : ℕ) → is_neither (quote_char quote) 0x5C b ≡ true → is_long_char quote b ≡ true
+unfolding is_long_char
+neither_long Double b h = grind (arith, nat_tests)
+neither_long Single b h = grind (arith, nat_tests)
+
+pub all_long : (quote : Quote) (s : List ℕ) → list_all (is_neither (quote_char quote) 0x5C) s ≡ true → list_all (is_long_char quote) s ≡ true
+all_long quote s h = all_by (is_neither (quote_char quote) 0x5C) (is_neither (quote_char quote) 0x5C) (is_long_char quote) (λ b e f. neither_long quote b e) s h h
+
+long_line : (quote : Quote) (b : ℕ) → is_long_char quote b ≡ true → is_neither 0xA 0xD b ≡ true → is_line_char quote b ≡ true
+unfolding is_long_char is_line_char
+long_line Double b h k = grind (arith, nat_tests)
+long_line Single b h k = grind (arith, nat_tests)
+
+-- of the bytes of a run in a long String those before the end of a line
+pub all_line : (quote : Quote) (text : List ℕ) (n m : ℕ) → m ≤ length (take n text) → list_all (is_long_char quote) (take n text) ≡ true
+    → list_all (is_neither 0xA 0xD) (take m (take n text)) ≡ true → list_all (is_line_char quote) (take m text) ≡ true
+all_line quote text n m le h k =
+    let near : take m (take n text) ≡ take m text = take-take m n text (omega (arith, le, length-take n text)) in
+    let long : list_all (is_long_char quote) (take m (take n text)) ≡ true = all_left (is_long_char quote) (take m (take n text)) (drop m (take n text))
+    (ap (list_all (is_long_char quote)) (take-append-drop m (take n text)) ∙ h) in
+    ap (list_all (is_line_char quote)) (sym near)
+    ∙ all_by (is_long_char quote) (is_neither 0xA 0xD) (is_line_char quote) (long_line quote) (take m (take n text)) long k
 
 -- a character whose bytes are plain is plain
 plain_char : (content : Content) (c : ℕ) (rest : List ℕ) → list_all (plain content) (encode_utf8 c ++ rest) ≡ true → plain content c ≡ true

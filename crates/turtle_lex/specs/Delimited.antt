@@ -1,5 +1,5 @@
 -- What lies between delimiters: the content of an IRIREF and of a String.
-use Rattle.std.specs.Prelude.{◌≡◌, ℕ, List, Option, Some, IfSome}
+use Rattle.std.specs.Prelude.{◌≡◌, ℕ, Bool, not, ◌||◌, ◌==◌, List, Option, Some, IfSome}
 use lib.Chars.{codes}
 use Rattle.turtle_lex.specs.declared.classes.Quote.{Quote}
 use Rattle.turtle_lex.specs.declared.classes.Class.{Class}
@@ -23,6 +23,10 @@ abbrev pub plain_class : Content → Class
 plain_class Iri = InIri
 plain_class (Line quote) = InLineString quote
 plain_class (Long quote) = InLongString quote
+
+-- the byte is neither of these two
+abbrev pub is_neither : ℕ → ℕ → ℕ → Bool
+is_neither first second b = not (b == first || b == second)
 
 -- the closing delimiter
 abbrev pub close : Content → Pattern

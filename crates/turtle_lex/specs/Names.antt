@@ -1,7 +1,7 @@
 -- Names of parts and dots, which don't end in a dot.
 use mathlib.Core.List.{IsSuffix}
-use Rattle.std.specs.Prelude.{◌≡◌, ℕ, ◌<◌, ◌≤◌, List, [], ◌∷◌, length, None}
-use Rattle.std.specs.Char.{is_ascii_digit, is_ascii_hexdigit}
+use Rattle.std.specs.Prelude.{◌≡◌, ℕ, ◌<◌, ◌≤◌, Bool, ◌||◌, ◌==◌, List, [], ◌∷◌, length, None}
+use Rattle.std.specs.Char.{is_ascii_digit, is_ascii_hexdigit, is_ascii_alphabetic}
 use lib.Chars.{codes}
 use Rattle.turtle_lex.specs.declared.names.Parts.{Parts}
 use Rattle.turtle_lex.specs.declared.names.Parts.TheVariants.{Plain, Local}
@@ -21,6 +21,10 @@ colon_or_plx = word (codes ":") ∣ plx
 abbrev pub name_part : Parts → Pattern
 name_part Plain = one is_pn_chars
 name_part Local = one is_pn_chars ∣ colon_or_plx
+
+-- the ASCII of PN_CHARS
+unfoldable pub is_name_byte : ℕ → Bool
+is_name_byte b = is_ascii_alphabetic b || is_ascii_digit b || b == 0x5F || b == 0x2D
 
 -- what a label, and what a local name, may begin with
 abbrev pub label_first : Pattern

@@ -8,6 +8,7 @@ use bstr::decode_utf8;
 
 /// The first character of the text, and what follows it. Returns `None` exactly where the text is
 /// empty or begins with bytes that are no UTF-8.
+#[inline(always)]
 pub(crate) fn first_char(text: &[u8]) -> Option<(char, &[u8])>
     ensures found { IfSome result (λ p. IsScalar p.0 × (text.now ≡ encode_utf8 p.0 ++ p.1.now)) }
     ensures none { IfNone result (HasNoFirstChar text.now) }

@@ -65,7 +65,7 @@ pub(crate) enum Class {
 }
 
 impl Class {
-    /// Whether the character is of the class.
+    #[inline(always)]
     pub(crate) fn contains(self, c: char) -> bool
         ensures { result ≡ in_class self c }
     {
@@ -91,7 +91,8 @@ impl Class {
     }
 }
 
-/// What follows one character of the class.
+/// What follows a character of the class.
+#[inline(always)]
 pub(crate) fn strip_one(text: &[u8], class: Class) -> Option<&[u8]>
     ensures matches { MatchesOnly (one (in_class class)) text.now (option_copied result) }
     ensures shorter { IfSome result (λ rest. length rest.now < length text.now) }
@@ -128,7 +129,7 @@ fn is_in_line(c: char) -> bool
 
 /// Whether the character is of the class that an IRIREF may hold, beside escapes.
 #[tactic(auto, unfolding(crate::specs::Classes::is_iri_char))]
-fn is_iri_char(c: char) -> bool
+pub(crate) fn is_iri_char(c: char) -> bool
     ensures { result ≡ is_iri_char c }
 {
     !matches!(

@@ -1,12 +1,14 @@
 //! Names: labels, prefixes and local names.
 
-ghost use Rattle.std.specs.Prelude.{◌≡◌, ◌<◌, ◌≤◌, length, IfSome};
+ghost use Rattle.std.specs.Prelude.{◌≡◌, ◌<◌, ◌≤◌, true, length, take, IfSome};
+ghost use Rattle.std.specs.List.{list_all};
 ghost use Rattle.std.specs.Option.{option_copied};
-ghost use Rattle.turtle_lex.specs.Pattern.{MatchesOnly, MatchesLongest};
+ghost use Rattle.turtle_lex.specs.Classes.{is_pn_chars};
+ghost use Rattle.turtle_lex.specs.Pattern.{one, many, Matches, MatchesOnly, MatchesLongest};
 ghost use Rattle.turtle_lex.specs.Terminals.{plx, label, pn_local, pname_ns};
 ghost use Rattle.turtle_lex.specs.declared.names.Parts.TheVariants as Parts;
 ghost use Rattle.turtle_lex.specs.Names.{HasNoPrefixBefore, PrefixesEnd, two_digits, colon_or_plx};
-ghost use Rattle.turtle_lex.specs.Names.{name_part, IsTail, label_first, local_first};
+ghost use Rattle.turtle_lex.specs.Names.{name_part, IsTail, label_first, local_first, is_name_byte};
 ghost use Rattle.turtle_lex.specs.Names.{prefix_and_colon};
 
 use crate::classes::{Class, strip_one};
@@ -69,18 +71,47 @@ fn strip_name_part(text: &[u8], parts: Parts) -> Option<&[u8]>
     }
 }
 
+/// Whether the byte is a PN_CHARS by itself.
+#[tactic(auto, unfolding(crate::specs::Names::is_name_byte))]
+fn is_name_byte(byte: u8) -> bool
+    ensures { result ≡ is_name_byte byte }
+{
+    matches!(byte, b'A'..=b'Z' | b'a'..=b'z' | b'0'..=b'9' | b'_' | b'-')
+}
+
+/// How many bytes at the start are each a PN_CHARS.
+fn name_len(text: &[u8]) -> usize
+    ensures within { result ≤ length text.now }
+    ensures name { list_all is_name_byte (take result text.now) ≡ true }
+{
+    for index in 0..text.len() {
+        if !is_name_byte(text[index]) {
+            return index;
+        }
+    }
+    text.len()
+}
+
+/// What follows the bytes at the start that are each a PN_CHARS.
+fn strip_name_bytes(text: &[u8]) -> &[u8]
+    ensures run { Matches (many (one is_pn_chars)) text.now result.now }
+    ensures no_longer { length result.now ≤ length text.now }
+{
+    text.split_at(name_len(text)).1
+}
+
 /// Where a name ends after its first part, and where its parts and dots end.
 fn strip_tail(text: &[u8], parts: Parts) -> (&[u8], &[u8])
     ensures name { IsTail (name_part parts) text.now result.0.now result.1.now }
     ensures prefixes { parts ≡ Parts.Plain → PrefixesEnd text.now result.0.now result.1.now }
 {
-    let mut end = text;
-    let mut rest = text;
+    let mut end = strip_name_bytes(text);
+    let mut rest = end;
     loop {
         match strip_name_part(rest, parts) {
             Some(after) => {
-                rest = after;
-                end = after;
+                rest = strip_name_bytes(after);
+                end = rest;
             }
             None => match strip_word(rest, b".") {
                 Some(after) => rest = after,

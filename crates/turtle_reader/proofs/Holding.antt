@@ -17,7 +17,7 @@ use Rattle.turtle_reader.specs.declared.kept_meanings.Kept.{Kept}
 use Rattle.turtle_reader.specs.declared.kept_meanings.KeptMeanings.{KeptMeanings}
 use Rattle.turtle_reader.specs.declared.meaning.Meaning.{Meaning}
 use Rattle.turtle_reader.specs.declared.reader.Reader.{Reader}
-use Rattle.turtle_reader.specs.Kept.{IsKept, AreKept, Has, entries, entries_with, is_referred_to, with_meaning, DropsUnnamed, ShortensTo, DropsLast}
+use Rattle.turtle_reader.specs.Kept.{IsKept, AreKept, Has, entries, is_referred_to, with_meaning, DropsUnnamed, ShortensTo}
 use Rattle.turtle_reader.specs.Readings.{IsHeld, AreHeld, produced_last}
 
 -- What is among kept meanings
@@ -40,38 +40,11 @@ all_left : (P : Kept → Type 0) (xs ys : List Kept) → All P (xs ++ ys) → Al
 all_left P [] ys h = All-nil P
 all_left P (x ∷ xs) ys h = All-cons P x xs (All-head P x (xs ++ ys) h) (all_left P xs ys (All-tail P x (xs ++ ys) h))
 
-all_right : (P : Kept → Type 0) (xs ys : List Kept) → All P (xs ++ ys) → All P ys
-all_right P [] ys h = h
-all_right P (x ∷ xs) ys h = all_right P xs ys (All-tail P x (xs ++ ys) h)
-
-list_kept : (i : ℕ) (list : List Kept) (last : Option Kept) → Has i list → Has i (entries_with list last)
-list_kept i list None h = h
-list_kept i list (Some k) h = has_left i list (k ∷ []) h
-
-split_last : (i : ℕ) (list : List Kept) (last : Option Kept) → Has i (entries_with list last) → Has i list ⊎ Has i (entries_with [] last)
-split_last i list None h = inl h
-split_last i list (Some k) h = has_parts i list (k ∷ []) h
-
-pub in_parts : (all : List Meaning) (list : List Kept) (last : Option Kept) → All (IsKept all) (entries_with list last)
-    → All (IsKept all) list × All (IsKept all) (entries_with [] last)
-in_parts all list None h = (h, All-nil (IsKept all))
-in_parts all list (Some k) h = (all_left (IsKept all) list (k ∷ []) h, all_right (IsKept all) list (k ∷ []) h)
-
-from_parts : (all : List Meaning) (list : List Kept) (last : Option Kept) → All (IsKept all) list → All (IsKept all) (entries_with [] last)
-    → All (IsKept all) (entries_with list last)
-from_parts all list None h k = h
-from_parts all list (Some x) h k = All-append (IsKept all) list (x ∷ []) h k
-
 -- what isn't the last one is among those before it
 pub has_before : (i : ℕ) (list rest : List Kept) (last : Kept) → list ≡ rest ++ last ∷ [] → (last.index ≡ i → ⊥) → Has i list → Has i rest
 has_before i list rest last is other h =
     ⊎_elim (λ left. left) (λ here. ⊎_elim (λ same. absurd (other same)) (λ none. absurd none) here)
     (has_parts i rest (last ∷ []) (subst (Has i) is h))
-
-pub not_in_parts : {X : Type 0} (r : Option X) (i : ℕ) (list : List Kept) (last : Option Kept) → IfNone r (Has i list → ⊥)
-    → (Has i (entries_with [] last) → ⊥) → IfNone r (Has i (entries_with list last) → ⊥)
-not_in_parts (Some x) i list last in_list in_last = tt
-not_in_parts None i list last in_list in_last = λ h. ⊎_elim in_list in_last (split_last i list last h)
 
 pub before_kept : (all : List Meaning) (list rest : List Kept) (last : Kept) → list ≡ rest ++ last ∷ [] → All (IsKept all) list → All (IsKept all) rest
 before_kept all list rest last is h = all_left (IsKept all) rest (last ∷ []) (subst (All (IsKept all)) is h)
@@ -91,36 +64,12 @@ module _ (machine : Machine) where
   shortens_on old mid new last (dropped, is, unnamed) parts avoids =
       (last ∷ dropped, is ∙ ap (λ ks. ks ++ dropped) parts ∙ append_assoc new (last ∷ []) dropped, All-cons Unnamed last dropped avoids unnamed)
 
-  last_kept : (i : ℕ) (list : List Kept) (old new : Option Kept) → DropsLast machine old new
-      → Has i (entries_with [] old) → Has i (entries_with list new) ⊎ Avoids i machine
-  last_kept i list None new drops h = absurd h
-  last_kept i list (Some k) new (inl same) h = inl (subst (λ o. Has i (entries_with list o)) (sym same) (has_right i list (k ∷ []) h))
-  last_kept i list (Some k) new (inr (none, avoids)) (inl e) = inr (subst (λ n. Avoids n machine) e avoids)
-  last_kept i list (Some k) new (inr (none, avoids)) (inr h) = absurd h
+  pub drops_unnamed : (old new : KeptMeanings) → ShortensTo machine old.list.items new.list.items → DropsUnnamed machine old new
+  drops_unnamed old new (dropped, is, unnamed) i h =
+      ⊎_elim (λ left. inl left) (λ gone. inr (unnamed_avoided i dropped unnamed gone)) (has_parts i new.list.items dropped (subst (Has i) is h))
 
-  pub drops_unnamed : (old new : KeptMeanings) → ShortensTo machine old.list.items new.list.items → DropsLast machine old.last new.last
-      → DropsUnnamed machine old new
-  drops_unnamed old new (dropped, is, unnamed) drops i h =
-      ⊎_elim
-      (λ in_list. ⊎_elim
-      (λ left. inl (list_kept i new.list.items new.last left))
-      (λ gone. inr (unnamed_avoided i dropped unnamed gone))
-      (has_parts i new.list.items dropped (subst (Has i) is in_list)))
-      (λ in_last. last_kept i new.list.items old.last new.last drops in_last)
-      (split_last i old.list.items old.last h)
-
-  last_stays : (all : List Meaning) (old new : Option Kept) → DropsLast machine old new → All (IsKept all) (entries_with [] old)
-      → All (IsKept all) (entries_with [] new)
-  last_stays all old new (inl same) h = subst (λ o. All (IsKept all) (entries_with [] o)) (sym same) h
-  last_stays all old new (inr (none, avoids)) h = subst (λ o. All (IsKept all) (entries_with [] o)) (sym none) (All-nil (IsKept all))
-
-  pub drops_kept : (old new : KeptMeanings) → ShortensTo machine old.list.items new.list.items → DropsLast machine old.last new.last
-      → (all : List Meaning) → AreKept all old → AreKept all new
-  drops_kept old new (dropped, is, unnamed) drops all h =
-      let parts = in_parts all old.list.items old.last h in
-      from_parts all new.list.items new.last
-      (all_left (IsKept all) new.list.items dropped (subst (All (IsKept all)) is parts.0))
-      (last_stays all old.last new.last drops parts.1)
+  pub drops_kept : (old new : KeptMeanings) → ShortensTo machine old.list.items new.list.items → (all : List Meaning) → AreKept all old → AreKept all new
+  drops_kept old new (dropped, is, unnamed) all h = all_left (IsKept all) new.list.items dropped (subst (All (IsKept all)) is h)
 
 -- What productions name is kept
 

@@ -1,6 +1,6 @@
 -- What a reader keeps of what its lexemes mean: of each that is kept its index.
-use Rattle.std.specs.Prelude.{◌≡◌, ◌⊎◌, ℕ, Bool, true, false, List, [], ◌∷◌, ◌++◌, Option, Some, None}
-use Rattle.std.specs.Prelude.{IfSome, slice_get}
+use Rattle.std.specs.Prelude.{◌≡◌, ◌⊎◌, ℕ, Bool, true, false, List, [], ◌∷◌, ◌++◌, Some}
+use Rattle.std.specs.Prelude.{slice_get}
 use Rattle.std.specs.List.{All}
 use Rattle.turtle_grammar.specs.declared.machine.Machine.{Machine}
 use Rattle.turtle_grammar.specs.Readings.{Avoids}
@@ -9,13 +9,9 @@ use Rattle.turtle_reader.specs.declared.meaning.Meaning.TheVariants as meaning_o
 use Rattle.turtle_reader.specs.declared.kept_meanings.Kept.{Kept}
 use Rattle.turtle_reader.specs.declared.kept_meanings.KeptMeanings.{KeptMeanings}
 
-abbrev pub entries_with : List Kept → Option Kept → List Kept
-entries_with list None = list
-entries_with list (Some last) = list ++ last ∷ []
-
--- all that is kept, the last one last
+-- all that is kept
 abbrev pub entries : KeptMeanings → List Kept
-entries kept = entries_with kept.list.items kept.last
+entries kept = kept.list.items
 
 -- It is what the lexeme of its index means, where all lexemes mean these.
 abbrev pub IsKept : List Meaning → Kept → Type 0
@@ -54,7 +50,3 @@ DropsUnnamed machine old new = (index : ℕ) → Has index (entries old)
 abbrev pub ShortensTo : Machine → List Kept → List Kept → Type 0
 ShortensTo machine old new = (dropped : List Kept) × (old ≡ new ++ dropped)
     × All (λ kept. Avoids kept.index machine) dropped
-
-abbrev pub DropsLast : Machine → Option Kept → Option Kept → Type 0
-DropsLast machine old new = (new ≡ old)
-    ⊎ ((new ≡ None) × IfSome old (λ kept. Avoids kept.index machine))

@@ -1,12 +1,13 @@
 //! How many bytes of terms a reader may still make.
 
+use crate::meaning::Meaning;
 use pod_base::{Mem, NoMemory};
+use rdf_graph::Term;
 use turtle_lex::{Token, TokenKind};
 
 /// The most bytes of terms that reading one text makes, those of directives included. Past it the
-/// reader is out of memory. A term, a language tag and a name count as the bytes of their token, a
-/// relative reference as those of the base beside them, and a name with a prefix as those of the
-/// prefix's IRI beside them.
+/// reader is out of memory. An IRI counts as written in full, between brackets, and any other term,
+/// a language tag and a name as the bytes of their token.
 pub const TERM_BYTES_LIMIT: usize = 33_554_432;
 
 /// The most lexemes of one statement. Past it the reader is out of memory. A block of an update and
@@ -28,49 +29,23 @@ pub(crate) fn spend(left: &mut usize, bytes: usize) -> Mem<()> {
     }
 }
 
-/// Whether tokens of the kind count for a reader's budget, since their meaning takes memory.
+/// Whether tokens of the kind mean something that takes memory as they are written.
 fn takes_memory(kind: TokenKind) -> bool {
     match kind {
-        TokenKind::IriRef | TokenKind::PnameNs | TokenKind::PnameLn => true,
-        TokenKind::BlankLabel | TokenKind::Variable | TokenKind::LangTag => true,
-        TokenKind::Quoted | TokenKind::Integer | TokenKind::Decimal => true,
-        TokenKind::Double | TokenKind::True | TokenKind::False => true,
+        TokenKind::PnameNs | TokenKind::BlankLabel | TokenKind::Variable => true,
+        TokenKind::LangTag | TokenKind::Quoted | TokenKind::Integer => true,
+        TokenKind::Decimal | TokenKind::Double | TokenKind::True | TokenKind::False => true,
         _ => false,
     }
 }
 
-/// The bytes of a token that count for a reader's budget, since its meaning takes memory.
-pub(crate) fn written_bytes(token: &Token) -> usize {
-    if takes_memory(token.kind) {
-        token.to.saturating_sub(token.from)
-    } else {
-        0
-    }
-}
-
-/// Whether the scheme of a reference may have the byte.
-fn is_scheme_byte(byte: u8) -> bool {
-    byte.is_ascii_alphanumeric() || matches!(byte, b'+' | b'-' | b'.')
-}
-
-/// Whether the rest of a reference's scheme and its `:` come first.
-fn ends_scheme(text: &[u8]) -> bool {
-    for byte in text {
-        if *byte == b':' {
-            return true;
+/// The bytes that a token of this meaning counts.
+pub(crate) fn meaning_bytes(token: &Token, meaning: &Meaning) -> usize {
+    match meaning {
+        Meaning::Term(Term::Iri(iri)) if token.kind != TokenKind::A => {
+            iri.as_str().len().saturating_add(2)
         }
-        if !is_scheme_byte(*byte) {
-            return false;
-        }
-    }
-    false
-}
-
-/// Whether a reference has a scheme, so that the bytes of no base count for the budget. One whose
-/// scheme is written with an escape counts as relative.
-pub(crate) fn has_scheme(reference: &[u8]) -> bool {
-    match reference.split_first() {
-        Some((first, rest)) => first.is_ascii_alphabetic() && ends_scheme(rest),
-        None => false,
+        _ if takes_memory(token.kind) => token.to.saturating_sub(token.from),
+        _ => 0,
     }
 }

@@ -8,7 +8,7 @@ ghost use Rattle.turtle_reader.specs.Lexemes.{IsLexemeOf};
 ghost use Rattle.turtle_reader.specs.Meanings.{IsMeaning, IsTokenMeaning};
 ghost use Rattle.turtle_reader.specs.Contexts.{at_start, opened, named, meant_iri, advanced};
 
-use crate::budget::{has_scheme, spend, written_bytes};
+use crate::budget::{meaning_bytes, spend};
 use crate::lexeme::Lexeme;
 use crate::meaning::{Meaning, plain_meaning};
 use iri_ref::Iri;
@@ -17,7 +17,7 @@ use rdf_graph::{Term, copy_iri};
 use std::alloc::Global;
 use turtle_grammar::Symbol;
 use turtle_lex::{Token, TokenKind};
-use turtle_terms::{Scope, TurtleFault, Vocabulary, prefix};
+use turtle_terms::{RecentIris, Scope, TurtleFault, Vocabulary, prefix};
 
 /// How far a directive has come.
 #[derive(Debug, Drop)]
@@ -84,45 +84,12 @@ impl Context {
         })
     }
 
-    /// The bytes of the context's base, where an IRIREF is resolved against it.
-    fn base_bytes(&self, bytes: &[u8], token: &Token) -> usize
-        requires { IsTokenOf bytes.now token.now }
-    {
-        match bytes[token.from..token.to].split_first() {
-            Some((_, reference)) if has_scheme(reference) => 0,
-            _ => self.base.as_str().len(),
-        }
-    }
-
-    /// The bytes of the IRI of a name's prefix in the context.
-    fn prefix_bytes(&self, bytes: &[u8], token: &Token) -> usize
-        requires { IsTokenOf bytes.now token.now }
-    {
-        match self.scope.iri(prefix(bytes, token)) {
-            Some(iri) => iri.as_str().len(),
-            None => 0,
-        }
-    }
-
-    /// The bytes that a token counts against the limit, where it is no prefix that is declared.
-    fn term_bytes(&self, bytes: &[u8], token: &Token) -> usize
-        requires { IsTokenOf bytes.now token.now }
-    {
-        let written = written_bytes(token);
-        match token.kind {
-            TokenKind::IriRef => written.saturating_add(self.base_bytes(bytes, token)),
-            TokenKind::PnameNs => written.saturating_add(self.prefix_bytes(bytes, token)),
-            TokenKind::PnameLn => written.saturating_add(self.prefix_bytes(bytes, token)),
-            _ => written,
-        }
-    }
-
-    /// What a token means in the context. Its bytes are taken off those that are left.
+    /// What a token means here.
     fn token_meaning(
         &self,
         alloc: Global,
         vocabulary: &Vocabulary,
-        left: &mut usize,
+        recent: &mut RecentIris,
         bytes: &[u8],
         token: &Token,
     ) -> Result<Meaning, TurtleFault>
@@ -134,14 +101,18 @@ impl Context {
     {
         match &self.directive {
             Directive::Name => {
-                spend(left, written_bytes(token))?;
                 let name = Text::of(alloc, prefix(bytes, token))?;
                 Ok(Meaning::Name(name))
             }
-            _ => {
-                spend(left, self.term_bytes(bytes, token))?;
-                plain_meaning(alloc, vocabulary, &self.base, &self.scope, bytes, token)
-            }
+            _ => plain_meaning(
+                alloc,
+                vocabulary,
+                recent,
+                &self.base,
+                &self.scope,
+                bytes,
+                token,
+            ),
         }
     }
 
@@ -155,6 +126,7 @@ impl Context {
         &self,
         alloc: Global,
         vocabulary: &Vocabulary,
+        recent: &mut RecentIris,
         left: &mut usize,
         bytes: &[u8],
         lexeme: Lexeme,
@@ -171,7 +143,13 @@ impl Context {
                     from: lexeme.from,
                     to: lexeme.to,
                 };
-                self.token_meaning(alloc, vocabulary, left, bytes, &token)
+                match self.token_meaning(alloc, vocabulary, recent, bytes, &token) {
+                    Ok(meaning) => {
+                        spend(left, meaning_bytes(&token, &meaning))?;
+                        Ok(meaning)
+                    }
+                    Err(fault) => Err(fault),
+                }
             }
             _ => Ok(Meaning::Nothing),
         }

@@ -7,6 +7,7 @@ ghost use Rattle.std.specs.Ordering.{nat_cmp};
 ghost use Rattle.turtle_reader.specs.Taken.{IsNextFree, AreGivenBeside};
 ghost use Rattle.turtle_reader.specs.Unnamed.{generated};
 
+use itoa::Buffer;
 use pod_base::{List, Mem, NoMemory, Text};
 use std::alloc::Global;
 use std::collections::BTreeSet;
@@ -36,7 +37,11 @@ fn next_free(taken: &BTreeSet<u64>, from: u64) -> Mem<u64>
 fn generated(alloc: Global, number: u64) -> Mem<Text>
     ensures { IfOk result (λ label. label ≡ generated number) }
 {
-    let label = format!(in alloc; "g{number}")?;
+    let mut buffer = Buffer::new();
+    let digits = buffer.format(number);
+    let mut label = String::with_capacity(alloc, digits.len().saturating_add(1))?;
+    label.push_str("g")?;
+    label.push_str(digits)?;
     Text::from_string(alloc, label)
 }
 

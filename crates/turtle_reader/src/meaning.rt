@@ -11,7 +11,7 @@ use pod_base::{Mem, NoMemory, Text};
 use rdf_graph::Term;
 use std::alloc::Global;
 use turtle_lex::{Token, TokenKind};
-use turtle_terms::{Scope, TurtleFault, Vocabulary, language, variable};
+use turtle_terms::{RecentIris, Scope, TurtleFault, Vocabulary, language, variable};
 
 /// What a lexeme means by itself.
 #[derive(Debug, Drop)]
@@ -45,6 +45,7 @@ fn special(alloc: Global, bytes: &[u8], token: &Token) -> Mem<Option<Meaning>>
 fn term_meaning(
     alloc: Global,
     vocabulary: &Vocabulary,
+    recent: &mut RecentIris,
     base: &Iri,
     scope: &Scope,
     bytes: &[u8],
@@ -55,7 +56,7 @@ fn term_meaning(
     ensures fault { IfErr result (λ f. f ≢ NoMemoryFault
         → IsTermMeaning base.now scope.now bytes.now token.now (Err f)) }
 {
-    match vocabulary.term(alloc, base, scope, bytes, token) {
+    match vocabulary.term(alloc, recent, base, scope, bytes, token) {
         Ok(Some(term)) => Ok(Meaning::Term(term)),
         Ok(None) => Ok(Meaning::Nothing),
         Err(fault) => Err(fault),
@@ -66,6 +67,7 @@ fn term_meaning(
 pub(crate) fn plain_meaning(
     alloc: Global,
     vocabulary: &Vocabulary,
+    recent: &mut RecentIris,
     base: &Iri,
     scope: &Scope,
     bytes: &[u8],
@@ -81,7 +83,7 @@ pub(crate) fn plain_meaning(
 {
     match special(alloc, bytes, token) {
         Ok(Some(meaning)) => Ok(meaning),
-        Ok(None) => term_meaning(alloc, vocabulary, base, scope, bytes, token),
+        Ok(None) => term_meaning(alloc, vocabulary, recent, base, scope, bytes, token),
         Err(NoMemory) => Err(TurtleFault::NoMemory),
     }
 }

@@ -16,7 +16,7 @@ use pod_base::{Mem, NoMemory};
 use std::alloc::Global;
 use turtle_grammar::{Machine, Production, Refusal, Start, Symbol, SymbolicTriple};
 use turtle_lex::TokenKind;
-use turtle_terms::{TurtleFault, TurtleKind, Vocabulary};
+use turtle_terms::{RecentIris, TurtleFault, TurtleKind, Vocabulary};
 
 /// Reads the lexemes of a text one by one, from a start symbol and a base on, at most
 /// [`STATEMENT_LIMIT`] of one statement, and makes at most [`TERM_BYTES_LIMIT`] bytes of terms.
@@ -25,6 +25,7 @@ pub struct Reader {
     machine: Machine,
     context: Context,
     vocabulary: Vocabulary,
+    recent: RecentIris,
     kept: KeptMeanings,
     /// How many lexemes were read, and how many before the present statement.
     read: usize,
@@ -63,10 +64,12 @@ impl Reader {
     {
         let context = Context::new(alloc, base)?;
         let vocabulary = Vocabulary::new(alloc)?;
+        let recent = RecentIris::new(alloc)?;
         Ok(Reader {
             machine: Machine::new(alloc, start),
             context,
             vocabulary,
+            recent,
             kept: KeptMeanings::new(alloc),
             read: 0,
             since: 0,
@@ -89,9 +92,14 @@ impl Reader {
     {
         let statement = self.machine.is_complete();
         self.kept.drop_unnamed(&self.machine);
-        let meaning = self
-            .context
-            .meaning(alloc, &self.vocabulary, &mut self.left, bytes, lexeme);
+        let meaning = self.context.meaning(
+            alloc,
+            &self.vocabulary,
+            &mut self.recent,
+            &mut self.left,
+            bytes,
+            lexeme,
+        );
         match self.machine.step(lexeme.symbol) {
             Ok(()) => match meaning {
                 Ok(meaning) => {

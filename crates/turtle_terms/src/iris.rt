@@ -15,6 +15,7 @@ ghost use Rattle.turtle_terms.specs.declared.fault.TurtleFault.TheVariants.{NoMe
 
 use crate::escapes::{decode, has_backslash};
 use crate::fault::{TurtleFault, TurtleKind};
+use crate::recent_iris::RecentIris;
 use crate::scope::Scope;
 use crate::token_text::{iri_content, split_name, text_of};
 use crate::vocabulary::{Vocabulary, Word, word_iri};
@@ -36,8 +37,8 @@ fn fault_at(at: usize, fault: IriFault) -> TurtleFault
     }
 }
 
-/// The IRI that a reference means under a base.
-fn iri_at(alloc: Global, base: &Iri, at: usize, reference: &str) -> Result<Iri, TurtleFault>
+/// The IRI that a reference stands for, in memory of its own.
+fn new_iri_at(alloc: Global, base: &Iri, at: usize, reference: &str) -> Result<Iri, TurtleFault>
     ensures iri { IfOk result (λ iri. IsReferenceMeaning base.now reference.now (Ok iri)) }
     ensures fault { IfErr result (λ fault. fault ≢ NoMemory → IsFault at
         (λ kind. IsReferenceMeaning base.now reference.now (Err kind)) fault) }
@@ -48,18 +49,48 @@ fn iri_at(alloc: Global, base: &Iri, at: usize, reference: &str) -> Result<Iri, 
     }
 }
 
-/// The IRI that an IRIREF means, by what is between its brackets.
-fn content_iri(alloc: Global, base: &Iri, at: usize, content: &str) -> Result<Iri, TurtleFault>
+/// The IRI that a reference stands for.
+fn iri_at(
+    alloc: Global,
+    recent: &mut RecentIris,
+    base: &Iri,
+    at: usize,
+    reference: &str,
+) -> Result<Iri, TurtleFault>
+    ensures iri { IfOk result (λ iri. IsReferenceMeaning base.now reference.now (Ok iri)) }
+    ensures fault { IfErr result (λ fault. fault ≢ NoMemory → IsFault at
+        (λ kind. IsReferenceMeaning base.now reference.now (Err kind)) fault) }
+{
+    match recent.written(alloc, reference) {
+        Some(iri) => Ok(iri),
+        None => match new_iri_at(alloc, base, at, reference) {
+            Ok(iri) => {
+                recent.note(alloc, reference, &iri);
+                Ok(iri)
+            }
+            Err(fault) => Err(fault),
+        },
+    }
+}
+
+/// The IRI that what stands between the brackets of an IRIREF stands for.
+fn content_iri(
+    alloc: Global,
+    recent: &mut RecentIris,
+    base: &Iri,
+    at: usize,
+    content: &str,
+) -> Result<Iri, TurtleFault>
     requires { IsUtf8 (decoded content.now) }
     ensures iri { IfOk result (λ iri. IsReferenceMeaning base.now (decoded content.now) (Ok iri)) }
     ensures fault { IfErr result (λ fault. fault ≢ NoMemory → IsFault at
         (λ kind. IsReferenceMeaning base.now (decoded content.now) (Err kind)) fault) }
 {
     if !has_backslash(content) {
-        return iri_at(alloc, base, at, content);
+        return iri_at(alloc, recent, base, at, content);
     }
     let reference = decode(alloc, content)?;
-    iri_at(alloc, base, at, reference.as_str())
+    iri_at(alloc, recent, base, at, reference.as_str())
 }
 
 /// A local name of an IRI without its backslashes.
@@ -79,8 +110,8 @@ fn without_backslashes(alloc: Global, text: &str) -> Mem<String>
     }
 }
 
-/// A prefix's IRI with a text appended.
-fn append_at(alloc: Global, prefix: &Iri, at: usize, local: &str) -> Result<Iri, TurtleFault>
+/// An IRI with a text appended, in memory of its own.
+fn append_new(alloc: Global, prefix: &Iri, at: usize, local: &str) -> Result<Iri, TurtleFault>
     ensures iri { IfOk result (λ iri. IsNameMeaning (Some prefix.now) local.now (Ok iri)) }
     ensures fault { IfErr result (λ fault. fault ≢ NoMemory → IsFault at
         (λ kind. IsNameMeaning (Some prefix.now) local.now (Err kind)) fault) }
@@ -96,8 +127,38 @@ fn append_at(alloc: Global, prefix: &Iri, at: usize, local: &str) -> Result<Iri,
     }
 }
 
-/// A prefix's IRI with a local name appended, whose escapes lose their backslashes.
-fn append_local(alloc: Global, prefix: &Iri, at: usize, local: &str) -> Result<Iri, TurtleFault>
+/// An IRI with a text appended.
+fn append_at(
+    alloc: Global,
+    recent: &mut RecentIris,
+    prefix: &Iri,
+    at: usize,
+    local: &str,
+) -> Result<Iri, TurtleFault>
+    ensures iri { IfOk result (λ iri. IsNameMeaning (Some prefix.now) local.now (Ok iri)) }
+    ensures fault { IfErr result (λ fault. fault ≢ NoMemory → IsFault at
+        (λ kind. IsNameMeaning (Some prefix.now) local.now (Err kind)) fault) }
+{
+    match recent.joined(alloc, prefix, local) {
+        Some(iri) => Ok(iri),
+        None => match append_new(alloc, prefix, at, local) {
+            Ok(iri) => {
+                recent.note(alloc, local, &iri);
+                Ok(iri)
+            }
+            Err(fault) => Err(fault),
+        },
+    }
+}
+
+/// An IRI with a local name appended, whose escapes lose their backslashes.
+fn append_local(
+    alloc: Global,
+    recent: &mut RecentIris,
+    prefix: &Iri,
+    at: usize,
+    local: &str,
+) -> Result<Iri, TurtleFault>
     ensures iri { IfOk result (λ iri. IsNameMeaning (Some prefix.now)
         (filter (λ b. not (is_backslash b)) local.now) (Ok iri)) }
     ensures fault { IfErr result (λ fault. fault ≢ NoMemory → IsFault at
@@ -105,14 +166,20 @@ fn append_local(alloc: Global, prefix: &Iri, at: usize, local: &str) -> Result<I
         (filter (λ b. not (is_backslash b)) local.now) (Err kind)) fault) }
 {
     if !has_backslash(local) {
-        return append_at(alloc, prefix, at, local);
+        return append_at(alloc, recent, prefix, at, local);
     }
     let local = without_backslashes(alloc, local)?;
-    append_at(alloc, prefix, at, local.as_str())
+    append_at(alloc, recent, prefix, at, local.as_str())
 }
 
-/// The IRI that a name means.
-fn name_iri(alloc: Global, scope: &Scope, at: usize, text: &str) -> Result<Iri, TurtleFault>
+/// The IRI of a name.
+fn name_iri(
+    alloc: Global,
+    recent: &mut RecentIris,
+    scope: &Scope,
+    at: usize,
+    text: &str,
+) -> Result<Iri, TurtleFault>
     ensures iri { IfOk result (λ iri. IsNameMeaning
         (map.get scope.now (prefix_value text.now)) (local_value text.now) (Ok iri)) }
     ensures fault { IfErr result (λ fault. fault ≢ NoMemory → IsFault at
@@ -121,7 +188,7 @@ fn name_iri(alloc: Global, scope: &Scope, at: usize, text: &str) -> Result<Iri, 
 {
     let (prefix, local) = split_name(text);
     match scope.iri(prefix) {
-        Some(iri) => append_local(alloc, iri, at, local),
+        Some(iri) => append_local(alloc, recent, iri, at, local),
         None => Err(TurtleFault::Bad {
             at,
             kind: TurtleKind::Prefix,
@@ -143,6 +210,7 @@ pub fn is_iri_kind(kind: TokenKind) -> bool
 pub(crate) fn iri_of(
     alloc: Global,
     shared: Option<&Vocabulary>,
+    recent: &mut RecentIris,
     base: &Iri,
     scope: &Scope,
     bytes: &[u8],
@@ -156,9 +224,9 @@ pub(crate) fn iri_of(
 {
     let text = text_of(bytes, token);
     match token.kind {
-        TokenKind::IriRef => content_iri(alloc, base, token.from, iri_content(text)),
-        TokenKind::PnameNs => name_iri(alloc, scope, token.from, text),
-        TokenKind::PnameLn => name_iri(alloc, scope, token.from, text),
+        TokenKind::IriRef => content_iri(alloc, recent, base, token.from, iri_content(text)),
+        TokenKind::PnameNs => name_iri(alloc, recent, scope, token.from, text),
+        TokenKind::PnameLn => name_iri(alloc, recent, scope, token.from, text),
         TokenKind::A => Ok(word_iri(alloc, shared, Word::RdfType)?),
         _ => unreachable!(),
     }

@@ -17,7 +17,7 @@
 //! cite.
 //!
 //! A [`Vocabulary`] has the IRIs of RDF and XML Schema that a document means without writing them;
-//! its [`Vocabulary::term`] shares them. The crate depends on `turtle_lex` for tokens, on `iri_ref`
+//! its [`Vocabulary::term`] shares them, and those that were read last ([`RecentIris`]). The crate depends on `turtle_lex` for tokens, on `iri_ref`
 //! for resolution, and on `rdf_graph` for terms.
 #![tactic(auto)]
 
@@ -25,6 +25,7 @@ mod escapes;
 mod fault;
 mod iris;
 pub mod laws;
+mod recent_iris;
 mod scope;
 mod term_of;
 mod token_text;
@@ -32,6 +33,7 @@ mod vocabulary;
 
 pub use fault::{TurtleFault, TurtleKind};
 pub use iris::is_iri_kind;
+pub use recent_iris::RecentIris;
 pub use scope::Scope;
 pub use term_of::term;
 pub use token_text::{label, language, lexical_form, prefix, variable};

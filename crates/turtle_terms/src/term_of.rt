@@ -16,6 +16,7 @@ ghost use Rattle.turtle_terms.specs.declared.fault.TurtleFault.TheVariants.{NoMe
 
 use crate::fault::TurtleFault;
 use crate::iris::{iri_of, is_iri_kind};
+use crate::recent_iris::RecentIris;
 use crate::scope::Scope;
 use crate::token_text::{label, lexical_form, text_of};
 use crate::vocabulary::{Vocabulary, Word, word_iri};
@@ -96,6 +97,7 @@ fn plain_term(
 fn meaning(
     alloc: Global,
     shared: Option<&Vocabulary>,
+    recent: &mut RecentIris,
     base: &Iri,
     scope: &Scope,
     bytes: &[u8],
@@ -109,7 +111,7 @@ fn meaning(
     if !is_iri_kind(token.kind) {
         return Ok(plain_term(alloc, shared, bytes, token)?);
     }
-    let iri = iri_of(alloc, shared, base, scope, bytes, token)?;
+    let iri = iri_of(alloc, shared, recent, base, scope, bytes, token)?;
     Ok(Some(Term::Iri(iri)))
 }
 
@@ -137,12 +139,13 @@ pub fn term(
         → (other : Result (Option Term) TurtleFault)
         → IsTermOf base.now scope.now bytes.now token.now other → other ≡ Err fault) }
 {
-    meaning(alloc, None, base, scope, bytes, token)
+    let mut recent = RecentIris::none(alloc);
+    meaning(alloc, None, &mut recent, base, scope, bytes, token)
 }
 
 impl Vocabulary {
-    /// The term that a token means by itself, as [`term`] has it, where the IRIs of words share the
-    /// memory of the vocabulary.
+    /// [`term`], where the IRIs of words share the memory of the vocabulary, and names and
+    /// references that of those that were read last.
     ///
     /// # Errors
     ///
@@ -150,6 +153,7 @@ impl Vocabulary {
     pub fn term(
         &self,
         alloc: Global,
+        recent: &mut RecentIris,
         base: &Iri,
         scope: &Scope,
         bytes: &[u8],
@@ -160,28 +164,6 @@ impl Vocabulary {
         ensures fault { IfErr result (λ fault. fault ≢ NoMemory
             → IsTermOf base.now scope.now bytes.now token.now (Err fault)) }
     {
-        meaning(alloc, Some(self), base, scope, bytes, token)
-    }
-
-    /// The IRI of the term that a token means: that of an IRIREF, a name or `a`.
-    ///
-    /// # Errors
-    ///
-    /// `Prefix` or `BadIri` at the start of the token, exactly where it has no IRI.
-    pub fn token_iri(
-        &self,
-        alloc: Global,
-        base: &Iri,
-        scope: &Scope,
-        bytes: &[u8],
-        token: &Token,
-    ) -> Result<Iri, TurtleFault>
-        requires of_bytes { IsTokenOf bytes.now token.now }
-        requires kind { IsTrue (is_iri_kind token.now.kind) }
-        ensures iri { IfOk result (λ iri. IsIriOf base.now scope.now bytes.now token.now (Ok iri)) }
-        ensures fault { IfErr result (λ fault. fault ≢ NoMemory
-            → IsIriOf base.now scope.now bytes.now token.now (Err fault)) }
-    {
-        iri_of(alloc, Some(self), base, scope, bytes, token)
+        meaning(alloc, Some(self), recent, base, scope, bytes, token)
     }
 }
