@@ -74,7 +74,7 @@ module _ {D : Type 0} (image : D → List ℕ → Type 0) (moment : D → ℕ) (
       planned = planned_entry plan.next
 
       pub committed : ((history : History) (place : ℕ) (doubt : Doubt) → IsKept image old history place doubt → FollowsReply image old new history place planned)
-          → (history : History) (place : ℕ) (doubt : Doubt) → IsKept image old history place doubt → IsCommitted image old new history place request asked stamp plan.done.response plan.done.place
+          → (history : History) (place : ℕ) (doubt : Doubt) → IsKept image old history place doubt → IsCommitted image old new history place request asked stamp plan.answer.response plan.answer.place
       committed follows history place doubt kept = record {
         reply = is.reply;
         is = is.at_end history place doubt kept;

@@ -11,12 +11,12 @@ use Rattle.pod_rows.specs.Access.{about, effective_of, governed, has_own_list}
 use Rattle.pod_rows.specs.Pod.{is_row}
 use Rattle.access_index.specs.Listing.{is_listed}
 use Rattle.access_index.specs.Reach.{is_reached, is_within}
-use Rattle.access_index.specs.Tables.{list_subjects}
+use Rattle.access_index.specs.Tables.{ArePlain, list_subjects}
 use Rattle.access_index.proofs.Within.{within_is}
 use Rattle.row_pages.specs.Items.{Placed, item_at, rows_of}
 use Rattle.pod_pages.specs.Lists.{list_at}
 use Rattle.pod_pages.specs.Marks.{how_of, mark, mark_by, own_if, own_of, own_number, first_number, text_mark, path_mark}
-use Rattle.pod_pages.specs.Numbering.{ArePlain, is_freed, AreMarked, AreNumbered, AreReady, AreResolved, HaveMarks, IsGoverned, IsListOf, IsMarked, IsTree, Places, changed_of, is_below, list_rules}
+use Rattle.pod_pages.specs.Numbering.{is_freed, AreMarked, AreNumbered, AreReady, AreResolved, HaveMarks, IsGoverned, IsListOf, IsMarked, IsTree, Places, changed_of, is_below, list_rules}
 use Rattle.pod_pages.specs.declared.list_table.AccessList.{AccessList}
 use Rattle.pod_pages.specs.declared.row_marks.Mark.{Mark}
 use Rattle.pod_pages.proofs.Placing.{found_is}

@@ -1,5 +1,6 @@
 pub mod BareLemmas
 pub mod ChainLemmas
+pub mod CountedLemmas
 pub mod EndingsLemmas
 pub mod HolderLemmas
 pub mod LongerSessions

@@ -1,5 +1,7 @@
 -- A change of one graph alone: it can be carried out exactly where the pod stays well-formed with it.
 use Rattle.std.proofs.Common.{◌≡◌, ℕ, Bool, true, false, not, cond, ◌||◌, ◌&&◌, List, [], ◌∷◌, Option, Some, None, refl, sym, ap, ◌∙◌}
+use Rattle.std.specs.Prelude.{◌↔◌, IsTrue}
+use Rattle.std.specs.List.{All, Contains}
 use Rattle.std.proofs.lemmas.Bool.{and_parts, and_from, false≢true}
 use Rattle.pod_base.specs.declared.moment.Moment.{Moment}
 use Rattle.pod_command.specs.declared.edit.Edit.{Edit}
@@ -15,6 +17,8 @@ use Rattle.pod_rows.specs.Apply.{after_edits, change_found, changed_row, put_fou
 use Rattle.pod_rows.specs.GraphSets.{changed_graph, has_triples}
 use Rattle.pod_rows.specs.Pod.{Pod, is_row, row_at}
 use Rattle.pod_rows.specs.WellFormed.{WellFormed, fits_kind, has_normal_path, has_right_kind, is_container_kind, lacks_containment, lacks_stored_containment}
+use Rattle.pod_rows.proofs.Sets.{have_from, have_to}
+use Rattle.pod_rows.proofs.Tests.{same_test}
 use Rattle.pod_edits.specs.Refusals.{is_root_list}
 use Rattle.pod_edits.proofs.FoundRows.{found_path, is_found}
 use Rattle.pod_edits.proofs.Transfer.{put_same}
@@ -22,6 +26,12 @@ use Rattle.pod_records.specs.LoneChanges.{fits_alone, fits_row, has_removed, tak
 use Rattle.pod_records.specs.Made.{EditsFit}
 use Rattle.pod_records.specs.Touched.{is_right}
 use Rattle.pod_records.proofs.Fine.{right_from, right_to}
+
+-- ---- what a change removes
+
+pub has_removed_is : (change : Change) (g : List Triple) (b : Bool) → IsTrue b ↔ All (Contains g) change.removed → b ≡ has_removed change (contents.Graph g)
+has_removed_is change g b h =
+    same_test b (has_triples g change.removed) (λ e. have_from g change.removed (h.0 e)) (λ e. h.1 (have_to g change.removed e))
 
 -- ---- a row that may hold any graph is right with each
 

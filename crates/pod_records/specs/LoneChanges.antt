@@ -1,5 +1,5 @@
 -- One change of a graph alone, as most patches are, of a row that may hold any graph.
-use Rattle.std.specs.Prelude.{Bool, false, not, ◌||◌, List, [], ◌∷◌, Option, Some, None}
+use Rattle.std.specs.Prelude.{Bool, false, not, ◌||◌, if◌then◌else◌, List, [], ◌∷◌, Option, Some, None}
 use Rattle.pod_command.specs.declared.edit.Edit.{Edit}
 use Rattle.pod_command.specs.declared.edit.Edit.TheVariants as edits
 use Rattle.pod_command.specs.declared.row.Content.{Content}

@@ -8,5 +8,6 @@ mod ManyFrames
 mod Running
 mod Histories
 mod EndedRuns
+mod EndFaults
 mod ReportLemmas
 mod ShipLemmas

@@ -1,3 +1,5 @@
+use Rattle.std.proofs.Common.{inl, arith}
+use Rattle.pod_pipe.proofs.CountedLemmas.{is_read_fault, is_write_fault, read_failed, write_failed}
 use Rattle.pod_pipe.proofs.LongerSessions.{stops_over, writes_session}
 use Rattle.pod_pipe.proofs.ServingLemmas.{comes_to, counts_come_to, tells_since}
 use Rattle.pod_pipe.proofs.connection.pipe.Goals as goal
@@ -17,3 +19,15 @@ returns-clause-session g c = λ history doubt held. writes_session _ _ _ _ _ c.s
 
 pub returns-clause-counts : goal.returns-clause-counts
 returns-clause-counts g c = counts_come_to c.serve-end.result _ _ _ _ _ c.write_end_line-end.ensures.end c.serve-end.ensures.counts
+
+pub returns-clause-counted : goal.returns-clause-counted
+returns-clause-counted g c =
+    let served = c.serve-end.ensures in
+    let told = c.write_end_line-end.ensures in
+    record {
+      read_fault = λ is. inl (served.read_fault (read_failed c.serve-end.result c.write_end_line-end.result told.end (is_read_fault c.write_end_line-end.result is)));
+      write_fault = λ is. write_failed c.serve-end.result c.write_end_line-end.result _ _ _ (g.E.Sink.faults c.serve-end.new.errors) _ told.failed served.write_fault served.error_faults told.no_fewer (is_write_fault c.write_end_line-end.result is);
+      input_faults = served.input_faults;
+      output_faults = served.output_faults;
+      error_faults = omega (arith, served.error_faults, told.no_fewer);
+    }

@@ -1,4 +1,5 @@
 use Rattle.std.proofs.Common.{None}
+use Rattle.pod_pipe.proofs.CountedLemmas.{counted_at}
 use Rattle.pod_tool.specs.Fresh.{fresh_history}
 use Rattle.pod_tool.proofs.FreshLemmas.{runs_fresh, unserved_run}
 use Rattle.pod_tool.proofs.fresh_pipe.pipe_fresh.Goals as goal
@@ -17,3 +18,6 @@ returns-in-Ok-clause-runs g c =
     let history = fresh_history c.args.owner.now c.clock_moment-moment.result.0 in
     runs_fresh (g.C.Clock.may_give c.args.clock.now) c.args.owner.now c.args.trail _ c.status.result.0 c.clock_moment-moment.result.0 c.clock_moment-moment.ensures c.in-Ok.start.1 c.in-Ok.ensures.owner c.in-Ok.ensures.trail
     c.pipe-piped.result.end c.status.ensures c.in-Ok.start.0 c.pipe-piped.result.holder (c.pipe-piped.ensures.pipes history None c.in-Ok.ensures.pod) (c.pipe-piped.ensures.session history None c.in-Ok.ensures.pod) c.pipe-piped.ensures.counts
+
+pub returns-in-Ok-clause-counted : goal.returns-in-Ok-clause-counted
+returns-in-Ok-clause-counted g c = counted_at _ _ _ _ c.status.ensures c.pipe-piped.ensures.counted

@@ -1,4 +1,5 @@
-use Rattle.std.proofs.Common.{map, ◌∙◌, subst, sym}
+use Rattle.podctl_commands.proofs.EndFaults.{printed_disk, printed_fails}
+use Rattle.std.proofs.Common.{map, ◌∙◌, subst, sym, arith}
 use Rattle.stored_forms.specs.StoredForms.{snapshot_bytes}
 use Rattle.pod_records.specs.Records.{entry_text}
 use Rattle.podctl_commands.specs.Prints.{Prints}
@@ -36,3 +37,11 @@ returns-in-Err-clause-printed g c =
     let old = g.K.Sink.taken c.args.output.now in
     subst (λ end. Prints audit_text first second old old end) (sym c.refuse.ensures.end)
     (refused_prints audit_text first second _ _ _ _ old c.in-Err.refused.fault c.in-Err.ensures.cause)
+
+pub returns-in-Ok-clause-counted : goal.returns-in-Ok-clause-counted
+returns-in-Ok-clause-counted g c = record {
+  disk_fault = λ e. absurd (printed_disk c.print_entries-printed.result (sym c.finish.ensures.end ∙ e));
+  write_fault = λ e. c.print_entries-printed.ensures.failed (printed_fails c.print_entries-printed.result (sym c.finish.ensures.end ∙ e));
+  output_faults = c.print_entries-printed.ensures.counts;
+  error_faults = omega arith;
+}

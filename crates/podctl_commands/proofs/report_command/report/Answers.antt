@@ -1,4 +1,5 @@
-use Rattle.std.proofs.Common.{subst, sym}
+use Rattle.podctl_commands.specs.declared.store_end.StoreEnd.{StoreEnd}
+use Rattle.std.proofs.Common.{subst, sym, arith}
 use Rattle.podctl_commands.specs.Endings.{IsReportedSo}
 use Rattle.podctl_commands.specs.Lines.{pod_text, report_text}
 use Rattle.podctl_commands.specs.Prints.{Prints}
@@ -24,3 +25,15 @@ returns-in-Err-clause-printed g c =
     let old = g.K.Sink.taken c.args.output.now in
     subst (λ end. Prints (report_text c.args.agent.now) first second old old end) (sym c.refuse.ensures.end)
     (refused_prints (report_text c.args.agent.now) first second _ _ _ _ old c.in-Err.refused.fault c.in-Err.ensures.cause)
+
+pub returns-in-Ok-clause-counted : goal.returns-in-Ok-clause-counted
+returns-in-Ok-clause-counted g c =
+    let printed = c.print_report-end.ensures in
+    let old = g.K.Sink.taken c.args.output.now in
+    let new = g.K.Sink.taken c.print_report-end.new.output in
+    record {
+      disk_fault = λ e. absurd (subst (λ (end : StoreEnd). IsReportedSo (pod_text c.args.agent.now c.in-Ok.keeper.pod) old new end) e printed.prints);
+      write_fault = printed.write_fault;
+      output_faults = printed.output_faults;
+      error_faults = omega arith;
+    }
