@@ -15,10 +15,11 @@ use Rattle.pod_base.specs.EachTo.{EachTo}
 use Rattle.pod_base.specs.declared.request.Request.{Request}
 use Rattle.pod_command.specs.declared.entry.Entry.{Entry}
 use Rattle.pod_core.specs.History.{History}
+use Rattle.pod_disk.specs.declared.place.Disks.{Disks}
 use Rattle.pod_io.specs.declared.listen.ListenFault.{ListenFault}
 use Rattle.pod_io.specs.declared.listen.ListenFault.TheVariants as listens
 use Rattle.pod_keeper.specs.KeeperState.{KeeperState}
-use Rattle.pod_live.specs.Stores.{Covers, IsSafe, KeptSome}
+use Rattle.pod_live.specs.Stores.{Covers, KeptSome}
 use Rattle.pod_live.specs.Takes.{TookChanges}
 use Rattle.pod_live.specs.Visits.{IsNewVisit, Meets, Visit}
 use Rattle.pod_records.specs.OpenedStores.{HasPodCause}
@@ -26,16 +27,18 @@ use Rattle.published_view.specs.LookerState.{CountIncreasedByOne}
 use Rattle.published_view.specs.declared.fault.ViewFault.{ViewFault}
 use Rattle.published_view.specs.declared.fault.ViewFault.TheVariants as views
 use Rattle.journal_log.specs.Refusals.{open_status}
+use Rattle.pod_pipe.specs.CountedFaults.{DiskCountIncreased}
+use Rattle.pod_pipe.specs.DiskRuns.{DiskRun}
 use Rattle.pod_pipe.specs.Tables.{HasTableCause, TokenSource, table_status}
 use Rattle.pod_pipe.specs.declared.token_file.TableFault.{TableFault}
 use Rattle.pod_pipe.specs.declared.token_file.TableFault.TheVariants as tables
 use Rattle.token_table.specs.Credentials.{AskedAgent}
 use Rattle.token_table.specs.declared.table_line.TokenEntry.{TokenEntry}
-use Rattle.pod_serve.specs.Desks.{EachDeskServed, GateView, IsDeskEnd}
-use Rattle.pod_serve.specs.PoddRuns.{AreServed, DeskRun, ErrorSink, GivesBack, IsGateFault, IsServing, ListenView, RunsPodd}
+use Rattle.pod_serve.specs.Desks.{EachDeskServed, IsDeskEnd}
+use Rattle.pod_serve.specs.PoddRuns.{AreServed, DeskRun, GivesBack, IsGateFault, IsServing, RunsListener, RunsPodd, RunsTokens}
 use Rattle.pod_serve.specs.PoddRuns.{desk_status, listen_status, served_status, view_status}
-use Rattle.pod_serve.specs.PoddSteps.{AreClosed, AreServedAs, AreUnserved, RunsListener, RunsTokens, told_status, told_statuses}
-use Rattle.pod_serve.specs.Served.{LinkView}
+use Rattle.pod_serve.specs.PoddSteps.{AreClosed, AreServedAs, NamedStore, RunsOpened, told_status, told_statuses}
+use Rattle.pod_serve.specs.RunHosts.{ErrorSink, Host, ListenRun, ListenView, listen_run}
 use Rattle.pod_serve.specs.declared.desk.DeskEnd.{DeskEnd}
 use Rattle.pod_serve.specs.declared.desk.DeskEnd.TheVariants.{GateEnded, GateFailed, NoMemory}
 
@@ -108,21 +111,20 @@ total_is f xs = is_sum_by (total f) f refl (λ _ _. refl) xs
 sum_first : {X : Type 0} (xs : List X) (x : X) (f : X → ℕ) → sum_by f (x ∷ xs) ≡ f x + sum_by f xs
 sum_first xs x f = sym (total_is f (x ∷ xs)) ∙ ap (λ n. f x + n) (total_is f xs)
 
-module _ (kept : History → Type 0) (first : ℕ) (may_give : ℕ → Type 0) (asking : Request → AskedAgent) {D G C S : Type 0} (image : D → List ℕ → Type 0) (faults : D → ℕ) (link_view : C → LinkView) (gate_view : G → GateView C)
-    (session : S → Visit) (gate : S → G) (told : S → Option DeskEnd) (list : List Entry) (step : ℕ) where
+module _ {D G C S : Type 0} (host : Host D G C) (kept : History → Type 0) (first : ℕ) (asking : Request → AskedAgent) (session : S → Visit) (gate : S → G) (told : S → Option DeskEnd) (list : List Entry) (step : ℕ) where
   -- a desk after it was served, and after the store was closed
   abbrev Met : S → S → Type 0
   Met one other = IsPrefix (session one).seen list × (gate other ≡ gate one) × (told other ≡ told one)
 
   abbrev EachServed : ℕ → List S → List S → Type 0
-  EachServed = EachDeskServed kept first may_give asking link_view gate_view session gate told step
+  EachServed = EachDeskServed kept first host.may_give asking host.link_view host.gate_view session gate told step
 
   pub record Runs (number : ℕ) (old mid new : List S) : Type 0 where
     pub desks : List (DeskRun G)
     pub count : length desks ≡ length old
     pub gates_are : map (λ desk. desk.opened) desks ≡ map gate old
     pub backs_are : map (λ desk. desk.back) desks ≡ map gate new
-    pub served : AreServed image faults may_give link_view gate_view kept first asking list step number desks
+    pub served : AreServed host kept first asking list step number desks
     pub changes : sum_by (λ desk. desk.after.changes) desks ≡ sum_by (λ one. (session one).changes) mid
     pub faulted : sum_by (λ desk. desk.after.faults) desks ≡ sum_by (λ one. (session one).faults) mid
     pub status : told_statuses (map told new) ≡ served_status (map (λ desk. desk.end) desks)
@@ -230,16 +232,15 @@ failed_first NoMemory others (inl a) is = absurd (omega (arith, sym (ap (λ n. m
 failed_first NoMemory others (inr (inl a)) is = absurd (omega (arith, sym (ap (λ n. max 7 n) a) ∙ is))
 failed_first NoMemory others (inr (inr a)) is = inr a
 
-module _ {D G C : Type 0} (image : D → List ℕ → Type 0) (moment : D → ℕ) (left_since : D → ℕ → List ℕ → Type 0) (faults : D → ℕ) (may_give : ℕ → Type 0) (link_view : C → LinkView) (gate_view : G → GateView C) where
+module _ {D G C : Type 0} (host : Host D G C) where
   record Failed (gates : List G) : Type 0 where
     pub gate : G
     pub back : G
     pub among : Contains gates gate
-    pub counted : CountIncreased (gate_view gate).faults (gate_view back).faults
+    pub counted : CountIncreased (host.gate_view gate).faults (host.gate_view back).faults
 
   module _ (kept : History → Type 0) (first : ℕ) (asking : Request → AskedAgent) (list : List Entry) (step : ℕ) where
-    failed_desk : (number : ℕ) (desks : List (DeskRun G)) → AreServed image faults may_give link_view gate_view kept first asking list step number desks
-        → served_status (map (λ desk. desk.end) desks) ≡ 11 → Failed (map (λ desk. desk.opened) desks)
+    failed_desk : (number : ℕ) (desks : List (DeskRun G)) → AreServed host kept first asking list step number desks → served_status (map (λ desk. desk.end) desks) ≡ 11 → Failed (map (λ desk. desk.opened) desks)
     failed_desk number [] served is = absurd (omega (arith, is))
     failed_desk number (desk ∷ others) served is = this (failed_desk (number + 1) others served.3) (failed_first desk.end (served_status (map (λ d. d.end) others)) (served_statuses (map (λ d. d.end) others)) is)
       where
@@ -248,7 +249,7 @@ module _ {D G C : Type 0} (image : D → List ℕ → Type 0) (moment : D → �
           gate = desk.opened;
           back = desk.back;
           among = (0, omega arith, refl);
-          counted = (subst (λ e. IsDeskEnd e served.1.links (gate_view desk.opened) (gate_view desk.back)) failed served.1.ended).2;
+          counted = (subst (λ e. IsDeskEnd e served.1.links (host.gate_view desk.opened) (host.gate_view desk.back)) failed served.1.ended).2;
         }
         this among_others (inr later) =
             let one = among_others later in
@@ -259,20 +260,23 @@ module _ {D G C : Type 0} (image : D → List ℕ → Type 0) (moment : D → �
               counted = one.counted;
             }
 
-  module _ (may_open : List G → Type 0) (old new : ListenView G) (old_places new_places status : ℕ) where
+  module _ (listen : ListenRun G) (status : ℕ) where
     abbrev ListenFaults : Type 0
-    ListenFaults = CountIncreased old.faults new.faults ⊎ IsGateFault may_open (λ gate. (gate_view gate).faults)
+    ListenFaults = CountIncreased listen.old.faults listen.new.faults ⊎ IsGateFault listen.may_open (λ gate. (host.gate_view gate).faults)
+
+    abbrev Refused : Type 0
+    Refused = CountIncreasedByOne listen.old_places listen.new_places
 
     module _ (keeper left : KeeperState D) where
       abbrev Why : Type 0 → Type 0 → ℕ → Type 0
-      Why Read Disk = Causes Read Disk (CountIncreasedByOne old_places new_places) ListenFaults
+      Why Read Disk = Causes Read Disk Refused ListenFaults
 
-      serving_causes : (Read Disk : Type 0) (agents : List TokenEntry) (workers : ℕ) → IsServing image moment left_since faults may_give link_view gate_view keeper left agents workers may_open old new status → Why Read Disk status
+      serving_causes : (Read Disk : Type 0) (agents : List TokenEntry) (workers : ℕ) → IsServing host keeper left listen agents workers status → Why Read Disk status
       serving_causes Read Disk agents workers s =
           let ends = map (λ desk. desk.end) s.served.desks in
           let gate_failed = λ (is : served_status ends ≡ 11).
-          let one = failed_desk (KeptSome image keeper) keeper.next (asking_of (Table agents)) s.served.list (length s.served.desks) 1 s.served.desks s.served.served is in
-          let fault : IsGateFault may_open (λ gate. (gate_view gate).faults) = record {
+          let one = failed_desk (KeptSome host.image keeper) keeper.next (asking_of (Table agents)) s.served.list (length s.served.desks) 1 s.served.desks s.served.served is in
+          let fault : IsGateFault listen.may_open (λ gate. (host.gate_view gate).faults) = record {
             gates = s.gates;
             opened = s.opened;
             gate = one.gate;
@@ -281,31 +285,26 @@ module _ {D G C : Type 0} (image : D → List ℕ → Type 0) (moment : D → �
             counted = one.counted;
           } in
           fault in
-          subst (Why Read Disk) (sym s.served.status_is)
-          (served_causes Read Disk (CountIncreasedByOne old_places new_places) ListenFaults (served_status ends) (served_statuses ends) (λ is. inr (gate_failed is)))
+          subst (Why Read Disk) (sym s.served.status_is) (served_causes Read Disk Refused ListenFaults (served_status ends) (served_statuses ends) (λ is. inr (gate_failed is)))
 
-      listener_causes : (Read Disk : Type 0) (agents : List TokenEntry) (workers : ℕ) → RunsListener image moment left_since faults may_give link_view gate_view keeper left agents workers may_open old new old_places new_places status
-          → Why Read Disk status
-      listener_causes Read Disk agents workers (inl l) = subst (Why Read Disk) (sym l.status_is) (listen_causes Read Disk (CountIncreasedByOne old_places new_places) ListenFaults l.fault (λ is. inl (l.failed is)))
-      listener_causes Read Disk agents workers (inr (inl v)) = subst (Why Read Disk) (sym v.status_is) (view_causes Read Disk (CountIncreasedByOne old_places new_places) ListenFaults v.fault v.refused)
+      listener_causes : (Read Disk : Type 0) (agents : List TokenEntry) (workers : ℕ) → RunsListener host keeper left listen agents workers status → Why Read Disk status
+      listener_causes Read Disk agents workers (inl l) = subst (Why Read Disk) (sym l.status_is) (listen_causes Read Disk Refused ListenFaults l.fault (λ is. inl (l.failed is)))
+      listener_causes Read Disk agents workers (inr (inl v)) = subst (Why Read Disk) (sym v.status_is) (view_causes Read Disk Refused ListenFaults v.fault v.refused)
       listener_causes Read Disk agents workers (inr (inr s)) = serving_causes Read Disk agents workers s
 
-      tokens_causes : (Disk : Type 0) (workers : ℕ) (tokens : TokenSource) (errors : ErrorSink) → RunsTokens image moment left_since faults may_give link_view gate_view keeper left workers tokens errors may_open old new old_places new_places status
-          → Why (CountIncreased tokens.old_faults tokens.new_faults) Disk status
+      tokens_causes : (Disk : Type 0) (workers : ℕ) (tokens : TokenSource) (errors : ErrorSink) → RunsTokens host keeper left listen workers tokens errors status → Why (CountIncreased tokens.old_faults tokens.new_faults) Disk status
       tokens_causes Disk workers tokens errors (inl t) = subst (Why (CountIncreased tokens.old_faults tokens.new_faults) Disk) (sym t.tells.0)
-          (table_causes (CountIncreased tokens.old_faults tokens.new_faults) Disk (CountIncreasedByOne old_places new_places) ListenFaults t.fault (λ is. (subst (λ f. HasTableCause f tokens) is t.cause).0))
+          (table_causes (CountIncreased tokens.old_faults tokens.new_faults) Disk Refused ListenFaults t.fault (λ is. (subst (λ f. HasTableCause f tokens) is t.cause).0))
       tokens_causes Disk workers tokens errors (inr t) = listener_causes (CountIncreased tokens.old_faults tokens.new_faults) Disk t.1.agents workers t.1.runs
 
-    pub run_causes : (content : D → Option (List ℕ)) (first second first_new second_new : D) (workers : ℕ) (tokens : TokenSource) (errors : ErrorSink)
-        → RunsPodd image moment left_since faults may_give link_view gate_view content first second first_new second_new workers tokens errors may_open old new old_places new_places status
-        → Causes (CountIncreased tokens.old_faults tokens.new_faults) (CountIncreased (faults first) (faults first_new) ⊎ CountIncreased (faults second) (faults second_new)) (CountIncreasedByOne old_places new_places) ListenFaults status
-    run_causes content first second first_new second_new workers tokens errors (inl u) =
-        let Disk = CountIncreased (faults first) (faults first_new) ⊎ CountIncreased (faults second) (faults second_new) in
-        subst (Causes (CountIncreased tokens.old_faults tokens.new_faults) Disk (CountIncreasedByOne old_places new_places) ListenFaults) (sym u.status_is)
-        (open_causes (CountIncreased tokens.old_faults tokens.new_faults) Disk (CountIncreasedByOne old_places new_places) ListenFaults u.fault
-        (λ is. subst (HasPodCause (content first) (content second) (faults first) (faults first_new) (faults second) (faults second_new)) is u.cause))
-    run_causes content first second first_new second_new workers tokens errors (inr r) =
-        tokens_causes r.keeper r.left (CountIncreased (faults first) (faults first_new) ⊎ CountIncreased (faults second) (faults second_new)) workers tokens errors r.runs
+    pub run_causes : (run : DiskRun D) (workers : ℕ) (tokens : TokenSource) (errors : ErrorSink) → RunsPodd host run listen workers tokens errors status
+        → Causes (CountIncreased tokens.old_faults tokens.new_faults) (DiskCountIncreased run.faults run.old run.new) Refused ListenFaults status
+    run_causes run workers tokens errors (inl u) =
+        let Disk = DiskCountIncreased run.faults run.old run.new in
+        subst (Causes (CountIncreased tokens.old_faults tokens.new_faults) Disk Refused ListenFaults) (sym u.status_is)
+        (open_causes (CountIncreased tokens.old_faults tokens.new_faults) Disk Refused ListenFaults u.fault
+        (λ is. subst (HasPodCause (run.content run.old.first) (run.content run.old.second) (run.faults run.old.first) (run.faults run.new.first) (run.faults run.old.second) (run.faults run.new.second)) is u.cause))
+    run_causes run workers tokens errors (inr r) = tokens_causes r.keeper r.left (DiskCountIncreased run.faults run.old run.new) workers tokens errors r.runs
 
 -- ---- a store that was served and then closed
 
@@ -346,34 +345,29 @@ refilled n new items e f =
     ap (λ ys. take n (new ++ ys)) (drop_all (length new) items (omega (arith, e))) ∙ ap (take n) (append-nil new) ∙ take_all n new (omega (arith, e, f))
 
 -- the desks of a store that was served and closed are those of a run
-pub served_as : {D G C S : Type 0} (old new later lent : List S) (session : S → Visit) (gate : S → G) (told : S → Option DeskEnd) (image : D → List ℕ → Type 0) (moment : D → ℕ) (left_since : D → ℕ → List ℕ → Type 0) (faults : D → ℕ) (may_give : ℕ → Type 0) (link_view : C → LinkView)
-    (gate_view : G → GateView C) (kept : History → Type 0) (first : ℕ) (safe : Type 0) (counted : ℕ) (began : KeeperState D → Type 0) (asking : Request → AskedAgent) (left : KeeperState D) (gates : List G) (before after : ListenView G) (status : ℕ)
-    → AreClosed image moment left_since faults may_give link_view gate_view kept first safe counted began asking left session gate told old new
-    → ((i : ℕ) (d : S) → i < length old → IsNewVisit [] (session (slice_index_or old i d))) → map gate old ≡ gates → later ≡ new → lent ≡ later → GivesBack (map gate later) before after → status ≡ told_statuses (map told lent)
-    → AreServedAs image moment left_since faults may_give link_view gate_view kept first safe counted began asking left gates before after status
-served_as old new later lent session gate told image moment left_since faults may_give link_view gate_view kept first safe counted began asking left gates before after status closed fresh gates_are same same_lent back status_is =
-    let runs = runs_of kept first may_give asking image faults link_view gate_view session gate told closed.list (length old) 1 old closed.mid new closed.desks closed.met fresh in
+pub served_as : {D G C S : Type 0} (old new later lent : List S) (session : S → Visit) (gate : S → G) (told : S → Option DeskEnd) (host : Host D G C) (store : NamedStore D) (asking : Request → AskedAgent) (left : KeeperState D) (gates : List G) (before after : ListenView G) (status : ℕ)
+    → AreClosed host store asking left session gate told old new → ((i : ℕ) (d : S) → i < length old → IsNewVisit [] (session (slice_index_or old i d))) → map gate old ≡ gates → later ≡ new → lent ≡ later → GivesBack (map gate later) before after → status ≡ told_statuses (map told lent)
+    → AreServedAs host store asking left gates before after status
+served_as old new later lent session gate told host store asking left gates before after status closed fresh gates_are same same_lent back status_is =
+    let runs = runs_of host store.kept store.first asking session gate told closed.list (length old) 1 old closed.mid new closed.desks closed.met fresh in
     record {
       desks = runs.desks;
       list = closed.list;
       gates_are = runs.gates_are ∙ gates_are;
-      served = subst (λ n. AreServed image faults may_give link_view gate_view kept first asking closed.list n 1 runs.desks) (sym runs.count) runs.served;
+      served = subst (λ n. AreServed host store.kept store.first asking closed.list n 1 runs.desks) (sym runs.count) runs.served;
       longer_kept = closed.longer_kept;
       grown = closed.grown ∙ sym runs.changes;
-      covered = subst (λ n. Covers counted n (faults left.first) (faults left.second)) (sym runs.faulted) closed.covered;
+      covered = subst (λ n. Covers store.counted n (host.faults left.first) (host.faults left.second)) (sym runs.faulted) closed.covered;
       still_safe = closed.still_safe;
-      took = subst (λ n. TookChanges image moment left_since began closed.list n left) (sym runs.faulted) closed.took;
+      took = subst (λ n. TookChanges host.image host.moment host.left_since store.began closed.list n left) (sym runs.faulted) closed.took;
       back = subst (λ backs. GivesBack backs before after) (ap (map gate) same ∙ sym runs.backs_are) back;
       status_is = status_is ∙ (ap (λ ds. told_statuses (map told ds)) (same_lent ∙ same) ∙ runs.status);
     }
 
 -- the gates were opened, and then served or not
-pub listened : {D G C : Type 0} (image : D → List ℕ → Type 0) (moment : D → ℕ) (left_since : D → ℕ → List ℕ → Type 0) (faults : D → ℕ) (may_give : ℕ → Type 0) (link_view : C → LinkView) (gate_view : G → GateView C) (keeper left : KeeperState D) (agents : List TokenEntry) (workers : ℕ)
-    (gates : List G) (may_open : List G → Type 0) (old mid new : ListenView G) (old_places new_places status : ℕ) → may_open gates → length gates ≡ workers → mid.back ≡ old.back
-    → AreUnserved image moment left_since faults may_give link_view gate_view keeper left gates mid new old_places new_places status
-    ⊎ AreServedAs image moment left_since faults may_give link_view gate_view (KeptSome image keeper) keeper.next (IsSafe image keeper) (faults keeper.first + faults keeper.second) (λ (k : KeeperState D). keeper ≡ k) (asking_of (Table agents)) left gates mid new status
-    → RunsListener image moment left_since faults may_give link_view gate_view keeper left agents workers may_open old new old_places new_places status
-listened image moment left_since faults may_give link_view gate_view keeper left agents workers gates may_open old mid new old_places new_places status opened count same (inl u) =
+pub listened : {D G C : Type 0} (host : Host D G C) (keeper left : KeeperState D) (agents : List TokenEntry) (workers : ℕ) (gates : List G) (may_open may_open_more : List G → Type 0) (old mid new : ListenView G) (old_places new_places status : ℕ) → may_open gates → length gates ≡ workers
+    → mid.back ≡ old.back → RunsOpened host keeper left agents gates (listen_run may_open_more mid new old_places new_places) status → RunsListener host keeper left (listen_run may_open old new old_places new_places) agents workers status
+listened host keeper left agents workers gates may_open may_open_more old mid new old_places new_places status opened count same (inl u) =
     inr (inl (record {
       kept = u.kept;
       gates = gates;
@@ -382,7 +376,7 @@ listened image moment left_since faults may_give link_view gate_view keeper left
       refused = u.refused;
       status_is = u.status_is;
     }))
-listened image moment left_since faults may_give link_view gate_view keeper left agents workers gates may_open old mid new old_places new_places status opened count same (inr s) =
+listened host keeper left agents workers gates may_open may_open_more old mid new old_places new_places status opened count same (inr s) =
     inr (inr (record {
       gates = gates;
       opened = opened;
@@ -410,8 +404,5 @@ pub none_new : {S : Type 0} (desks : List S) (P : S → Type 0) → desks ≡ []
 none_new desks P is = subst (All P) (sym is) (All-nil P)
 
 -- the disks that were taken out of a place are those that it had
-pub disk_cause : {P D : Type 0} (old : Option P) (disks new : P) (first second : P → D) (faults : D → ℕ) → Some disks ≡ old
-    → CountIncreased (faults (first disks)) (faults (first new)) ⊎ CountIncreased (faults (second disks)) (faults (second new))
-    → IfSome old (λ was. IfSome (Some new) (λ is. CountIncreased (faults (first was)) (faults (first is)) ⊎ CountIncreased (faults (second was)) (faults (second is))))
-disk_cause old disks new first second faults same cause =
-    subst (λ o. IfSome o (λ was. IfSome (Some new) (λ is. CountIncreased (faults (first was)) (faults (first is)) ⊎ CountIncreased (faults (second was)) (faults (second is))))) same cause
+pub disk_cause : {D : Type 0} (old : Option (Disks D)) (disks new : Disks D) (faults : D → ℕ) → Some disks ≡ old → DiskCountIncreased faults disks new → IfSome old (λ a. IfSome (Some new) (λ b. DiskCountIncreased faults a b))
+disk_cause old disks new faults same cause = subst (λ o. IfSome o (λ a. IfSome (Some new) (λ b. DiskCountIncreased faults a b))) same cause

@@ -5,6 +5,7 @@ pub mod WorldRuns
 pub mod Served
 pub mod Connections
 pub mod Desks
+pub mod RunHosts
 pub mod PoddRuns
 -- internal: cited by private clauses alone
 pub mod Serving

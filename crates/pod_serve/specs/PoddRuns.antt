@@ -1,7 +1,7 @@
 -- How `podd` runs: the store is opened, the token table is read, the listener opens its gates, the
 -- versions of the pod are published, and then the connections of all gates are served.
 use Rattle.std.specs.Prelude.{◌≡◌, ◌⊎◌, ℕ, ◌+◌, max, List, [], ◌∷◌, ◌++◌, length, map, sum_by, reverse}
-use Rattle.std.specs.Prelude.{Contains, Option}
+use Rattle.std.specs.Prelude.{Contains}
 use Rattle.std.specs.Option.{option_map}
 use mathlib.Core.List.{IsPrefix}
 use Rattle.conn_talk.specs.Agents.{asking_of}
@@ -24,13 +24,14 @@ use Rattle.published_view.specs.LookerState.{CountIncreasedByOne}
 use Rattle.published_view.specs.declared.fault.ViewFault.{ViewFault}
 use Rattle.published_view.specs.declared.fault.ViewFault.TheVariants as views
 use Rattle.journal_log.specs.Refusals.{TellsRefusal, open_status}
+use Rattle.pod_pipe.specs.DiskRuns.{AreOpened, DiskRun}
 use Rattle.pod_pipe.specs.StoreRuns.{TellsLine, fault_line}
 use Rattle.pod_pipe.specs.Tables.{HasTableCause, IsTable, IsUnread, TokenSource, table_status}
 use Rattle.pod_pipe.specs.declared.token_file.TableFault.{TableFault}
 use Rattle.token_table.specs.Credentials.{AskedAgent}
 use Rattle.token_table.specs.declared.table_line.TokenEntry.{TokenEntry}
-use Rattle.pod_serve.specs.Desks.{DeskServed, GateView}
-use Rattle.pod_serve.specs.Served.{LinkView}
+use Rattle.pod_serve.specs.Desks.{DeskServed}
+use Rattle.pod_serve.specs.RunHosts.{ErrorSink, Host, ListenRun, ListenView}
 use Rattle.pod_serve.specs.declared.desk.DeskEnd.{DeskEnd}
 use Rattle.pod_serve.specs.declared.desk.DeskEnd.TheVariants.{GateEnded, GateFailed, NoMemory}
 
@@ -56,33 +57,9 @@ abbrev pub view_status : ViewFault → ℕ
 view_status views.NoPlace = 8
 view_status views.NoMemory = 7
 
--- ---- what a run is given, and what it leaves
+-- ---- what a run leaves
 
--- What the listener shows: the gates that were given back, where it shows them, and how many calls
--- failed.
-pub record ListenView (G : Type 0) : Type 0 where
-  pub back : Option (List G)
-  pub faults : ℕ
-
-abbrev pub listen_view_of : {L G : Type 0} → (L → Option (List G)) → (L → ℕ) → L → ListenView G
-listen_view_of back faults listen = record { back = back listen; faults = faults listen }
-
--- the error sink before a run and after it, and its counts of faults
-pub record ErrorSink : Type 0 where
-  pub old : Option (List ℕ)
-  pub new : Option (List ℕ)
-  pub old_faults : ℕ
-  pub new_faults : ℕ
-
-abbrev pub errors_of : {E : Type 0} → (E → Option (List ℕ)) → (E → ℕ) → E → E → ErrorSink
-errors_of taken faults errors errors_new = record {
-  old = taken errors;
-  new = taken errors_new;
-  old_faults = faults errors;
-  new_faults = faults errors_new;
-}
-
--- nothing was written to it
+-- nothing was written to the error sink
 pub record IsUntold (errors : ErrorSink) : Type 0 where
   pub same : errors.new ≡ errors.old
   pub faults : errors.new_faults ≡ errors.old_faults
@@ -109,8 +86,12 @@ pub record IsGateFault {G : Type 0} (may_open : List G → Type 0) (faults : G �
 abbrev pub GivesBack : {G : Type 0} → List G → ListenView G → ListenView G → Type 0
 GivesBack gates old new = new.back ≡ option_map (λ back. back ++ reverse gates) old.back
 
-module _ {D G C : Type 0} (image : D → List ℕ → Type 0) (faults : D → ℕ) (may_give : ℕ → Type 0)
-    (link_view : C → LinkView) (gate_view : G → GateView C) where
+-- The listener opened these gates, and each was given back unserved.
+pub record AreGivenBack {G : Type 0} (gates : List G) (listen : ListenRun G) : Type 0 where
+  pub opened : listen.may_open gates
+  pub back : GivesBack gates listen.old listen.new
+
+module _ {D G C : Type 0} (host : Host D G C) where
   module _ (kept : History → Type 0) (first : ℕ) (asking : Request → AskedAgent)
       (list : List Entry) (step : ℕ) where
     -- The desks of a run, of which the first has this number: each served its connections by a new
@@ -118,8 +99,8 @@ module _ {D G C : Type 0} (image : D → List ℕ → Type 0) (faults : D → �
     abbrev pub AreServed : ℕ → List (DeskRun G) → Type 0
     AreServed number [] = Unit {0}
     AreServed number (desk ∷ others) = IsNewVisit [] desk.before
-        × DeskServed kept first may_give asking link_view step number desk.end desk.before
-        desk.after (gate_view desk.opened) (gate_view desk.back)
+        × DeskServed kept first host.may_give asking host.link_view step number desk.end desk.before
+        desk.after (host.gate_view desk.opened) (host.gate_view desk.back)
         × IsPrefix desk.after.seen list × AreServed (number + 1) others
 
   -- All gates were served. There is one list of entries: for each history that the keeper
@@ -131,114 +112,112 @@ module _ {D G C : Type 0} (image : D → List ℕ → Type 0) (faults : D → �
     pub desks : List (DeskRun G)
     pub list : List Entry
     pub gates_are : map (λ desk. desk.opened) desks ≡ gates
-    pub served : AreServed (KeptSome image keeper) keeper.next (asking_of (Table agents)) list
+    pub served : AreServed (KeptSome host.image keeper) keeper.next (asking_of (Table agents)) list
         (length desks) 1 desks
-    pub kept : (history : History) → KeptSome image keeper history
-        → KeptSome image left (longer history list)
+    pub kept : (history : History) → KeptSome host.image keeper history
+        → KeptSome host.image left (longer history list)
     pub grown : length list ≡ sum_by (λ desk. desk.after.changes) desks
-    pub counted : Covers (faults keeper.first + faults keeper.second)
-        (sum_by (λ desk. desk.after.faults) desks) (faults left.first) (faults left.second)
-    pub safe : IsSafe image keeper → IsSafe image left
+    pub counted : Covers (host.faults keeper.first + host.faults keeper.second)
+        (sum_by (λ desk. desk.after.faults) desks) (host.faults left.first)
+        (host.faults left.second)
+    pub safe : IsSafe host.image keeper → IsSafe host.image left
     pub back : GivesBack (map (λ desk. desk.back) desks) old new
     pub status_is : status ≡ served_status (map (λ desk. desk.end) desks)
 
-module _ {D G C : Type 0} (image : D → List ℕ → Type 0) (moment : D → ℕ)
-    (left_since : D → ℕ → List ℕ → Type 0) (faults : D → ℕ) (may_give : ℕ → Type 0)
-    (link_view : C → LinkView) (gate_view : G → GateView C) where
-  -- The listener opened these gates, and each was given back unserved.
-  pub record AreGivenBack (gates : List G) (may_open : List G → Type 0) (old new : ListenView G)
-      : Type 0 where
-    pub opened : may_open gates
-    pub back : GivesBack gates old new
+-- ---- the steps of a run over the keeper that was opened
 
+module _ {D G : Type 0} (keeper left : KeeperState D) (listen : ListenRun G) where
   -- The gates weren't opened: a call of the listener failed, or it was out of memory.
-  pub record IsUnlistened (keeper left : KeeperState D) (old new : ListenView G) (status : ℕ)
-      : Type 0 where
+  pub record IsUnlistened (status : ℕ) : Type 0 where
     pub kept : left ≡ keeper
     pub fault : ListenFault
-    pub failed : fault ≡ listens.Failed → CountIncreased old.faults new.faults
-    pub back : new.back ≡ old.back
+    pub failed : fault ≡ listens.Failed → CountIncreased listen.old.faults listen.new.faults
+    pub back : listen.new.back ≡ listen.old.back
     pub status_is : status ≡ listen_status fault
 
   -- The versions of the pod weren't published: `left_right` refused a reader, or it was out of
   -- memory. The gates were given back.
-  pub record IsUnpublished (keeper left : KeeperState D) (may_open : List G → Type 0)
-      (old new : ListenView G) (old_places new_places status : ℕ) : Type 0 where
+  pub record IsUnpublished (status : ℕ) : Type 0 where
     pub kept : left ≡ keeper
     pub gates : List G
-    pub unserved : AreGivenBack gates may_open old new
+    pub unserved : AreGivenBack gates listen
     pub fault : ViewFault
-    pub refused : fault ≡ views.NoPlace → CountIncreasedByOne old_places new_places
+    pub refused : fault ≡ views.NoPlace → CountIncreasedByOne listen.old_places listen.new_places
     pub status_is : status ≡ view_status fault
 
-  -- The connections of so many gates were served. The changes that were carried to the disks, in the
-  -- order of the store's lock, lead from the keeper to the one that is left: they added the entries
-  -- of the list, and as many met a disk fault as did of all sessions. At each moment each pair of
-  -- crash images represents the history with the entries of the changes before, or that with the
-  -- entry in doubt or the one under way (`moments_are_of_changes` of `pod_live`).
-  pub record IsServing (keeper left : KeeperState D) (agents : List TokenEntry) (workers : ℕ)
-      (may_open : List G → Type 0) (old new : ListenView G) (status : ℕ) : Type 0 where
-    pub gates : List G
-    pub opened : may_open gates
-    pub count : length gates ≡ workers
-    pub served : AreAllServed image faults may_give link_view gate_view keeper left agents gates
-        old new status
-    pub took : Took (λ taken. Leads image moment left_since keeper taken left) served.list
-        (sum_by (λ desk. desk.after.faults) served.desks)
-
-  -- The token table was read, and what came of the listener.
-  pub record IsTabled (keeper left : KeeperState D) (workers : ℕ) (tokens : TokenSource)
-      (may_open : List G → Type 0) (old new : ListenView G) (old_places new_places status : ℕ)
-      : Type 0 where
-    pub agents : List TokenEntry
-    pub table : IsTable agents tokens
-    pub runs : IsUnlistened keeper left old new status
-        ⊎ (IsUnpublished keeper left may_open old new old_places new_places status
-        ⊎ IsServing keeper left agents workers may_open old new status)
-
   -- There was no token table. The listener was not called.
-  pub record IsUntabled (keeper left : KeeperState D) (tokens : TokenSource) (errors : ErrorSink)
-      (old new : ListenView G) (status : ℕ) : Type 0 where
+  pub record IsUntabled (tokens : TokenSource) (errors : ErrorSink) (status : ℕ) : Type 0 where
     pub kept : left ≡ keeper
     pub fault : TableFault
     pub cause : HasTableCause fault tokens
     pub tells : TellsLine (fault_line fault) (table_status fault) status errors.old errors.new
         errors.old_faults errors.new_faults
-    pub listener : new ≡ old
+    pub listener : listen.new ≡ listen.old
 
-  module _ (content : D → Option (List ℕ)) (first second first_new second_new : D) where
-    -- The store wasn't opened, and nothing else was done.
-    pub record IsUnopened (tokens : TokenSource) (errors : ErrorSink) (old new : ListenView G)
-        (status : ℕ) : Type 0 where
-      pub fault : OpenFault
-      pub cause : HasPodCause (content first) (content second) (faults first) (faults first_new)
-          (faults second) (faults second_new) fault
-      pub disks : OpensDisks image moment left_since faults first second first_new second_new
-      pub status_is : status ≡ open_status fault
-      pub tells : TellsRefusal fault errors.old errors.new errors.old_faults errors.new_faults
-      pub unread : IsUnread tokens
-      pub listener : new ≡ old
+module _ {D G C : Type 0} (host : Host D G C) (keeper left : KeeperState D)
+    (listen : ListenRun G) where
+  -- The connections of so many gates were served. The changes that were carried to the disks, in the
+  -- order of the store's lock, lead from the keeper to the one that is left: they added the entries
+  -- of the list, and as many met a disk fault as did of all sessions. At each moment each pair of
+  -- crash images represents the history with the entries of the changes before, or that with the
+  -- entry in doubt or the one under way (`moments_are_of_changes` of `pod_live`).
+  pub record IsServing (agents : List TokenEntry) (workers status : ℕ) : Type 0 where
+    pub gates : List G
+    pub opened : listen.may_open gates
+    pub count : length gates ≡ workers
+    pub served : AreAllServed host keeper left agents gates listen.old listen.new status
+    pub took : Took (λ taken. Leads host.image host.moment host.left_since keeper taken left)
+        served.list (sum_by (λ desk. desk.after.faults) served.desks)
 
-    -- The store was opened as this keeper, and its disks are those that are left.
-    pub record IsOpenedRun (workers : ℕ) (tokens : TokenSource) (errors : ErrorSink)
-        (may_open : List G → Type 0) (old new : ListenView G) (old_places new_places status : ℕ)
-        : Type 0 where
-      pub keeper : KeeperState D
-      pub left : KeeperState D
-      pub bodies : List (List ℕ)
-      pub opened : IsOpened image (content first) (content second) bodies keeper
-      pub sure : IsSure image keeper.first keeper.second keeper.pair
-      pub disks : OpensDisks image moment left_since faults first second keeper.first keeper.second
-      pub first_is : first_new ≡ left.first
-      pub second_is : second_new ≡ left.second
-      pub runs : IsUntabled keeper left tokens errors old new status
-          ⊎ (IsUntold errors × IsTabled keeper left workers tokens may_open old new old_places
-          new_places status)
+  -- what came of the listener
+  abbrev pub RunsListener : List TokenEntry → ℕ → ℕ → Type 0
+  RunsListener agents workers status = IsUnlistened keeper left listen status
+      ⊎ (IsUnpublished keeper left listen status ⊎ IsServing agents workers status)
 
-    -- What a run of `podd` with so many workers does. Out of memory before it began, it leaves
-    -- everything as it was.
-    abbrev pub RunsPodd : ℕ → TokenSource → ErrorSink → (List G → Type 0) → ListenView G
-        → ListenView G → ℕ → ℕ → ℕ → Type 0
-    RunsPodd workers tokens errors may_open old new old_places new_places status =
-        IsUnopened tokens errors old new status
-        ⊎ IsOpenedRun workers tokens errors may_open old new old_places new_places status
+  -- the token table was read, and what came of the listener
+  pub record IsTabled (workers : ℕ) (tokens : TokenSource) (status : ℕ) : Type 0 where
+    pub agents : List TokenEntry
+    pub table : IsTable agents tokens
+    pub runs : RunsListener agents workers status
+
+  -- what came of the token table
+  abbrev pub RunsTokens : ℕ → TokenSource → ErrorSink → ℕ → Type 0
+  RunsTokens workers tokens errors status = IsUntabled keeper left listen tokens errors status
+      ⊎ (IsUntold errors × IsTabled workers tokens status)
+
+-- ---- a run over the disks of a place
+
+-- The store wasn't opened, and nothing else was done.
+pub record IsUnopened {D G : Type 0} (run : DiskRun D) (listen : ListenRun G)
+    (tokens : TokenSource) (errors : ErrorSink) (status : ℕ) : Type 0 where
+  pub fault : OpenFault
+  pub cause : HasPodCause (run.content run.old.first) (run.content run.old.second)
+      (run.faults run.old.first) (run.faults run.new.first) (run.faults run.old.second)
+      (run.faults run.new.second) fault
+  pub disks : AreOpened run
+  pub status_is : status ≡ open_status fault
+  pub tells : TellsRefusal fault errors.old errors.new errors.old_faults errors.new_faults
+  pub unread : IsUnread tokens
+  pub listener : listen.new ≡ listen.old
+
+module _ {D G C : Type 0} (host : Host D G C) (run : DiskRun D) (listen : ListenRun G) where
+  -- The store was opened as this keeper, and its disks are those that are left.
+  pub record IsOpenedRun (workers : ℕ) (tokens : TokenSource) (errors : ErrorSink) (status : ℕ)
+      : Type 0 where
+    pub keeper : KeeperState D
+    pub left : KeeperState D
+    pub bodies : List (List ℕ)
+    pub opened : IsOpened run.image (run.content run.old.first) (run.content run.old.second) bodies
+        keeper
+    pub sure : IsSure run.image keeper.first keeper.second keeper.pair
+    pub disks : OpensDisks run.image run.moment run.left_since run.faults run.old.first
+        run.old.second keeper.first keeper.second
+    pub first_is : run.new.first ≡ left.first
+    pub second_is : run.new.second ≡ left.second
+    pub runs : RunsTokens host keeper left listen workers tokens errors status
+
+  -- What a run of `podd` with so many workers does. Out of memory before it began, it leaves
+  -- everything as it was.
+  abbrev pub RunsPodd : ℕ → TokenSource → ErrorSink → ℕ → Type 0
+  RunsPodd workers tokens errors status = IsUnopened run listen tokens errors status
+      ⊎ IsOpenedRun workers tokens errors status

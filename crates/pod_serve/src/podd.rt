@@ -11,13 +11,14 @@ ghost use Rattle.pod_live.specs.Stores.{IsSafe, KeptSome};
 ghost use Rattle.pod_live.specs.Visits.{IsNewVisit};
 ghost use Rattle.program_words.specs.PoddReadings.{reading};
 ghost use Rattle.published_view.specs.LookerState.{CountIncreasedByOne};
+ghost use Rattle.pod_pipe.specs.CountedFaults.{DiskFaultCounted};
+ghost use Rattle.pod_pipe.specs.DiskRuns.{HoldsOfDisks, disks_of};
 ghost use Rattle.pod_pipe.specs.Tables.{tokens_of};
-ghost use Rattle.pod_serve.specs.Desks.{gate_view_of};
-ghost use Rattle.pod_serve.specs.PoddRuns.{GivesBack, IsGateFault, RunsPodd, errors_of};
-ghost use Rattle.pod_serve.specs.PoddRuns.{listen_status, listen_view_of, view_status};
-ghost use Rattle.pod_serve.specs.PoddSteps.{AreClosed, AreServedAs, AreUnserved, RunsListener};
-ghost use Rattle.pod_serve.specs.PoddSteps.{RunsTokens, told_status, told_statuses};
-ghost use Rattle.pod_serve.specs.Served.{link_view_of};
+ghost use Rattle.pod_serve.specs.PoddRuns.{GivesBack, IsGateFault, RunsListener, RunsPodd};
+ghost use Rattle.pod_serve.specs.PoddRuns.{RunsTokens, listen_status, view_status};
+ghost use Rattle.pod_serve.specs.PoddSteps.{AreClosed, AreServedAs, RunsGates, RunsOpened};
+ghost use Rattle.pod_serve.specs.PoddSteps.{store_named, told_status, told_statuses};
+ghost use Rattle.pod_serve.specs.RunHosts.{errors_of, host_of, listen_view_of, listener_of};
 
 use crate::desk::{Desk, DeskEnd, Post, serve};
 use conn_talk::Agents;
@@ -169,11 +170,11 @@ fn serve_desks<
     requires all { length desks.old ≡ N.parts }
     requires few { (0 < length desks.old) × (length desks.old < 65) }
     requires opening { N.opening ≡ [] }
-    ensures { AreClosed D.image D.moment D.left_since D.faults (C.may_give clock.now)
-        (link_view_of G.Conn.rest G.Conn.sent G.Conn.counts)
-        (gate_view_of G.rest G.back G.faults G.given G.ends) N.kept N.opened.next N.safe N.counted
-        N.began (asking_of agents.now) result (λ desk. desk.session) (λ desk. desk.rest.gate)
-        (λ desk. desk.rest.end) desks.old desks.new }
+    ensures { AreClosed (host_of D.image D.moment D.left_since D.faults (C.may_give clock.now)
+        G.Conn.rest G.Conn.sent G.Conn.counts G.rest G.back G.faults G.given G.ends)
+        (store_named N.kept N.opened.next N.safe N.counted N.began) (asking_of agents.now) result
+        (λ desk. desk.session) (λ desk. desk.rest.gate) (λ desk. desk.rest.end) desks.old
+        desks.new }
 {
     serve(rt, alloc, &live, agents, desks, clock);
     live.close(rt, desks)
@@ -208,12 +209,12 @@ where
     requires few { (0 < length gates.items) × (length gates.items < 65) }
     requires opening { N.opening ≡ [] }
     requires room { length gates.items ≤ O.room listen.old }
-    ensures { AreServedAs D.image D.moment D.left_since D.faults (C.may_give clock.now)
-        (link_view_of O.Gate.Conn.rest O.Gate.Conn.sent O.Gate.Conn.counts)
-        (gate_view_of O.Gate.rest O.Gate.back O.Gate.faults O.Gate.given O.Gate.ends)
-        N.kept N.opened.next N.safe N.counted N.began (asking_of agents.now) result.1 gates.items
-        (listen_view_of O.back O.faults listen.old) (listen_view_of O.back O.faults listen.new)
-        result.0.0 }
+    ensures { AreServedAs (host_of D.image D.moment D.left_since D.faults (C.may_give clock.now)
+        O.Gate.Conn.rest O.Gate.Conn.sent O.Gate.Conn.counts O.Gate.rest O.Gate.back O.Gate.faults
+        O.Gate.given O.Gate.ends)
+        (store_named N.kept N.opened.next N.safe N.counted N.began) (asking_of agents.now) result.1
+        gates.items (listen_view_of O.back O.faults listen.old)
+        (listen_view_of O.back O.faults listen.new) result.0.0 }
 {
     let mut desks = make_desks(alloc, sessions, gates, desks);
     let keeper = serve_desks(rt, alloc, live, agents, desks.as_mut_slice(), clock);
@@ -256,16 +257,12 @@ where
     requires counted { N.counted ≡ D.faults keeper.first + D.faults keeper.second }
     requires few { (0 < length gates.items) × (length gates.items < 65) }
     requires room { length gates.items ≤ O.room listen.old }
-    ensures { AreUnserved D.image D.moment D.left_since D.faults (C.may_give clock.now)
-        (link_view_of O.Gate.Conn.rest O.Gate.Conn.sent O.Gate.Conn.counts)
-        (gate_view_of O.Gate.rest O.Gate.back O.Gate.faults O.Gate.given O.Gate.ends)
-        keeper result.1 gates.items (listen_view_of O.back O.faults listen.old)
-        (listen_view_of O.back O.faults listen.new) places.old places.new result.0.0
-        ⊎ AreServedAs D.image D.moment D.left_since D.faults (C.may_give clock.now)
-        (link_view_of O.Gate.Conn.rest O.Gate.Conn.sent O.Gate.Conn.counts)
-        (gate_view_of O.Gate.rest O.Gate.back O.Gate.faults O.Gate.given O.Gate.ends)
-        N.kept N.opened.next N.safe N.counted N.began (asking_of agents.now) result.1 gates.items
-        (listen_view_of O.back O.faults listen.old) (listen_view_of O.back O.faults listen.new)
+    ensures { RunsGates (host_of D.image D.moment D.left_since D.faults (C.may_give clock.now)
+        O.Gate.Conn.rest O.Gate.Conn.sent O.Gate.Conn.counts O.Gate.rest O.Gate.back O.Gate.faults
+        O.Gate.given O.Gate.ends)
+        (store_named N.kept N.opened.next N.safe N.counted N.began) (asking_of agents.now) keeper
+        result.1 gates.items
+        (listener_of O.may_open O.back O.faults listen.old listen.new places.old places.new)
         result.0.0 }
 {
     let workers = gates.len();
@@ -301,19 +298,11 @@ where
     requires stands { StandsForSome D.image keeper }
     requires few { (0 < length gates.items) × (length gates.items < 65) }
     requires room { length gates.items ≤ O.room listen.old }
-    ensures { AreUnserved D.image D.moment D.left_since D.faults (C.may_give clock.now)
-        (link_view_of O.Gate.Conn.rest O.Gate.Conn.sent O.Gate.Conn.counts)
-        (gate_view_of O.Gate.rest O.Gate.back O.Gate.faults O.Gate.given O.Gate.ends)
-        keeper result.1 gates.items (listen_view_of O.back O.faults listen.old)
-        (listen_view_of O.back O.faults listen.new) places.old places.new result.0.0
-        ⊎ AreServedAs D.image D.moment D.left_since D.faults (C.may_give clock.now)
-        (link_view_of O.Gate.Conn.rest O.Gate.Conn.sent O.Gate.Conn.counts)
-        (gate_view_of O.Gate.rest O.Gate.back O.Gate.faults O.Gate.given O.Gate.ends)
-        (KeptSome D.image keeper) keeper.next (IsSafe D.image keeper)
-        (D.faults keeper.first + D.faults keeper.second) (λ (k : KeeperState D). keeper ≡ k)
-        (asking_of (Agents.Table table)) result.1
-        gates.items (listen_view_of O.back O.faults listen.old)
-        (listen_view_of O.back O.faults listen.new) result.0.0 }
+    ensures { RunsOpened (host_of D.image D.moment D.left_since D.faults (C.may_give clock.now)
+        O.Gate.Conn.rest O.Gate.Conn.sent O.Gate.Conn.counts O.Gate.rest O.Gate.back O.Gate.faults
+        O.Gate.given O.Gate.ends) keeper result.1 table gates.items
+        (listener_of O.may_open O.back O.faults listen.old listen.new places.old places.new)
+        result.0.0 }
 {
     let names = Names::new(gates.len() as u64);
     let agents = Agents::Table(table);
@@ -337,12 +326,11 @@ where
     O::Gate: Send,
     requires workers { (0 < settings.workers) × (settings.workers < 65) }
     requires stands { StandsForSome D.image keeper }
-    ensures { RunsListener D.image D.moment D.left_since D.faults (C.may_give clock.now)
-        (link_view_of O.Gate.Conn.rest O.Gate.Conn.sent O.Gate.Conn.counts)
-        (gate_view_of O.Gate.rest O.Gate.back O.Gate.faults O.Gate.given O.Gate.ends)
-        keeper result.1 table settings.workers (O.may_open listen.old)
-        (listen_view_of O.back O.faults listen.old) (listen_view_of O.back O.faults listen.new)
-        places.old places.new result.0.0 }
+    ensures { RunsListener (host_of D.image D.moment D.left_since D.faults (C.may_give clock.now)
+        O.Gate.Conn.rest O.Gate.Conn.sent O.Gate.Conn.counts O.Gate.rest O.Gate.back O.Gate.faults
+        O.Gate.given O.Gate.ends) keeper result.1
+        (listener_of O.may_open O.back O.faults listen.old listen.new places.old places.new)
+        table settings.workers result.0.0 }
 {
     match listen.open(alloc, settings.port, settings.workers as usize) {
         Ok(gates) => run_gates(rt, alloc, keeper, table, gates, listen, places, clock),
@@ -373,14 +361,12 @@ where
     O::Gate: Send,
     requires workers { (0 < settings.workers) × (settings.workers < 65) }
     requires stands { StandsForSome D.image keeper }
-    ensures { RunsTokens D.image D.moment D.left_since D.faults (C.may_give clock.now)
-        (link_view_of O.Gate.Conn.rest O.Gate.Conn.sent O.Gate.Conn.counts)
-        (gate_view_of O.Gate.rest O.Gate.back O.Gate.faults O.Gate.given O.Gate.ends)
-        keeper result.1 settings.workers
-        (tokens_of T.rest T.faults T.reads T.ends tokens.old tokens.new)
-        (errors_of E.taken E.faults errors.old errors.new) (O.may_open listen.old)
-        (listen_view_of O.back O.faults listen.old) (listen_view_of O.back O.faults listen.new)
-        places.old places.new result.0.0 }
+    ensures { RunsTokens (host_of D.image D.moment D.left_since D.faults (C.may_give clock.now)
+        O.Gate.Conn.rest O.Gate.Conn.sent O.Gate.Conn.counts O.Gate.rest O.Gate.back O.Gate.faults
+        O.Gate.given O.Gate.ends) keeper result.1
+        (listener_of O.may_open O.back O.faults listen.old listen.new places.old places.new)
+        settings.workers (tokens_of T.rest T.faults T.reads T.ends tokens.old tokens.new)
+        (errors_of E.taken E.faults errors.old errors.new) result.0.0 }
 {
     match read_table(alloc, tokens) {
         Ok(table) => run_listener(rt, alloc, settings, keeper, table, listen, places, clock),
@@ -410,14 +396,13 @@ fn run_store<
 where
     O::Gate: Send,
     requires { (0 < settings.workers) × (settings.workers < 65) }
-    ensures { RunsPodd D.image D.moment D.left_since D.faults (C.may_give clock.now)
-        (link_view_of O.Gate.Conn.rest O.Gate.Conn.sent O.Gate.Conn.counts)
-        (gate_view_of O.Gate.rest O.Gate.back O.Gate.faults O.Gate.given O.Gate.ends)
-        D.content disks.first disks.second result.1.first result.1.second
+    ensures { RunsPodd (host_of D.image D.moment D.left_since D.faults (C.may_give clock.now)
+        O.Gate.Conn.rest O.Gate.Conn.sent O.Gate.Conn.counts O.Gate.rest O.Gate.back O.Gate.faults
+        O.Gate.given O.Gate.ends)
+        (disks_of D.content D.image D.moment D.left_since D.faults disks result.1)
+        (listener_of O.may_open O.back O.faults listen.old listen.new places.old places.new)
         settings.workers (tokens_of T.rest T.faults T.reads T.ends tokens.old tokens.new)
-        (errors_of E.taken E.faults errors.old errors.new) (O.may_open listen.old)
-        (listen_view_of O.back O.faults listen.old) (listen_view_of O.back O.faults listen.new)
-        places.old places.new result.0.0 }
+        (errors_of E.taken E.faults errors.old errors.new) result.0.0 }
 {
     match Keeper::open(alloc, disks) {
         Ok(keeper) => {
@@ -460,24 +445,20 @@ where
     ensures place { IsSome place.new.disks }
     ensures words { (result.0 ≡ 2) ↔ (reading (map string_bytes words.now) ≡ None) }
     ensures runs { IfSome (reading (map string_bytes words.now)) (λ settings.
-        IfSome place.old.disks (λ old. IfSome place.new.disks (λ new.
-        RunsPodd D.image D.moment D.left_since D.faults (C.may_give clock.now)
-        (link_view_of O.Gate.Conn.rest O.Gate.Conn.sent O.Gate.Conn.counts)
-        (gate_view_of O.Gate.rest O.Gate.back O.Gate.faults O.Gate.given O.Gate.ends)
-        D.content old.first old.second new.first new.second settings.workers
+        HoldsOfDisks D.content D.image D.moment D.left_since D.faults place.old place.new (λ disks.
+        RunsPodd (host_of D.image D.moment D.left_since D.faults (C.may_give clock.now)
+        O.Gate.Conn.rest O.Gate.Conn.sent O.Gate.Conn.counts O.Gate.rest O.Gate.back O.Gate.faults
+        O.Gate.given O.Gate.ends) disks
+        (listener_of O.may_open O.back O.faults listen.old listen.new places.old places.new)
+        settings.workers
         (tokens_of T.rest T.faults T.reads T.ends place.old.tokens place.new.tokens)
-        (errors_of E.taken E.faults errors.old errors.new) (O.may_open listen.old)
-        (listen_view_of O.back O.faults listen.old) (listen_view_of O.back O.faults listen.new)
-        places.old places.new result.0))) }
+        (errors_of E.taken E.faults errors.old errors.new) result.0)) }
     ensures idle { reading (map string_bytes words.now) ≡ None
         → (place.new ≡ place.old) × (listen.new ≡ listen.old) × (places.new ≡ places.old)
         × (errors.new ≡ errors.old) }
     ensures read_fault { result.0 ≡ 3
         → CountIncreased (T.faults place.old.tokens) (T.faults place.new.tokens) }
-    ensures disk_fault { result.0 ≡ 6
-        → IfSome place.old.disks (λ old. IfSome place.new.disks (λ new.
-        CountIncreased (D.faults old.first) (D.faults new.first)
-        ⊎ CountIncreased (D.faults old.second) (D.faults new.second))) }
+    ensures disk_fault { DiskFaultCounted D.faults place.old place.new result.0 }
     ensures view_fault { result.0 ≡ 8 → CountIncreasedByOne places.old places.new }
     ensures listen_fault { result.0 ≡ 11
         → CountIncreased (O.faults listen.old) (O.faults listen.new)

@@ -12,6 +12,7 @@ use Rattle.pod_live.specs.Takes.{TakenItem}
 use Rattle.pod_live.specs.Visits.{IsNewVisit, Meets, Visit}
 use Rattle.pod_serve.specs.Desks.{EachDeskServed, GateView}
 use Rattle.pod_serve.specs.PoddRuns.{AreServed, DeskRun}
+use Rattle.pod_serve.specs.RunHosts.{Host}
 use Rattle.pod_serve.specs.Served.{LinkView}
 use Rattle.pod_serve.specs.declared.desk.DeskEnd.{DeskEnd}
 use Rattle.reply_laws.specs.Laws.{EntriesHaveBases}
@@ -27,6 +28,18 @@ total f (x ∷ xs) = f x + total f xs
 total_is : {X : Type 0} (f : X → ℕ) (xs : List X) → total f xs ≡ sum_by f xs
 total_is f xs = is_sum_by (total f) f refl (λ _ _. refl) xs
 
+-- disks of which nothing is said
+abbrev on_no_disks : {G C : Type 0} → (ℕ → Type 0) → (C → LinkView) → (G → GateView C) → Host ℕ G C
+on_no_disks may_give view gate_view = record {
+  image = λ disk image. Unit {0};
+  moment = λ disk. 0;
+  left_since = λ disk moment image. Unit {0};
+  faults = λ disk. 0;
+  may_give = may_give;
+  link_view = view;
+  gate_view = gate_view;
+}
+
 module _ (kept : History → Type 0) (first : ℕ) (may_give : ℕ → Type 0) (asking : Request → AskedAgent) {S G C : Type 0} (view : C → LinkView) (gate_view : G → GateView C) (session : S → Visit) (gate : S → G) (told : S → Option DeskEnd) (list : List Entry) (step : ℕ) where
   abbrev Each : ℕ → List S → List S → Type 0
   Each = EachDeskServed kept first may_give asking view gate_view session gate told step
@@ -34,15 +47,14 @@ module _ (kept : History → Type 0) (first : ℕ) (may_give : ℕ → Type 0) (
   abbrev items : (number : ℕ) (old served : List S) → Each number old served → List Item
   items number old served each = served_items kept first may_give asking view gate_view session gate told step number old served each
 
-  -- what a crash leaves says nothing here
   abbrev Are : ℕ → List (DeskRun G) → Type 0
-  Are = AreServed {D = ℕ} (λ disk image. Unit {0}) (λ disk. 0) may_give view gate_view kept first asking list step
+  Are = AreServed (on_no_disks may_give view gate_view) kept first asking list step
 
   record Run (number : ℕ) (old served : List S) (each : Each number old served) : Type 0 where
     pub desks : List (DeskRun G)
     pub count : length desks ≡ length old
     pub are : Are number desks
-    pub items_are : desk_items {D = ℕ} (λ disk image. Unit {0}) (λ disk. 0) may_give view gate_view kept first asking list step number desks are ≡ items number old served each
+    pub items_are : desk_items (on_no_disks may_give view gate_view) kept first asking list step number desks are ≡ items number old served each
     pub changes : total (λ (desk : DeskRun G). desk.after.changes) desks ≡ total (λ (desk : S). (session desk).changes) served
 
   abbrev AllSeen : List S → List S → Type 0
@@ -71,4 +83,4 @@ each_change_of_desks_once kept first may_give asking view gate_view session gate
     let of = run_of kept first may_give asking view gate_view session gate told run.list (length old) 1 old run.served new run.desks run.met fresh in
     let added : length run.list ≡ sum_by (λ (desk : DeskRun _). desk.after.changes) of.desks = omega (arith, run.grown, ap length empty, total_is (λ desk. (session desk).changes) run.served, of.changes, total_is (λ (desk : DeskRun _). desk.after.changes) of.desks) in
     subst (λ (xs : List Item). IsEachOnce first run.list xs) of.items_are
-    (each_once {D = ℕ} (λ disk image. Unit {0}) (λ disk. 0) may_give view gate_view kept first asking run.list (length old) bases history held of.desks of.are of.count added)
+    (each_once (on_no_disks may_give view gate_view) kept first asking run.list (length old) bases history held of.desks of.are of.count added)

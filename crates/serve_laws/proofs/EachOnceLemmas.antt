@@ -20,8 +20,9 @@ use Rattle.pod_core.specs.Session.{Item, Outcome, answered, disk_fault, no_memor
 use Rattle.pod_live.specs.Stores.{KeptSome}
 use Rattle.pod_live.specs.Visits.{Visit}
 use Rattle.pod_serve.specs.Connections.{ConnServed, FollowsRequests}
-use Rattle.pod_serve.specs.Desks.{Conns, GateView, ServedLink}
+use Rattle.pod_serve.specs.Desks.{Conns, ServedLink}
 use Rattle.pod_serve.specs.PoddRuns.{AreServed, DeskRun}
+use Rattle.pod_serve.specs.RunHosts.{Host}
 use Rattle.pod_serve.specs.Served.{Items, LinkView, changes_in}
 use Rattle.pod_serve.specs.declared.connection_end.ConnEnd.{ConnEnd}
 use Rattle.pod_serve.specs.declared.connection_end.ConnEnd.TheVariants as ends
@@ -285,29 +286,28 @@ apart s t step i j after within same = elim (leb_tells i j) [
   | inr w ↦ let more : j + 1 ≤ i = omega (arith, w.1) in omega (arith, same, within, mul-le-mul_right step more)
 ]
 
-module _ {D G C : Type 0} (image : D → List ℕ → Type 0) (faults : D → ℕ) (may_give : ℕ → Type 0) (link_view : C → LinkView) (gate_view : G → GateView C) (kept : History → Type 0) (first : ℕ)
-    (asking : Request → AskedAgent) (list : List Entry) (step : ℕ) where
+module _ {D G C : Type 0} (host : Host D G C) (kept : History → Type 0) (first : ℕ) (asking : Request → AskedAgent) (list : List Entry) (step : ℕ) where
   abbrev AreDesks : ℕ → List (DeskRun G) → Type 0
-  AreDesks number desks = AreServed image faults may_give link_view gate_view kept first asking list step number desks
+  AreDesks number desks = AreServed host kept first asking list step number desks
 
   abbrev all_items : (number : ℕ) (desks : List (DeskRun G)) → AreDesks number desks → List Item
-  all_items number desks s = desk_items image faults may_give link_view gate_view kept first asking list step number desks s
+  all_items number desks s = desk_items host kept first asking list step number desks s
 
   abbrev head_items : (number : ℕ) (desk : DeskRun G) (others : List (DeskRun G)) → AreDesks number (desk ∷ others) → List Item
-  head_items number desk others s = conn_items kept first may_give asking link_view step number desk.before s.1.links desk.after s.1.conns
+  head_items number desk others s = conn_items kept first host.may_give asking host.link_view step number desk.before s.1.links desk.after s.1.conns
 
   desks_stand : (number : ℕ) (desks : List (DeskRun G)) (s : AreDesks number desks) → AllByRecursion (λ (item : Item). StandsOn first list item.outcome) (all_items number desks s)
   desks_stand number [] s = tt
   desks_stand number (desk ∷ others) s =
       all_append (λ (item : Item). StandsOn first list item.outcome) (head_items number desk others s) (all_items (number + 1) others s.3)
-      (conns_stand kept first may_give asking link_view step list number desk.before s.1.links desk.after s.1.conns s.2) (desks_stand (number + 1) others s.3)
+      (conns_stand kept first host.may_give asking host.link_view step list number desk.before s.1.links desk.after s.1.conns s.2) (desks_stand (number + 1) others s.3)
 
   desks_changes : (number : ℕ) (desks : List (DeskRun G)) (s : AreDesks number desks) → total (λ (desk : DeskRun G). desk.after.changes) desks ≡ changes_in (all_items number desks s)
   desks_changes number [] s = refl
   desks_changes number (desk ∷ others) s =
       omega (
         arith,
-        conns_changes kept first may_give asking link_view step number desk.before s.1.links desk.after s.1.conns,
+        conns_changes kept first host.may_give asking host.link_view step number desk.before s.1.links desk.after s.1.conns,
         s.0.changes,
         desks_changes (number + 1) others s.3,
         changes_append (head_items number desk others s) (all_items (number + 1) others s.3),
@@ -320,7 +320,7 @@ module _ {D G C : Type 0} (image : D → List ℕ → Type 0) (faults : D → �
     desks_past s j number (desk ∷ others) d at after within =
         let both = times_append place (head_items number desk others d) (all_items (number + 1) others d.3) in
         let rest = desks_past s j (number + 1) others d.3 at (omega (arith, after)) (omega (arith, within)) in
-        elim (conns_number kept first may_give asking link_view step bases history held list place there is number desk.before d.1.links desk.after d.1.conns d.2) [
+        elim (conns_number kept first host.may_give asking host.link_view step bases history held list place there is number desk.before d.1.links desk.after d.1.conns d.2) [
           | inl one ↦ absurd (apart s number step j one.0 after (omega (arith, within)) (sym at ∙ one.1))
           | inr none ↦ omega (arith, both, none, rest)
         ]
@@ -329,11 +329,11 @@ module _ {D G C : Type 0} (image : D → List ℕ → Type 0) (faults : D → �
     desks_at_most_one some number [] d few = omega arith
     desks_at_most_one some number (desk ∷ others) d few =
         let both = times_append place (head_items number desk others d) (all_items (number + 1) others d.3) in
-        elim (conns_number kept first may_give asking link_view step bases history held list place there is number desk.before d.1.links desk.after d.1.conns d.2) [
+        elim (conns_number kept first host.may_give asking host.link_view step bases history held list place there is number desk.before d.1.links desk.after d.1.conns d.2) [
           | inl one ↦ omega (
             arith,
             both,
-            conns_at_most_one kept first may_give asking link_view step bases history held list place there is some number desk.before d.1.links desk.after d.1.conns d.2,
+            conns_at_most_one kept first host.may_give asking host.link_view step bases history held list place there is some number desk.before d.1.links desk.after d.1.conns d.2,
             desks_past number one.0 (number + 1) others d.3 one.1 (omega arith) (omega (arith, few)),
           )
           | inr none ↦ omega (arith, both, none, desks_at_most_one some (number + 1) others d.3 (omega (arith, few)))
@@ -365,7 +365,6 @@ module _ {D G C : Type 0} (image : D → List ℕ → Type 0) (faults : D → �
             subst (λ n. times_added n items ≡ 1) back (once_each (λ k. times_added (first + k) items) (length list) at_most full (place - first) (omega (arith, from, to)));
       }
 
-pub each_change_once : {D G C : Type 0} (image : D → List ℕ → Type 0) (faults : D → ℕ) (may_give : ℕ → Type 0) (link_view : C → LinkView) (gate_view : G → GateView C) → EntriesHaveBases
-    → EachChangeOnce image faults may_give link_view gate_view
-each_change_once image faults may_give link_view gate_view bases keeper left agents gates old new status run history held =
-    each_once image faults may_give link_view gate_view (KeptSome image keeper) keeper.next (asking_of (Table agents)) run.list (length run.desks) bases history held run.desks run.served refl run.grown
+pub each_change_once : {D G C : Type 0} (host : Host D G C) → EntriesHaveBases → EachChangeOnce host
+each_change_once host bases keeper left agents gates old new status run history held =
+    each_once host (KeptSome host.image keeper) keeper.next (asking_of (Table agents)) run.list (length run.desks) bases history held run.desks run.served refl run.grown

@@ -21,6 +21,7 @@ use Rattle.pod_live.specs.Visits.{Visit}
 use Rattle.pod_serve.specs.Connections.{ConnServed, FollowsRequests, requests_end}
 use Rattle.pod_serve.specs.Desks.{Conns, GateView, IsDeskEnd, NoneOutOfMemory, ServedLink}
 use Rattle.pod_serve.specs.PoddRuns.{AreServed, DeskRun}
+use Rattle.pod_serve.specs.RunHosts.{Host}
 use Rattle.pod_serve.specs.Served.{AreEventsRead, Items, LinkView}
 use Rattle.pod_serve.specs.WorldRuns.{IsRun, fresh_connection}
 use Rattle.pod_serve.specs.declared.connection_end.ConnEnd.{ConnEnd}
@@ -99,22 +100,22 @@ then_seen kept items ends.Closed before after old new wires counted f = same_see
 then_seen kept items ends.NoPlace before after old new wires counted f = same_seen before after f.0
 then_seen kept items ends.NoMemory before after old new wires counted f = same_seen before after f.0
 
-module _ (kept : History → Type 0) (first : ℕ) (may_give : ℕ → Type 0) (asking : Request → AskedAgent) (step : ℕ) (history : History) (held : kept history) (based : end_of history ≡ first) (list : List Entry) (no_entries : ReadsHaveNone) (start : World)
-    (seen_shown : (events : List Event) (world : World) → WorldRun may_give asking start events world → (n : ℕ) (c : Connection) → world.connections n ≡ Some c → c.seen ≤ world.published) where
+module _ {D G C : Type 0} (host : Host D G C) (kept : History → Type 0) (first : ℕ) (asking : Request → AskedAgent) (step : ℕ) (history : History) (held : kept history) (based : end_of history ≡ first) (list : List Entry) (no_entries : ReadsHaveNone) (start : World)
+    (seen_shown : (events : List Event) (world : World) → WorldRun host.may_give asking start events world → (n : ℕ) (c : Connection) → world.connections n ≡ Some c → c.seen ≤ world.published) where
   abbrev Tracked : Type 0
-  Tracked = Track kept may_give asking
+  Tracked = Track kept host.may_give asking
 
   abbrev AreOk : List Tracked → Type 0
-  AreOk ts = AllByRecursion (IsOk kept may_give asking history held list first based start seen_shown first start) ts
+  AreOk ts = AllByRecursion (IsOk kept host.may_give asking history held list first based start seen_shown first start) ts
 
   abbrev AreApart : List Tracked → Type 0
-  AreApart ts = Apart kept may_give asking history held list first based start seen_shown ts
+  AreApart ts = Apart kept host.may_give asking history held list first based start seen_shown ts
 
   abbrev counts : ℕ → List Tracked → ℕ
-  counts place ts = total kept may_give asking history held list first based start seen_shown place ts
+  counts place ts = total kept host.may_give asking history held list first based start seen_shown place ts
 
   abbrev AreDone : World → List Tracked → Type 0
-  AreDone world ts = IsDone kept may_give asking history held list first based start seen_shown world ts
+  AreDone world ts = IsDone kept host.may_give asking history held list first based start seen_shown world ts
 
   counts_both : (place : ℕ) (xs ys : List Tracked) → counts place (xs ++ ys) ≡ counts place xs + counts place ys
   counts_both place [] ys = omega arith
@@ -130,31 +131,31 @@ module _ (kept : History → Type 0) (first : ℕ) (may_give : ℕ → Type 0) (
   abbrev HasNew : ℕ → Type 0
   HasNew n = start.connections n ≡ Some (fresh_connection first)
 
-  module _ (number : ℕ) (end : ConnEnd) (before after : Visit) (old new : LinkView) (wires counted : WireCounts) (s : ConnServed kept first may_give asking number end before after old new wires counted) (ne : end ≢ ends.NoMemory) where
+  module _ (number : ℕ) (end : ConnEnd) (before after : Visit) (old new : LinkView) (wires counted : WireCounts) (s : ConnServed kept first host.may_give asking number end before after old new wires counted) (ne : end ≢ ends.NoMemory) where
     abbrev its_parse : (all : List Heard) × (rest : ℕ) × Messages s.requests.read all rest
     its_parse = parse_of end ne s.requests.read s.requests.events s.turned.rest s.requests.hears
 
-    abbrev its_run : IsRun kept may_give asking number s.mid.seen first s.requests.arrivals.pieces s.requests.items.list s.requests.items.refusal s.requests.read its_parse.0
+    abbrev its_run : IsRun kept host.may_give asking number s.mid.seen first s.requests.arrivals.pieces s.requests.items.list s.requests.items.refusal s.requests.read its_parse.0
     its_run = s.requests.run its_parse.0 its_parse.1 its_parse.2 first (omega arith)
 
     abbrev its_track : Tracked
-    its_track = track_of kept may_give asking number s.mid.seen first s.requests.arrivals.pieces s.requests.items.list s.requests.items.refusal s.requests.read its_parse.0 its_run
+    its_track = track_of kept host.may_give asking number s.mid.seen first s.requests.arrivals.pieces s.requests.items.list s.requests.items.refusal s.requests.read its_parse.0 its_run
 
     its_items : steps_items its_track.steps ≡ s.requests.items.list
-    its_items = track_items kept may_give asking number s.mid.seen first s.requests.arrivals.pieces s.requests.items.list s.requests.items.refusal s.requests.read its_parse.0 its_run
+    its_items = track_items kept host.may_give asking number s.mid.seen first s.requests.arrivals.pieces s.requests.items.list s.requests.items.refusal s.requests.read its_parse.0 its_run
 
     its_counts : (place : ℕ) → times_added place (steps_items its_track.steps) ≡ times_added place s.items.list
     its_counts place = ap (times_added place) its_items ∙ ap (λ (i : Items). times_added place i.list) (sym s.items_are)
 
-    its_ok : IsPrefix after.seen list → HasNew number → AllByRecursion (λ (item : Item). IsReplied item.outcome) s.items.list → IsOk kept may_give asking history held list first based start seen_shown first start its_track
+    its_ok : IsPrefix after.seen list → HasNew number → AllByRecursion (λ (item : Item). IsReplied item.outcome) s.items.list → IsOk kept host.may_give asking history held list first based start seen_shown first start its_track
     its_ok p there replied =
         let answered : AllByRecursion (λ (item : Item). IsReplied item.outcome) s.requests.items.list = subst (λ (i : Items). AllByRecursion (λ (item : Item). IsReplied item.outcome) i.list) s.items_are replied in
         record {
           there = there;
           within = prefix_trans s.mid.seen after.seen list (then_seen kept s.items.list end s.mid after s.turned new wires counted s.follows) p;
           climbs = subst (Climbs first) (sym its_items)
-              (climbs_from first (first + length before.seen) s.requests.items.list (omega arith) (walk_climbs kept first number may_give history held no_entries s.requests.items.list before.seen s.mid.seen s.requests.walk answered));
-          fine = subst (AllByRecursion IsFine) (sym its_items) (walk_fine kept first number may_give history held no_entries s.requests.items.list before.seen s.mid.seen s.requests.walk answered);
+              (climbs_from first (first + length before.seen) s.requests.items.list (omega arith) (walk_climbs kept first number host.may_give history held no_entries s.requests.items.list before.seen s.mid.seen s.requests.walk answered));
+          fine = subst (AllByRecursion IsFine) (sym its_items) (walk_fine kept first number host.may_give history held no_entries s.requests.items.list before.seen s.mid.seen s.requests.walk answered);
         }
 
     its_world : (world : World) → world.connections number ≡ Some its_track.last → IsInWorld world s
@@ -170,157 +171,155 @@ module _ (kept : History → Type 0) (first : ℕ) (may_give : ℕ → Type 0) (
 
   -- ---- the connections of a desk
 
-  module _ {C : Type 0} (view : C → LinkView) where
-    abbrev AreConns : ℕ → Visit → List (ServedLink C) → Visit → Type 0
-    AreConns number before links after = Conns kept first may_give asking view step number before links after
+  abbrev AreConns : ℕ → Visit → List (ServedLink C) → Visit → Type 0
+  AreConns number before links after = Conns kept first host.may_give asking host.link_view step number before links after
 
-    abbrev conn_tracks : (number : ℕ) (before : Visit) (links : List (ServedLink C)) (after : Visit) → AreConns number before links after → NoneOutOfMemory links → List Tracked
-    conn_tracks number before [] after c m = []
-    conn_tracks number before (one ∷ others) after c m =
-        its_track number one.end before c.0 (view one.given) (view one.back) one.wires one.counted c.1 m.0 ∷ conn_tracks (number + step) c.0 others after c.2 m.1
+  abbrev conn_tracks : (number : ℕ) (before : Visit) (links : List (ServedLink C)) (after : Visit) → AreConns number before links after → NoneOutOfMemory links → List Tracked
+  conn_tracks number before [] after c m = []
+  conn_tracks number before (one ∷ others) after c m =
+      its_track number one.end before c.0 (host.link_view one.given) (host.link_view one.back) one.wires one.counted c.1 m.0 ∷ conn_tracks (number + step) c.0 others after c.2 m.1
 
-    conn_counts : (place number : ℕ) (before : Visit) (links : List (ServedLink C)) (after : Visit) (c : AreConns number before links after) (m : NoneOutOfMemory links)
-        → counts place (conn_tracks number before links after c m) ≡ times_added place (conn_items kept first may_give asking view step number before links after c)
-    conn_counts place number before [] after c m = refl
-    conn_counts place number before (one ∷ others) after c m =
-        omega (
-          arith,
-          its_counts number one.end before c.0 (view one.given) (view one.back) one.wires one.counted c.1 m.0 place,
-          conn_counts place (number + step) c.0 others after c.2 m.1,
-          times_append place c.1.items.list (conn_items kept first may_give asking view step (number + step) c.0 others after c.2),
-        )
+  conn_counts : (place number : ℕ) (before : Visit) (links : List (ServedLink C)) (after : Visit) (c : AreConns number before links after) (m : NoneOutOfMemory links)
+      → counts place (conn_tracks number before links after c m) ≡ times_added place (conn_items kept first host.may_give asking host.link_view step number before links after c)
+  conn_counts place number before [] after c m = refl
+  conn_counts place number before (one ∷ others) after c m =
+      omega (
+        arith,
+        its_counts number one.end before c.0 (host.link_view one.given) (host.link_view one.back) one.wires one.counted c.1 m.0 place,
+        conn_counts place (number + step) c.0 others after c.2 m.1,
+        times_append place c.1.items.list (conn_items kept first host.may_give asking host.link_view step (number + step) c.0 others after c.2),
+      )
 
-    conn_ok : (number : ℕ) (before : Visit) (links : List (ServedLink C)) (after : Visit) (c : AreConns number before links after) (m : NoneOutOfMemory links) → IsPrefix after.seen list → AllByRecursion HasNew (conn_numbers step number links)
-        → AllByRecursion (λ (item : Item). IsReplied item.outcome) (conn_items kept first may_give asking view step number before links after c) → AreOk (conn_tracks number before links after c m)
-    conn_ok number before [] after c m p there replied = tt
-    conn_ok number before (one ∷ others) after c m p there replied =
-        let both = all_split (λ (item : Item). IsReplied item.outcome) c.1.items.list (conn_items kept first may_give asking view step (number + step) c.0 others after c.2) replied in (
-          its_ok number one.end before c.0 (view one.given) (view one.back) one.wires one.counted c.1 m.0 (prefix_trans c.0.seen after.seen list (conns_later kept first may_give asking view step (number + step) c.0 others after c.2) p) there.0 both.0,
-          conn_ok (number + step) c.0 others after c.2 m.1 p there.1 both.1,
-        )
+  conn_ok : (number : ℕ) (before : Visit) (links : List (ServedLink C)) (after : Visit) (c : AreConns number before links after) (m : NoneOutOfMemory links) → IsPrefix after.seen list → AllByRecursion HasNew (conn_numbers step number links)
+      → AllByRecursion (λ (item : Item). IsReplied item.outcome) (conn_items kept first host.may_give asking host.link_view step number before links after c) → AreOk (conn_tracks number before links after c m)
+  conn_ok number before [] after c m p there replied = tt
+  conn_ok number before (one ∷ others) after c m p there replied =
+      let both = all_split (λ (item : Item). IsReplied item.outcome) c.1.items.list (conn_items kept first host.may_give asking host.link_view step (number + step) c.0 others after c.2) replied in (
+        its_ok number one.end before c.0 (host.link_view one.given) (host.link_view one.back) one.wires one.counted c.1 m.0 (prefix_trans c.0.seen after.seen list (conns_later kept first host.may_give asking host.link_view step (number + step) c.0 others after c.2) p) there.0 both.0,
+        conn_ok (number + step) c.0 others after c.2 m.1 p there.1 both.1,
+      )
 
-    -- their numbers
-    abbrev IsOn : ℕ → Tracked → Type 0
-    IsOn number t = (j : ℕ) × (t.conn ≡ number + j * step)
+  -- their numbers
+  abbrev IsOn : ℕ → Tracked → Type 0
+  IsOn number t = (j : ℕ) × (t.conn ≡ number + j * step)
 
-    next_on : (number : ℕ) (t : Tracked) → IsOn (number + step) t → IsOn number t
-    next_on number t o = (suc o.0, omega (arith, o.1))
+  next_on : (number : ℕ) (t : Tracked) → IsOn (number + step) t → IsOn number t
+  next_on number t o = (suc o.0, omega (arith, o.1))
 
-    conn_on : (number : ℕ) (before : Visit) (links : List (ServedLink C)) (after : Visit) (c : AreConns number before links after) (m : NoneOutOfMemory links) → AllByRecursion (IsOn number) (conn_tracks number before links after c m)
-    conn_on number before [] after c m = tt
-    conn_on number before (one ∷ others) after c m = (
-      (0, omega arith),
-      all_weaker (IsOn (number + step)) (IsOn number) (next_on number) (conn_tracks (number + step) c.0 others after c.2 m.1) (conn_on (number + step) c.0 others after c.2 m.1),
-    )
+  conn_on : (number : ℕ) (before : Visit) (links : List (ServedLink C)) (after : Visit) (c : AreConns number before links after) (m : NoneOutOfMemory links) → AllByRecursion (IsOn number) (conn_tracks number before links after c m)
+  conn_on number before [] after c m = tt
+  conn_on number before (one ∷ others) after c m = (
+    (0, omega arith),
+    all_weaker (IsOn (number + step)) (IsOn number) (next_on number) (conn_tracks (number + step) c.0 others after c.2 m.1) (conn_on (number + step) c.0 others after c.2 m.1),
+  )
 
-    past_on : 0 < step → (number : ℕ) (t : Tracked) → IsOn (number + step) t → number ≢ t.conn
-    past_on some number t o = λ e. omega (arith, some, e, o.1)
+  past_on : 0 < step → (number : ℕ) (t : Tracked) → IsOn (number + step) t → number ≢ t.conn
+  past_on some number t o = λ e. omega (arith, some, e, o.1)
 
-    conn_apart : 0 < step → (number : ℕ) (before : Visit) (links : List (ServedLink C)) (after : Visit) (c : AreConns number before links after) (m : NoneOutOfMemory links) → AreApart (conn_tracks number before links after c m)
-    conn_apart some number before [] after c m = tt
-    conn_apart some number before (one ∷ others) after c m = (
-      all_weaker (IsOn (number + step)) (λ (t : Tracked). number ≢ t.conn) (past_on some number) (conn_tracks (number + step) c.0 others after c.2 m.1) (conn_on (number + step) c.0 others after c.2 m.1),
-      conn_apart some (number + step) c.0 others after c.2 m.1,
-    )
+  conn_apart : 0 < step → (number : ℕ) (before : Visit) (links : List (ServedLink C)) (after : Visit) (c : AreConns number before links after) (m : NoneOutOfMemory links) → AreApart (conn_tracks number before links after c m)
+  conn_apart some number before [] after c m = tt
+  conn_apart some number before (one ∷ others) after c m = (
+    all_weaker (IsOn (number + step)) (λ (t : Tracked). number ≢ t.conn) (past_on some number) (conn_tracks (number + step) c.0 others after c.2 m.1) (conn_on (number + step) c.0 others after c.2 m.1),
+    conn_apart some (number + step) c.0 others after c.2 m.1,
+  )
 
-    conn_done : (world : World) (number : ℕ) (before : Visit) (links : List (ServedLink C)) (after : Visit) (c : AreConns number before links after) (m : NoneOutOfMemory links) → AreDone world (conn_tracks number before links after c m)
-        → AreInWorld kept first may_give asking view step world number before links after c
-    conn_done world number before [] after c m d = tt
-    conn_done world number before (one ∷ others) after c m d = (
-      its_world number one.end before c.0 (view one.given) (view one.back) one.wires one.counted c.1 m.0 world d.0,
-      conn_done world (number + step) c.0 others after c.2 m.1 d.1,
-    )
+  conn_done : (world : World) (number : ℕ) (before : Visit) (links : List (ServedLink C)) (after : Visit) (c : AreConns number before links after) (m : NoneOutOfMemory links) → AreDone world (conn_tracks number before links after c m)
+      → AreInWorld kept first host.may_give asking host.link_view step world number before links after c
+  conn_done world number before [] after c m d = tt
+  conn_done world number before (one ∷ others) after c m d = (
+    its_world number one.end before c.0 (host.link_view one.given) (host.link_view one.back) one.wires one.counted c.1 m.0 world d.0,
+    conn_done world (number + step) c.0 others after c.2 m.1 d.1,
+  )
 
   -- ---- all desks
 
-  none_out : {C : Type 0} (end : DeskEnd) → end ≢ NoMemory → (links : List (ServedLink C)) (old new : GateView C) → IsDeskEnd end links old new → NoneOutOfMemory links
+  none_out : (end : DeskEnd) → end ≢ NoMemory → (links : List (ServedLink C)) (old new : GateView C) → IsDeskEnd end links old new → NoneOutOfMemory links
   none_out GateEnded ne links old new e = e.0
   none_out GateFailed ne links old new e = e.0
   none_out NoMemory ne links old new e = absurd (ne refl)
 
-  module _ {D G C : Type 0} (image : D → List ℕ → Type 0) (faults : D → ℕ) (link_view : C → LinkView) (gate_view : G → GateView C) where
-    abbrev AreDesks : ℕ → List (DeskRun G) → Type 0
-    AreDesks number desks = AreServed image faults may_give link_view gate_view kept first asking list step number desks
+  abbrev AreDesks : ℕ → List (DeskRun G) → Type 0
+  AreDesks number desks = AreServed host kept first asking list step number desks
 
-    abbrev InMemory : List (DeskRun G) → Type 0
-    InMemory desks = AllByRecursion (λ (desk : DeskRun G). desk.end ≢ NoMemory) desks
+  abbrev InMemory : List (DeskRun G) → Type 0
+  InMemory desks = AllByRecursion (λ (desk : DeskRun G). desk.end ≢ NoMemory) desks
 
-    abbrev its_none : (number : ℕ) (desk : DeskRun G) (others : List (DeskRun G)) (s : AreDesks number (desk ∷ others)) → desk.end ≢ NoMemory → NoneOutOfMemory s.1.links
-    its_none number desk others s ne = none_out desk.end ne s.1.links (gate_view desk.opened) (gate_view desk.back) s.1.ended
+  abbrev its_none : (number : ℕ) (desk : DeskRun G) (others : List (DeskRun G)) (s : AreDesks number (desk ∷ others)) → desk.end ≢ NoMemory → NoneOutOfMemory s.1.links
+  its_none number desk others s ne = none_out desk.end ne s.1.links (host.gate_view desk.opened) (host.gate_view desk.back) s.1.ended
 
-    abbrev head_tracks : (number : ℕ) (desk : DeskRun G) (others : List (DeskRun G)) → AreDesks number (desk ∷ others) → desk.end ≢ NoMemory → List Tracked
-    head_tracks number desk others s ne = conn_tracks link_view number desk.before s.1.links desk.after s.1.conns (its_none number desk others s ne)
+  abbrev head_tracks : (number : ℕ) (desk : DeskRun G) (others : List (DeskRun G)) → AreDesks number (desk ∷ others) → desk.end ≢ NoMemory → List Tracked
+  head_tracks number desk others s ne = conn_tracks number desk.before s.1.links desk.after s.1.conns (its_none number desk others s ne)
 
-    abbrev all_tracks : (number : ℕ) (desks : List (DeskRun G)) → AreDesks number desks → InMemory desks → List Tracked
-    all_tracks number [] s m = []
-    all_tracks number (desk ∷ others) s m = head_tracks number desk others s m.0 ++ all_tracks (number + 1) others s.3 m.1
+  abbrev all_tracks : (number : ℕ) (desks : List (DeskRun G)) → AreDesks number desks → InMemory desks → List Tracked
+  all_tracks number [] s m = []
+  all_tracks number (desk ∷ others) s m = head_tracks number desk others s m.0 ++ all_tracks (number + 1) others s.3 m.1
 
-    abbrev its_head : (number : ℕ) (desk : DeskRun G) (others : List (DeskRun G)) → AreDesks number (desk ∷ others) → List Item
-    its_head number desk others s = conn_items kept first may_give asking link_view step number desk.before s.1.links desk.after s.1.conns
+  abbrev its_head : (number : ℕ) (desk : DeskRun G) (others : List (DeskRun G)) → AreDesks number (desk ∷ others) → List Item
+  its_head number desk others s = conn_items kept first host.may_give asking host.link_view step number desk.before s.1.links desk.after s.1.conns
 
-    abbrev its_all : (number : ℕ) (desks : List (DeskRun G)) → AreDesks number desks → List Item
-    its_all number desks s = desk_items image faults may_give link_view gate_view kept first asking list step number desks s
+  abbrev its_all : (number : ℕ) (desks : List (DeskRun G)) → AreDesks number desks → List Item
+  its_all number desks s = desk_items host kept first asking list step number desks s
 
-    abbrev its_numbers : (number : ℕ) (desks : List (DeskRun G)) → AreDesks number desks → List ℕ
-    its_numbers number desks s = desk_numbers image faults may_give link_view gate_view kept first asking list step number desks s
+  abbrev its_numbers : (number : ℕ) (desks : List (DeskRun G)) → AreDesks number desks → List ℕ
+  its_numbers number desks s = desk_numbers host kept first asking list step number desks s
 
-    all_counts : (place number : ℕ) (desks : List (DeskRun G)) (s : AreDesks number desks) (m : InMemory desks) → counts place (all_tracks number desks s m) ≡ times_added place (its_all number desks s)
-    all_counts place number [] s m = refl
-    all_counts place number (desk ∷ others) s m =
-        omega (
-          arith,
-          counts_both place (head_tracks number desk others s m.0) (all_tracks (number + 1) others s.3 m.1),
-          conn_counts link_view place number desk.before s.1.links desk.after s.1.conns (its_none number desk others s m.0),
-          all_counts place (number + 1) others s.3 m.1,
-          times_append place (its_head number desk others s) (its_all (number + 1) others s.3),
-        )
+  all_counts : (place number : ℕ) (desks : List (DeskRun G)) (s : AreDesks number desks) (m : InMemory desks) → counts place (all_tracks number desks s m) ≡ times_added place (its_all number desks s)
+  all_counts place number [] s m = refl
+  all_counts place number (desk ∷ others) s m =
+      omega (
+        arith,
+        counts_both place (head_tracks number desk others s m.0) (all_tracks (number + 1) others s.3 m.1),
+        conn_counts place number desk.before s.1.links desk.after s.1.conns (its_none number desk others s m.0),
+        all_counts place (number + 1) others s.3 m.1,
+        times_append place (its_head number desk others s) (its_all (number + 1) others s.3),
+      )
 
-    all_ok : (number : ℕ) (desks : List (DeskRun G)) (s : AreDesks number desks) (m : InMemory desks) → AllByRecursion HasNew (its_numbers number desks s) → AllByRecursion (λ (item : Item). IsReplied item.outcome) (its_all number desks s) → AreOk (all_tracks number desks s m)
-    all_ok number [] s m there replied = tt
-    all_ok number (desk ∷ others) s m there replied =
-        let news = all_split HasNew (conn_numbers step number s.1.links) (its_numbers (number + 1) others s.3) there in
-        let both = all_split (λ (item : Item). IsReplied item.outcome) (its_head number desk others s) (its_all (number + 1) others s.3) replied in
-        all_append (IsOk kept may_give asking history held list first based start seen_shown first start) (head_tracks number desk others s m.0) (all_tracks (number + 1) others s.3 m.1)
-        (conn_ok link_view number desk.before s.1.links desk.after s.1.conns (its_none number desk others s m.0) s.2 news.0 both.0)
-        (all_ok (number + 1) others s.3 m.1 news.1 both.1)
+  all_ok : (number : ℕ) (desks : List (DeskRun G)) (s : AreDesks number desks) (m : InMemory desks) → AllByRecursion HasNew (its_numbers number desks s) → AllByRecursion (λ (item : Item). IsReplied item.outcome) (its_all number desks s) → AreOk (all_tracks number desks s m)
+  all_ok number [] s m there replied = tt
+  all_ok number (desk ∷ others) s m there replied =
+      let news = all_split HasNew (conn_numbers step number s.1.links) (its_numbers (number + 1) others s.3) there in
+      let both = all_split (λ (item : Item). IsReplied item.outcome) (its_head number desk others s) (its_all (number + 1) others s.3) replied in
+      all_append (IsOk kept host.may_give asking history held list first based start seen_shown first start) (head_tracks number desk others s m.0) (all_tracks (number + 1) others s.3 m.1)
+      (conn_ok number desk.before s.1.links desk.after s.1.conns (its_none number desk others s m.0) s.2 news.0 both.0)
+      (all_ok (number + 1) others s.3 m.1 news.1 both.1)
 
-    -- the desk of a connection, by its number
-    abbrev IsOnDesk : ℕ → ℕ → Tracked → Type 0
-    IsOnDesk low high t = (d : ℕ) × (low ≤ d) × (d < high) × ((j : ℕ) × (t.conn ≡ d + j * step))
+  -- the desk of a connection, by its number
+  abbrev IsOnDesk : ℕ → ℕ → Tracked → Type 0
+  IsOnDesk low high t = (d : ℕ) × (low ≤ d) × (d < high) × ((j : ℕ) × (t.conn ≡ d + j * step))
 
-    all_on : (number high : ℕ) (desks : List (DeskRun G)) (s : AreDesks number desks) (m : InMemory desks) → number + length desks ≤ high → AllByRecursion (IsOnDesk number high) (all_tracks number desks s m)
-    all_on number high [] s m within = tt
-    all_on number high (desk ∷ others) s m within =
-        all_append (IsOnDesk number high) (head_tracks number desk others s m.0) (all_tracks (number + 1) others s.3 m.1)
-        (all_weaker (IsOn link_view number) (IsOnDesk number high) (λ t o. (number, omega arith, omega (arith, within), o)) (head_tracks number desk others s m.0)
-        (conn_on link_view number desk.before s.1.links desk.after s.1.conns (its_none number desk others s m.0)))
-        (all_weaker (IsOnDesk (number + 1) high) (IsOnDesk number high) (λ t o. (o.0, omega (arith, o.1), o.2, o.3)) (all_tracks (number + 1) others s.3 m.1) (all_on (number + 1) high others s.3 m.1 (omega (arith, within))))
+  all_on : (number high : ℕ) (desks : List (DeskRun G)) (s : AreDesks number desks) (m : InMemory desks) → number + length desks ≤ high → AllByRecursion (IsOnDesk number high) (all_tracks number desks s m)
+  all_on number high [] s m within = tt
+  all_on number high (desk ∷ others) s m within =
+      all_append (IsOnDesk number high) (head_tracks number desk others s m.0) (all_tracks (number + 1) others s.3 m.1)
+      (all_weaker (IsOn number) (IsOnDesk number high) (λ t o. (number, omega arith, omega (arith, within), o)) (head_tracks number desk others s m.0)
+      (conn_on number desk.before s.1.links desk.after s.1.conns (its_none number desk others s m.0)))
+      (all_weaker (IsOnDesk (number + 1) high) (IsOnDesk number high) (λ t o. (o.0, omega (arith, o.1), o.2, o.3)) (all_tracks (number + 1) others s.3 m.1) (all_on (number + 1) high others s.3 m.1 (omega (arith, within))))
 
-    differs : (number high : ℕ) → high ≤ number + step → (x : Tracked) → IsOn link_view number x → (u : Tracked) → IsOnDesk (number + 1) high u → x.conn ≢ u.conn
-    differs number high few x o u p = λ e. apart number p.0 step o.0 p.3.0 (omega (arith, p.1)) (omega (arith, p.2, few)) (sym o.1 ∙ (e ∙ p.3.1))
+  differs : (number high : ℕ) → high ≤ number + step → (x : Tracked) → IsOn number x → (u : Tracked) → IsOnDesk (number + 1) high u → x.conn ≢ u.conn
+  differs number high few x o u p = λ e. apart number p.0 step o.0 p.3.0 (omega (arith, p.1)) (omega (arith, p.2, few)) (sym o.1 ∙ (e ∙ p.3.1))
 
-    all_apart : 0 < step → (number high : ℕ) (desks : List (DeskRun G)) (s : AreDesks number desks) (m : InMemory desks) → number + length desks ≤ high → high ≤ number + step → AreApart (all_tracks number desks s m)
-    all_apart some number high [] s m within few = tt
-    all_apart some number high (desk ∷ others) s m within few =
-        let heads = head_tracks number desk others s m.0 in
-        let rest = all_tracks (number + 1) others s.3 m.1 in
-        let on = all_on (number + 1) high others s.3 m.1 (omega (arith, within)) in
-        apart_both heads rest (conn_apart link_view some number desk.before s.1.links desk.after s.1.conns (its_none number desk others s m.0))
-        (all_apart some (number + 1) high others s.3 m.1 (omega (arith, within)) (omega (arith, few)))
-        (all_weaker (IsOn link_view number) (IsNotIn rest) (λ x o. all_weaker (IsOnDesk (number + 1) high) (λ (t : Tracked). x.conn ≢ t.conn) (differs number high few x o) rest on) heads
-        (conn_on link_view number desk.before s.1.links desk.after s.1.conns (its_none number desk others s m.0)))
+  all_apart : 0 < step → (number high : ℕ) (desks : List (DeskRun G)) (s : AreDesks number desks) (m : InMemory desks) → number + length desks ≤ high → high ≤ number + step → AreApart (all_tracks number desks s m)
+  all_apart some number high [] s m within few = tt
+  all_apart some number high (desk ∷ others) s m within few =
+      let heads = head_tracks number desk others s m.0 in
+      let rest = all_tracks (number + 1) others s.3 m.1 in
+      let on = all_on (number + 1) high others s.3 m.1 (omega (arith, within)) in
+      apart_both heads rest (conn_apart some number desk.before s.1.links desk.after s.1.conns (its_none number desk others s m.0))
+      (all_apart some (number + 1) high others s.3 m.1 (omega (arith, within)) (omega (arith, few)))
+      (all_weaker (IsOn number) (IsNotIn rest) (λ x o. all_weaker (IsOnDesk (number + 1) high) (λ (t : Tracked). x.conn ≢ t.conn) (differs number high few x o) rest on) heads
+      (conn_on number desk.before s.1.links desk.after s.1.conns (its_none number desk others s m.0)))
 
-    apart_desks : (desks : List (DeskRun G)) (s : AreDesks 1 desks) (m : InMemory desks) → length desks ≡ step → AreApart (all_tracks 1 desks s m)
-    apart_desks [] s m all = tt
-    apart_desks (desk ∷ others) s m all = all_apart (omega (arith, all)) 1 (1 + step) (desk ∷ others) s m (omega (arith, all)) (omega arith)
+  apart_desks : (desks : List (DeskRun G)) (s : AreDesks 1 desks) (m : InMemory desks) → length desks ≡ step → AreApart (all_tracks 1 desks s m)
+  apart_desks [] s m all = tt
+  apart_desks (desk ∷ others) s m all = all_apart (omega (arith, all)) 1 (1 + step) (desk ∷ others) s m (omega (arith, all)) (omega arith)
 
-    all_done : (world : World) (number : ℕ) (desks : List (DeskRun G)) (s : AreDesks number desks) (m : InMemory desks) → AreDone world (all_tracks number desks s m) → AllInWorld image faults may_give link_view gate_view kept first asking list step world number desks s
-    all_done world number [] s m d = tt
-    all_done world number (desk ∷ others) s m d =
-        let both = all_split (λ (t : Tracked). world.connections t.conn ≡ Some t.last) (head_tracks number desk others s m.0) (all_tracks (number + 1) others s.3 m.1) d in (
-          conn_done link_view world number desk.before s.1.links desk.after s.1.conns (its_none number desk others s m.0) both.0,
-          all_done world (number + 1) others s.3 m.1 both.1,
-        )
+  all_done : (world : World) (number : ℕ) (desks : List (DeskRun G)) (s : AreDesks number desks) (m : InMemory desks) → AreDone world (all_tracks number desks s m) → AllInWorld host kept first asking list step world number desks s
+  all_done world number [] s m d = tt
+  all_done world number (desk ∷ others) s m d =
+      let both = all_split (λ (t : Tracked). world.connections t.conn ≡ Some t.last) (head_tracks number desk others s m.0) (all_tracks (number + 1) others s.3 m.1) d in (
+        conn_done world number desk.before s.1.links desk.after s.1.conns (its_none number desk others s m.0) both.0,
+        all_done world (number + 1) others s.3 m.1 both.1,
+      )
 
 -- ---- the first world
 
@@ -337,25 +336,24 @@ first_settled place true = inr (record {
 none_yet : (history : History) → longer history [] ≡ history
 none_yet history = λ i. record history { entries = append-nil history.entries i }
 
-pub runs_are_worlds : {D G C : Type 0} (image : D → List ℕ → Type 0) (faults : D → ℕ) (may_give : ℕ → Type 0) (link_view : C → LinkView) (gate_view : G → GateView C) → EntriesHaveBases → ReadsHaveNone → OnlyGrows may_give
-    → RunsAreWorlds image faults may_give link_view gate_view
-runs_are_worlds {D} {G} {C} image faults may_give link_view gate_view bases no_entries grows keeper left agents gates old new status run replied in_memory history held =
-    let kept = KeptSome image keeper in
+pub runs_are_worlds : {D G C : Type 0} (host : Host D G C) → EntriesHaveBases → ReadsHaveNone → OnlyGrows host.may_give → RunsAreWorlds host
+runs_are_worlds host bases no_entries grows keeper left agents gates old new status run replied in_memory history held =
+    let kept = KeptSome host.image keeper in
     let first = keeper.next in
     let asking = asking_of (Table agents) in
     let step = length run.desks in
     let based : end_of history ≡ first = sym held.2.next in
-    let numbers = desk_numbers image faults may_give link_view gate_view kept first asking run.list step 1 run.desks run.served in
+    let numbers = desk_numbers host kept first asking run.list step 1 run.desks run.served in
     let start : World = first_world history (is_among numbers) in
-    let seen_shown : (events : List Event) (world : World) → WorldRun may_give asking start events world → (n : ℕ) (c : Connection) → world.connections n ≡ Some c → c.seen ≤ world.published =
+    let seen_shown : (events : List Event) (world : World) → WorldRun host.may_give asking start events world → (n : ℕ) (c : Connection) → world.connections n ≡ Some c → c.seen ≤ world.published =
     λ events world goes n c there. (grows asking history (is_among numbers) events world goes).seen n c there in
-    let tracks = all_tracks kept first may_give asking step history held based run.list no_entries start seen_shown image faults link_view gate_view 1 run.desks run.served in_memory in
+    let tracks = all_tracks host kept first asking step history held based run.list no_entries start seen_shown 1 run.desks run.served in_memory in
     let news : AllByRecursion (λ (n : ℕ). start.connections n ≡ Some (fresh_connection first)) numbers =
     all_weaker (λ (n : ℕ). is_among numbers n ≡ true) (λ (n : ℕ). start.connections n ≡ Some (fresh_connection first)) (λ n e. ap (first_connection (end_of history)) e ∙ ap (λ (p : ℕ). Some (fresh_connection p)) based) numbers (all_among numbers numbers (λ k e. e)) in
-    let ok = all_ok kept first may_give asking step history held based run.list no_entries start seen_shown image faults link_view gate_view 1 run.desks run.served in_memory news replied in
-    let once = each_once image faults may_give link_view gate_view kept first asking run.list step bases history held run.desks run.served refl run.grown in
-    let apart_all = apart_desks kept first may_give asking step history held based run.list no_entries start seen_shown image faults link_view gate_view run.desks run.served in_memory refl in
-    let at : At kept may_give asking history held run.list first based start seen_shown [] start = record {
+    let ok = all_ok host kept first asking step history held based run.list no_entries start seen_shown 1 run.desks run.served in_memory news replied in
+    let once = each_once host kept first asking run.list step bases history held run.desks run.served refl run.grown in
+    let apart_all = apart_desks host kept first asking step history held based run.list no_entries start seen_shown run.desks run.served in_memory refl in
+    let at : At kept host.may_give asking history held run.list first based start seen_shown [] start = record {
       events = [];
       run = refl;
       runs = refl;
@@ -363,13 +361,13 @@ runs_are_worlds {D} {G} {C} image faults may_give link_view gate_view bases no_e
       published = ap end_of (sym (none_yet history));
       settled = λ n. first_settled (end_of history) (is_among numbers n);
     } in
-    let done = all_scheduled kept may_give asking history held run.list first based start seen_shown tracks at ok apart_all
-    (λ place from to. all_counts kept first may_give asking step history held based run.list no_entries start seen_shown image faults link_view gate_view place 1 run.desks run.served in_memory ∙ once.once place from to) in
+    let done = all_scheduled kept host.may_give asking history held run.list first based start seen_shown tracks at ok apart_all
+    (λ place from to. all_counts host kept first asking step history held based run.list no_entries start seen_shown place 1 run.desks run.served in_memory ∙ once.once place from to) in
     record {
       events = done.at.events;
       world = done.now;
       runs = done.at.run;
       history_is = ap (λ (k : KeeperView). k.history) done.at.keeper;
       published = done.at.published;
-      connections = all_done kept first may_give asking step history held based run.list no_entries start seen_shown image faults link_view gate_view done.now 1 run.desks run.served in_memory done.done;
+      connections = all_done host kept first asking step history held based run.list no_entries start seen_shown done.now 1 run.desks run.served in_memory done.done;
     }

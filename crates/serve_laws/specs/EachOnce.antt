@@ -12,8 +12,9 @@ use Rattle.pod_core.specs.Session.{Item, Outcome, answered, disk_fault, no_memor
 use Rattle.pod_keeper.specs.KeeperState.{KeeperState}
 use Rattle.pod_live.specs.Stores.{KeptSome}
 use Rattle.pod_live.specs.Visits.{Visit}
-use Rattle.pod_serve.specs.Desks.{Conns, GateView, ServedLink}
-use Rattle.pod_serve.specs.PoddRuns.{AreAllServed, AreServed, DeskRun, ListenView}
+use Rattle.pod_serve.specs.Desks.{Conns, ServedLink}
+use Rattle.pod_serve.specs.PoddRuns.{AreAllServed, AreServed, DeskRun}
+use Rattle.pod_serve.specs.RunHosts.{Host, ListenView}
 use Rattle.pod_serve.specs.Served.{LinkView}
 use Rattle.token_table.specs.Credentials.{AskedAgent}
 use Rattle.token_table.specs.declared.table_line.TokenEntry.{TokenEntry}
@@ -30,16 +31,22 @@ module _ (kept : History → Type 0) (first : ℕ) (may_give : ℕ → Type 0)
   conn_items number before (one ∷ others) after conns = conns.1.items.list
       ++ conn_items (number + step) conns.0 others after conns.2
 
-module _ {D G C : Type 0} (image : D → List ℕ → Type 0) (faults : D → ℕ) (may_give : ℕ → Type 0)
-    (link_view : C → LinkView) (gate_view : G → GateView C) (kept : History → Type 0) (first : ℕ)
+module _ {D G C : Type 0} (host : Host D G C) (kept : History → Type 0) (first : ℕ)
     (asking : Request → AskedAgent) (list : List Entry) (step : ℕ) where
   -- the items of all connections of all desks
-  abbrev pub desk_items : (number : ℕ) (desks : List (DeskRun G)) → AreServed image faults may_give
-      link_view gate_view kept first asking list step number desks → List Item
+  abbrev pub desk_items : (number : ℕ) (desks : List (DeskRun G))
+      → AreServed host kept first asking list step number desks → List Item
   desk_items number [] served = []
-  desk_items number (desk ∷ others) served = conn_items kept first may_give asking link_view step
-      number desk.before served.1.links desk.after served.1.conns
+  desk_items number (desk ∷ others) served = conn_items kept first host.may_give asking
+      host.link_view step number desk.before served.1.links desk.after served.1.conns
       ++ desk_items (number + 1) others served.3
+
+-- the items of a run whose gates were all served
+abbrev pub run_items : {D G C : Type 0} {host : Host D G C} {keeper left : KeeperState D}
+    {agents : List TokenEntry} {gates : List G} {old new : ListenView G} {status : ℕ}
+    → AreAllServed host keeper left agents gates old new status → List Item
+run_items {host} {keeper} {agents} run = desk_items host (KeptSome host.image keeper) keeper.next
+    (asking_of (Table agents)) run.list (length run.desks) 1 run.desks run.served
 
 -- ---- each change once
 
@@ -72,13 +79,9 @@ pub record IsEachOnce (first : ℕ) (list : List Entry) (items : List Item) : Ty
 
 -- So it is of the list that a store gained in a run whose gates were all served: each of its entries
 -- is that of exactly one item of one connection.
-abbrev pub EachChangeOnce : {D G C : Type 0} → (D → List ℕ → Type 0) → (D → ℕ) → (ℕ → Type 0)
-    → (C → LinkView) → (G → GateView C) → Type 0
-EachChangeOnce {D} {G} {C} image faults may_give link_view gate_view =
-    (keeper left : KeeperState D) (agents : List TokenEntry) (gates : List G)
-    (old new : ListenView G) (status : ℕ) (run : AreAllServed image faults may_give link_view
-    gate_view keeper left agents gates old new status)
-    (history : History) → KeptSome image keeper history
-    → IsEachOnce keeper.next run.list (desk_items image faults may_give link_view gate_view
-    (KeptSome image keeper) keeper.next (asking_of (Table agents)) run.list (length run.desks) 1
-    run.desks run.served)
+abbrev pub EachChangeOnce : {D G C : Type 0} → Host D G C → Type 0
+EachChangeOnce {D} {G} {C} host = (keeper left : KeeperState D) (agents : List TokenEntry)
+    (gates : List G) (old new : ListenView G) (status : ℕ)
+    (run : AreAllServed host keeper left agents gates old new status)
+    (history : History) → KeptSome host.image keeper history
+    → IsEachOnce keeper.next run.list (run_items run)

@@ -17,12 +17,13 @@ use Rattle.pod_keeper.specs.KeeperState.{KeeperState}
 use Rattle.pod_live.specs.Stores.{KeptSome}
 use Rattle.pod_live.specs.Visits.{Visit}
 use Rattle.pod_serve.specs.Connections.{ConnServed}
-use Rattle.pod_serve.specs.Desks.{Conns, GateView, ServedLink}
-use Rattle.pod_serve.specs.PoddRuns.{AreAllServed, AreServed, DeskRun, ListenView}
+use Rattle.pod_serve.specs.Desks.{Conns, ServedLink}
+use Rattle.pod_serve.specs.PoddRuns.{AreAllServed, AreServed, DeskRun}
+use Rattle.pod_serve.specs.RunHosts.{Host, ListenView}
 use Rattle.pod_serve.specs.Served.{LinkView}
 use Rattle.pod_serve.specs.declared.connection_end.ConnEnd.{ConnEnd}
 use Rattle.pod_serve.specs.declared.desk.DeskEnd.TheVariants.{NoMemory}
-use Rattle.serve_laws.specs.EachOnce.{desk_items}
+use Rattle.serve_laws.specs.EachOnce.{run_items}
 use Rattle.serve_laws.specs.Replied.{IsReplied}
 use Rattle.socket_wire.specs.Counted.{WireCounts}
 use Rattle.token_table.specs.Credentials.{AskedAgent}
@@ -66,63 +67,49 @@ module _ (kept : History → Type 0) (first : ℕ) (may_give : ℕ → Type 0)
     AreInWorld number before (one ∷ others) after conns =
         IsInWorld world conns.1 × AreInWorld (number + step) conns.0 others after conns.2
 
-module _ {D G C : Type 0} (image : D → List ℕ → Type 0) (faults : D → ℕ) (may_give : ℕ → Type 0)
-    (link_view : C → LinkView) (gate_view : G → GateView C) (kept : History → Type 0) (first : ℕ)
+module _ {D G C : Type 0} (host : Host D G C) (kept : History → Type 0) (first : ℕ)
     (asking : Request → AskedAgent) (list : List Entry) (step : ℕ) where
   -- the numbers of the connections of all desks
-  abbrev pub desk_numbers : (number : ℕ) (desks : List (DeskRun G)) → AreServed image faults may_give
-      link_view gate_view kept first asking list step number desks → List ℕ
+  abbrev pub desk_numbers : (number : ℕ) (desks : List (DeskRun G))
+      → AreServed host kept first asking list step number desks → List ℕ
   desk_numbers number [] served = []
   desk_numbers number (desk ∷ others) served =
       conn_numbers step number served.1.links ++ desk_numbers (number + 1) others served.3
 
   -- the connections of all desks
-  abbrev pub AllInWorld : World → (number : ℕ) (desks : List (DeskRun G)) → AreServed image faults
-      may_give link_view gate_view kept first asking list step number desks → Type 0
+  abbrev pub AllInWorld : World → (number : ℕ) (desks : List (DeskRun G))
+      → AreServed host kept first asking list step number desks → Type 0
   AllInWorld world number [] served = Unit {0}
   AllInWorld world number (desk ∷ others) served =
-      AreInWorld kept first may_give asking link_view step world number desk.before served.1.links
-      desk.after served.1.conns
+      AreInWorld kept first host.may_give asking host.link_view step world number desk.before
+      served.1.links desk.after served.1.conns
       × AllInWorld world (number + 1) others served.3
 
 -- ---- a run
 
-module _ {D G C : Type 0} (image : D → List ℕ → Type 0) (faults : D → ℕ) (may_give : ℕ → Type 0)
-    (link_view : C → LinkView) (gate_view : G → GateView C) (keeper left : KeeperState D)
-    (agents : List TokenEntry) (gates : List G) (old new : ListenView G) (status : ℕ)
-    (run : AreAllServed image faults may_give link_view gate_view keeper left agents gates old new
-    status) where
-  -- its items
-  abbrev pub run_items : List Item
-  run_items = desk_items image faults may_give link_view gate_view (KeptSome image keeper)
-      keeper.next (asking_of (Table agents)) run.list (length run.desks) 1 run.desks run.served
-
-  -- From the first world of a history, with all connections of the run, these events lead to a world
-  -- at rest whose history has all entries of the run, and in which each connection has read and
-  -- written what it did.
-  pub record IsOneWorld (history : History) : Type 0 where
-    pub events : List Event
-    pub world : World
-    pub runs : WorldRun may_give (asking_of (Table agents)) (first_world history (is_among
-        (desk_numbers image faults may_give link_view gate_view (KeptSome image keeper) keeper.next
-        (asking_of (Table agents)) run.list (length run.desks) 1 run.desks run.served))) events world
-    pub history_is : world.keeper.history ≡ longer history run.list
-    pub published : world.published ≡ end_of (longer history run.list)
-    pub connections : AllInWorld image faults may_give link_view gate_view (KeptSome image keeper)
-        keeper.next (asking_of (Table agents)) run.list (length run.desks) world 1 run.desks
-        run.served
+-- From the first world of a history, with all connections of the run, these events lead to a world
+-- at rest whose history has all entries of the run, and in which each connection has read and
+-- written what it did.
+pub record IsOneWorld {D G C : Type 0} {host : Host D G C} {keeper left : KeeperState D}
+    {agents : List TokenEntry} {gates : List G} {old new : ListenView G} {status : ℕ}
+    (run : AreAllServed host keeper left agents gates old new status) (history : History)
+    : Type 0 where
+  pub events : List Event
+  pub world : World
+  pub runs : WorldRun host.may_give (asking_of (Table agents)) (first_world history (is_among
+      (desk_numbers host (KeptSome host.image keeper) keeper.next (asking_of (Table agents))
+      run.list (length run.desks) 1 run.desks run.served))) events world
+  pub history_is : world.keeper.history ≡ longer history run.list
+  pub published : world.published ≡ end_of (longer history run.list)
+  pub connections : AllInWorld host (KeptSome host.image keeper) keeper.next
+      (asking_of (Table agents)) run.list (length run.desks) world 1 run.desks run.served
 
 -- Each run of `podd` whose gates were all served is one run of a world, where each request that got
 -- an item was answered, and no desk was out of memory.
-abbrev pub RunsAreWorlds : {D G C : Type 0} → (D → List ℕ → Type 0) → (D → ℕ) → (ℕ → Type 0)
-    → (C → LinkView) → (G → GateView C) → Type 0
-RunsAreWorlds {D} {G} {C} image faults may_give link_view gate_view =
-    (keeper left : KeeperState D) (agents : List TokenEntry) (gates : List G)
-    (old new : ListenView G) (status : ℕ) (run : AreAllServed image faults may_give link_view
-    gate_view keeper left agents gates old new status)
-    → AllByRecursion (λ (item : Item). IsReplied item.outcome) (run_items image faults may_give
-    link_view gate_view keeper left agents gates old new status run)
+abbrev pub RunsAreWorlds : {D G C : Type 0} → Host D G C → Type 0
+RunsAreWorlds {D} {G} {C} host = (keeper left : KeeperState D) (agents : List TokenEntry)
+    (gates : List G) (old new : ListenView G) (status : ℕ)
+    (run : AreAllServed host keeper left agents gates old new status)
+    → AllByRecursion (λ (item : Item). IsReplied item.outcome) (run_items run)
     → AllByRecursion (λ (desk : DeskRun G). desk.end ≢ NoMemory) run.desks
-    → (history : History) → KeptSome image keeper history
-    → IsOneWorld image faults may_give link_view gate_view keeper left agents gates old new status
-    run history
+    → (history : History) → KeptSome host.image keeper history → IsOneWorld run history

@@ -26,6 +26,7 @@
 
 ghost use Rattle.conn_talk.specs.Agents.{asking_of};
 ghost use Rattle.pod_serve.specs.Desks.{gate_view_of};
+ghost use Rattle.pod_serve.specs.RunHosts.{host_of};
 ghost use Rattle.pod_serve.specs.Served.{link_view_of};
 ghost use Rattle.serve_laws.specs.DesksOnce.{EachChangeOfDesksOnce};
 ghost use Rattle.serve_laws.specs.EachOnce.{EachChangeOnce};
@@ -42,9 +43,9 @@ use published_view::ViewName;
 /// The list that a run of `podd` leaves has each of its entries from exactly one item of one of the
 /// connections that were served, at the item's position.
 pub fn each_change_once<D: Disk, O: Listen, C: Clock>(clock: &C)
-    ensures { EachChangeOnce D.image D.faults (C.may_give clock.now)
-        (link_view_of O.Gate.Conn.rest O.Gate.Conn.sent O.Gate.Conn.counts)
-        (gate_view_of O.Gate.rest O.Gate.back O.Gate.faults O.Gate.given O.Gate.ends) }
+    ensures { EachChangeOnce (host_of D.image D.moment D.left_since D.faults (C.may_give clock.now)
+        O.Gate.Conn.rest O.Gate.Conn.sent O.Gate.Conn.counts O.Gate.rest O.Gate.back O.Gate.faults
+        O.Gate.given O.Gate.ends) }
 {
     let _clock = clock;
     reply_laws::bases();
@@ -76,10 +77,9 @@ pub fn each_change_of_desks_once<
 /// represents the history with the entries of the changes before it, in the order of the store's
 /// lock, or that with the one change under way or in doubt.
 pub fn moments_of_a_run<D: Disk, O: Listen, C: Clock>(disk: &D, listen: &O, clock: &C)
-    ensures { MomentsOfRuns D.image D.moment D.left_since D.faults (C.may_give clock.now)
-        (link_view_of O.Gate.Conn.rest O.Gate.Conn.sent O.Gate.Conn.counts)
-        (gate_view_of O.Gate.rest O.Gate.back O.Gate.faults O.Gate.given O.Gate.ends)
-        (O.may_open listen.now) }
+    ensures { MomentsOfRuns (host_of D.image D.moment D.left_since D.faults (C.may_give clock.now)
+        O.Gate.Conn.rest O.Gate.Conn.sent O.Gate.Conn.counts O.Gate.rest O.Gate.back O.Gate.faults
+        O.Gate.given O.Gate.ends) (O.may_open listen.now) }
 {
     let _listen = listen;
     let _clock = clock;
@@ -89,9 +89,9 @@ pub fn moments_of_a_run<D: Disk, O: Listen, C: Clock>(disk: &D, listen: &O, cloc
 /// A run of `podd` whose requests were answered is one run of a world, with the events of all of its
 /// connections in one order.
 pub fn runs_are_worlds<D: Disk, O: Listen, C: Clock>(clock: &C)
-    ensures { RunsAreWorlds D.image D.faults (C.may_give clock.now)
-        (link_view_of O.Gate.Conn.rest O.Gate.Conn.sent O.Gate.Conn.counts)
-        (gate_view_of O.Gate.rest O.Gate.back O.Gate.faults O.Gate.given O.Gate.ends) }
+    ensures { RunsAreWorlds (host_of D.image D.moment D.left_since D.faults (C.may_give clock.now)
+        O.Gate.Conn.rest O.Gate.Conn.sent O.Gate.Conn.counts O.Gate.rest O.Gate.back O.Gate.faults
+        O.Gate.given O.Gate.ends) }
 {
     reply_laws::bases();
     reply_laws::complete();

@@ -3,7 +3,7 @@ use Rattle.pod_serve.proofs.PoddLemmas.{listened}
 use Rattle.pod_serve.proofs.podd.run_listener.Goals as goal
 
 pub returns-in-Ok : goal.returns-in-Ok
-returns-in-Ok g c = listened _ _ _ _ _ _ _ c.args.keeper _ c.args.table c.args.settings.workers c.in-Ok.gates.items _ _ _ _ _ _ _ c.in-Ok.ensures.opened c.in-Ok.ensures.count c.open.ensures.back c.run_gates.ensures
+returns-in-Ok g c = listened _ c.args.keeper _ c.args.table c.args.settings.workers c.in-Ok.gates.items _ _ _ _ _ _ _ _ c.in-Ok.ensures.opened c.in-Ok.ensures.count c.open.ensures.back c.run_gates.ensures
 
 pub returns-in-Err : goal.returns-in-Err
 returns-in-Err g c = inl (record {
