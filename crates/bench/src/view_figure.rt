@@ -13,8 +13,8 @@ use std::time::{Clock, Duration, Instant};
 
 /// A version. It stands for any list, since a measurement needs to know none.
 #[derive(Drop)]
-struct Counted {
-    number: u64,
+pub struct Counted {
+    pub number: u64,
 }
 
 impl Told for Counted {
@@ -23,7 +23,8 @@ impl Told for Counted {
     ghost stands = { λ v first list. Unit {0} };
 }
 
-fn make_version(alloc: Global, number: u64) -> Mem<Arc<Counted>> {
+/// The version of a number.
+pub fn make_version(alloc: Global, number: u64) -> Mem<Arc<Counted>> {
     Ok(Arc::new(alloc, Counted { number })?)
 }
 

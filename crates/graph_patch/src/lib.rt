@@ -31,8 +31,6 @@ mod search_bindings;
 mod solution_mappings;
 mod solution_search;
 mod step_budget;
-#[cfg(test)]
-mod tests;
 mod triple_index;
 mod triple_lookup;
 

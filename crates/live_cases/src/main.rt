@@ -1,9 +1,10 @@
 //! Cases of the sessions of one store beside each other, where no client of one connection sees them:
-//! connections that wait for each other, the ends of connections and desks, and feeds. It reads one
-//! case from each line of standard input, and prints the line with what happened as one more field.
-//! `stdin` has the cases, and `stdout` what is expected of them, worked out by hand.
+//! connections that wait for each other, the ends of connections and desks, and feeds; and cases of
+//! worlds. It reads one case from each line of standard input, and prints the line with what happened
+//! as one more field. `stdin` has the cases, and `stdout` what is expected of them, worked out by hand,
+//! of worlds from the definition of a world.
 //!
-//! Each case but those of `serve` has a new store of the base `http://127.0.0.1:8080/`, whose owner's,
+//! Each case but those of `serve` and `world` has a new store of the base `http://127.0.0.1:8080/`, whose owner's,
 //! `https://alice.example/#me`, all requests are. The clock stands at the moment 784111777. The
 //! answer ends with the number of the store's next entry.
 //!
@@ -18,6 +19,10 @@
 //! - `feed` NAME STEP..: a feed on a document of the store, which is changed meanwhile by the steps of
 //!   [`script`].
 //! - `serve` NAME STEP..: runs of `podd` over many connections beside each other, by [`steps`].
+//! - `world` CONNS EVENT..: the events of so many connections in a world of that base and owner, by
+//!   [`world_events`]. The outcome of each is `ok` or `not now`, and what each connection wrote: its
+//!   number, and for each response the status and the body, if there is one. The last is the number of
+//!   entries.
 #![tactic(auto)]
 
 mod case_state;
@@ -28,10 +33,13 @@ mod mem_links;
 mod podd;
 mod script;
 mod session_runs;
+mod shown_responses;
 mod shown_state;
 mod steps;
 mod store;
 mod wire;
+mod world_events;
+mod world_runs;
 
 use case_words::known;
 use pod_base::Mem;
@@ -66,12 +74,13 @@ fn work_of<'a>(alloc: Global, fields: &'a [&'a str]) -> Mem<Option<Work<'a>>> {
 
 /// What happens in a case.
 fn case<R: Threads + Wait + Sync>(rt: &R, alloc: Global, fields: &[&str]) -> Mem<String> {
-    if let ["serve", _name, steps @ ..] = fields {
-        return steps::run(rt, alloc, steps);
-    }
-    match work_of(alloc, fields)? {
-        Some(work) => session_runs::run(rt, alloc, work),
-        None => Ok(String::from_str(alloc, "no case")?),
+    match fields {
+        ["serve", _name, steps @ ..] => steps::run(rt, alloc, steps),
+        ["world", conns, events @ ..] => world_runs::outcomes(alloc, conns, events),
+        _ => match work_of(alloc, fields)? {
+            Some(work) => session_runs::run(rt, alloc, work),
+            None => Ok(String::from_str(alloc, "no case")?),
+        },
     }
 }
 

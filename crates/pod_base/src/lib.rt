@@ -45,6 +45,3 @@ pub use response::{Body, Response};
 pub use rope::{Rope, copy_bytes};
 pub use shared_bytes::Bytes;
 pub use text::Text;
-
-#[cfg(test)]
-mod tests;

@@ -8,6 +8,7 @@
 //! |---|---|
 //! | `pipe` or `pipe-large`, INPUT | how a connection of a fresh pod ends: its status, its last line, its output; the same in pieces of 1, 2, 3, 7, 20, 1,000 and 100,000 bytes, or of 65,536 and 100,000 |
 //! | `pipe-ends` INPUT | the places at which the input may end between messages |
+//! | `dialogue` FIRST SECOND | a connection of a fresh pod, whose read of the second request fails unless the answer to the first was written before |
 //! | `asks` STORE INPUT.. | the inputs, a connection of the store each |
 //! | `fails` SIDE STORE INPUT LOOK | the input, with each call of the disk `first` or `second` failing in turn; then what LOOK reads |
 //! | `ends` STORE INPUT | the input, ended after each of its bytes |
@@ -19,11 +20,12 @@
 //! where they are equal. Of a run over a STORE the status is shown, and each response in brackets:
 //! its status, and its body without the last line end; of a store what `check` prints, or its damage;
 //! and of a disk its calls, a letter each: `s` a sync, `l` a length, `r` a read, `w` a write, `c` a
-//! cut.
+//! cut. A `dialogue` is shown as a run over a STORE.
 #![tactic(auto)]
 
 mod case_state;
 mod cut_stores;
+mod dialogue;
 mod failing_disks;
 mod followed_store;
 mod frames;
@@ -47,6 +49,7 @@ fn case(alloc: Global, fields: &[&str]) -> Mem<String> {
         ["pipe", input] => pipe::in_sizes(alloc, input, &[1, 2, 3, 7, 20, 1_000]),
         ["pipe-large", input] => pipe::in_sizes(alloc, input, &[65_536]),
         ["pipe-ends", input] => pipe::ended_anywhere(alloc, input),
+        ["dialogue", first, second] => dialogue::outcome(alloc, first, second),
         ["asks", store, inputs @ ..] => store_connections::outcomes(alloc, store, inputs),
         ["fails", side, store, input, look] => failing_disks::outcomes(
             alloc, side, store, input, look,

@@ -9,15 +9,17 @@ use std::alloc::Global;
 /// The most bytes of output that are printed one by one.
 const OUTPUT_LIMIT: usize = 4_000;
 
+/// The words that serve one connection of a fresh pod.
+pub(crate) const FRESH: &str = "pipe --fresh https://alice.example/#me";
+
 /// A run over an input that is read and written in pieces of at most that size.
-fn serve_input(alloc: Global, input: &[u8], size: usize) -> Mem<Run> {
+pub(crate) fn serve_input(alloc: Global, input: &[u8], size: usize) -> Mem<Run> {
     let streams = Streams {
         read: size,
         write: size,
         ..WHOLE
     };
-    let words = "pipe --fresh https://alice.example/#me";
-    run_with(alloc, words, &Store::empty(alloc), b"", input, streams)
+    run_with(alloc, FRESH, &Store::empty(alloc), b"", input, streams)
 }
 
 /// Whether two runs left the same.

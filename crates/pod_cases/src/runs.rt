@@ -193,6 +193,29 @@ pub(crate) fn run_with(
     left(alloc, status, &world, streams.object)
 }
 
+/// The status of `podctl` with these words over two empty disks, an empty token table, and streams
+/// that aren't in memory.
+pub(crate) fn status_over<S: Source, K: Sink>(
+    alloc: Global,
+    words: &str,
+    input: &mut S,
+    output: &mut K,
+) -> Mem<u8> {
+    let words = words_of(alloc, words)?;
+    let mut place = WHOLE.place(alloc, &Store::empty(alloc), b"")?;
+    let mut errors = WHOLE.sink(alloc, "errors")?;
+    let mut clock = SetClock { seconds: SECONDS };
+    Ok(call(
+        alloc,
+        &words,
+        input,
+        output,
+        &mut errors,
+        &mut place,
+        &mut clock,
+    ))
+}
+
 /// Serves an input as one connection of the pod of a store, each request the owner's.
 pub(crate) fn serve(alloc: Global, store: &Store, input: &[u8], streams: Streams<'_>) -> Mem<Run> {
     run_with(alloc, "pipe --owner", store, b"", input, streams)

@@ -20,6 +20,3 @@ pub use file_disk::FileDisk;
 pub use mem_disk::MemDisk;
 pub use place::{Disks, Place};
 pub use torn_call::Tear;
-
-#[cfg(test)]
-mod tests;

@@ -87,6 +87,3 @@ pub use tcp_link::TcpLink;
 pub use tcp_listen::TcpListen;
 pub use text_writing::write_all;
 pub use wire::{Polled, Wire, WireFault};
-
-#[cfg(test)]
-mod tests;

@@ -25,8 +25,3 @@ mod store_commands;
 
 pub use pod_pipe::Status;
 pub use podctl::run_podctl;
-
-#[cfg(test)]
-mod test_dialogue;
-#[cfg(test)]
-mod tests;

@@ -31,8 +31,6 @@ mod looker;
 mod publisher;
 mod refused_openings;
 mod represented_list;
-#[cfg(test)]
-mod tests;
 mod version_with_list;
 mod view_name;
 mod view_opening;

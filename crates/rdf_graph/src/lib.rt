@@ -28,8 +28,6 @@ mod matching;
 mod size;
 mod term;
 mod term_order;
-#[cfg(test)]
-mod tests;
 mod text_append;
 mod triple;
 mod triple_line;

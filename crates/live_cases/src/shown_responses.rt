@@ -1,4 +1,4 @@
-//! What a connection wrote, in short.
+//! What a connection of a world wrote, in short.
 
 use pod_base::Mem;
 use std::alloc::Global;

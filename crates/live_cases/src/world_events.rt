@@ -1,4 +1,19 @@
-//! The events of a case's fields.
+//! The events of a `world` case: what each of its fields is.
+//!
+//! | Field | What it is |
+//! |---|---|
+//! | `arrive` CONN TEXT | the text arrives |
+//! | `get` CONN PATH | a GET by the owner arrives |
+//! | `put` CONN PATH TEXT | a PUT of that text by the owner arrives |
+//! | `look` CONN PLACE, `take` CONN | at the moment, or at the one that follows |
+//! | `repair`, `body` or `gate`, and `ok` or `fail` | a step of the holder of the lock |
+//! | `publish` | |
+//! | `note` | remembers what `body ok` and `gate ok` would add to the journal: a gate 1 and a record |
+//! | `stop` | with the journal and a gate 0 |
+//! | `stop` GATE | with the journal, that gate, and the record that is remembered with a gate 0 |
+//! | `stop` GATE `cut` | the same without its last byte |
+//!
+//! The owner's token is `t1`; `t2` is Bob's.
 
 use case_words::{bytes, first_word, number_of};
 use pod_base::{Bytes, Mem, Moment};

@@ -1,9 +1,9 @@
-//! Runs the events of a case.
+//! Runs the events of a `world` case, and shows the outcome of each.
 ghost use Rattle.std.specs.Prelude.{IfOk};
 ghost use Rattle.pod_rows.specs.WellFormed.{IsWellFormedSnapshot};
 
-use crate::events::{MOMENT, event};
-use crate::shown::push_responses;
+use crate::shown_responses::push_responses;
+use crate::world_events::{MOMENT, event};
 use case_words::{first_word, iri_or_bad, number_of};
 use pod_base::{Bytes, Mem, Moment, NoMemory};
 use pod_command::Snapshot;

@@ -1,6 +1,0 @@
-use Rattle.std.specs.List.{All}
-use Rattle.rdf_graph.specs.Triple.{IsRdf}
-use Rattle.rdf_graph.proofs.tests.shuffled.Given as goal
-
-abbrev pub invariant-loop-step : goal.invariant-loop-step
-invariant-loop-step l = All IsRdf l.triples.items
