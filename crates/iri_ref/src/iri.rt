@@ -1,8 +1,7 @@
 //! [`Iri`]: absolute IRIs, and [`resolve`], which resolves a reference against one.
 
-ghost use Rattle.std.specs.Prelude.{◌≡◌, ◌↔◌, ◌++◌, IfOk, IsErrOf, List, ℕ, string_bytes, nat_eq};
+ghost use Rattle.std.specs.Prelude.{◌≡◌, ◌↔◌, ◌++◌, IfOk, IsErrOf, List, ℕ, nat_eq};
 ghost use Rattle.std.specs.Prelude.{Some};
-ghost use Rattle.std.specs.Arc.{arc_str_bytes};
 ghost use Rattle.std.specs.Cmp.{partial_equiv_from_equiv};
 ghost use Rattle.std.specs.Cmp.Lexicographic.{slice_cmp};
 ghost use Rattle.std.specs.Ordering.{nat_cmp};
@@ -10,34 +9,33 @@ ghost use Rattle.iri_ref.specs.Characters.{AllAllowed};
 ghost use Rattle.iri_ref.specs.Components.{IsAbsolute};
 ghost use Rattle.iri_ref.specs.Resolution.{IsResolved, StaysResolved, TakesScheme};
 ghost use Rattle.iri_ref.specs.Written.{IsIriOfReference};
-ghost use Rattle.iri_ref.specs.declared.iri.IriFault.TheVariants.{NoMemory};
+ghost use Rattle.iri_ref.specs.declared.iri.IriFault.TheVariants.{NoMemory as NoMemoryFault};
 
 use crate::characters::all_allowed;
 use crate::components::{is_absolute, parse_components};
 use crate::target_components::transform;
-use std::alloc::{AllocError, Global};
+use pod_base::{Mem, NoMemory, Text};
+use std::alloc::Global;
 use std::cmp::Ordering;
 use std::marker::Model;
-use std::sync::ArcStr;
 use thiserror::Error;
 
 /// An absolute IRI, as it was written. Contracts see the list of its bytes, which has a scheme and
 /// no character that IRIREF (RDF 1.1 Turtle, section 6.5) forbids. A copy shares its memory.
 #[derive(Debug, Drop)]
 pub struct Iri {
-    text: ArcStr,
+    text: Text,
 }
 
 impl Model for Iri {
     ghost use Rattle.std.specs.Prelude.{List, ℕ};
-    ghost use Rattle.std.specs.Arc.{arc_str_bytes};
     ghost use Rattle.iri_ref.specs.Components.{IsAbsolute};
 
     ghost Value = { List ℕ };
 
-    ghost view = { λ iri. arc_str_bytes iri.text };
+    ghost view = { λ iri. iri.text };
 
-    ghost invariant = { λ iri. IsAbsolute (arc_str_bytes iri.text) };
+    ghost invariant = { λ iri. IsAbsolute iri.text };
 }
 
 /// Why a call returns no IRI.
@@ -51,10 +49,10 @@ pub enum IriFault {
     NoMemory,
 }
 
-impl From<AllocError> for IriFault {
-    ghost from_gives = { λ _ fault. fault ≡ NoMemory };
+impl From<NoMemory> for IriFault {
+    ghost from_gives = { λ _ fault. fault ≡ NoMemoryFault };
 
-    fn from(_: AllocError) -> IriFault {
+    fn from(_: NoMemory) -> IriFault {
         IriFault::NoMemory
     }
 }
@@ -70,11 +68,12 @@ impl Iri {
         if !is_absolute(text) {
             return Err(IriFault::BadReference);
         }
-        let text = ArcStr::from_str(alloc, text)?;
+        let text = Text::of(alloc, text)?;
         Ok(Iri { text })
     }
 
     /// The text of the IRI, as it was written.
+    #[inline]
     pub fn as_str(&self) -> &str
         ensures text { result.now ≡ self.now }
         ensures absolute { IsAbsolute self.now }
@@ -83,11 +82,12 @@ impl Iri {
     }
 
     /// The same IRI, which shares the memory of this one. It never answers `BadReference`.
-    pub fn copy(&self, _alloc: Global) -> Result<Iri, IriFault>
+    #[inline]
+    pub fn copy(&self, alloc: Global) -> Result<Iri, IriFault>
         ensures text { IfOk result (λ iri. iri ≡ self.now) }
         ensures never_bad { IsErrOf result IriFault.BadReference → ⊥ }
     {
-        let text = self.text.clone()?;
+        let text = self.text.copy(alloc)?;
         Ok(Iri { text })
     }
 
@@ -101,19 +101,9 @@ impl Iri {
         if !all_allowed(end) {
             return Err(IriFault::BadReference);
         }
-        let text = concatenate(alloc, self.as_str(), end)?;
+        let text = Text::joined(alloc, self.as_str(), end)?;
         Ok(Iri { text })
     }
-}
-
-/// The text of an IRI and an end after it, in one piece of memory of their length.
-fn concatenate(alloc: Global, prefix: &str, end: &str) -> Result<ArcStr, AllocError>
-    ensures { IfOk result (λ text. arc_str_bytes text ≡ prefix.now ++ end.now) }
-{
-    let mut text = String::with_capacity(alloc, prefix.len().saturating_add(end.len()))?;
-    text.push_str(prefix)?;
-    text.push_str(end)?;
-    ArcStr::from_string(text)
 }
 
 impl PartialEq for Iri {
@@ -165,12 +155,12 @@ impl Ord for Iri {
 }
 
 /// The text of the IRI to which a reference is resolved against a base.
-fn resolve_text(alloc: Global, base: &str, reference: &str) -> Result<ArcStr, AllocError>
-    ensures { IfOk result (λ text. IsResolved base.now reference.now (arc_str_bytes text)) }
+fn resolve_text(alloc: Global, base: &str, reference: &str) -> Mem<Text>
+    ensures { IfOk result (λ text. IsResolved base.now reference.now text) }
 {
     let target = transform(parse_components(base), parse_components(reference));
     let text = target.recompose(alloc)?;
-    ArcStr::from_string(text)
+    Text::from_string(alloc, text)
 }
 
 /// Resolves a reference to an IRI against a base (RFC 3986, section 5.2, strict). It fails with

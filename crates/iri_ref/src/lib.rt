@@ -12,7 +12,7 @@
 //! `iri_of_reference` is for references in documents: one with a scheme stays as it is written, and
 //! a relative one is resolved (`iri`). The faults are exact (`bad_reference`), and so are those of
 //! `Iri::read` and `Iri::appended`. `laws` says that each text has its components in exactly one
-//! way, and that a reference stands for one IRI. The crate uses std and `thiserror` alone.
+//! way, and that a reference stands for one IRI.
 #![tactic(auto)]
 
 mod characters;

@@ -4,3 +4,4 @@ pub mod EachTo
 pub mod Fields
 pub mod Lending
 pub mod Listed
+pub mod Texts

@@ -12,8 +12,8 @@
 //! A call that may take memory is passed `alloc` and answers [`NoMemory`], or hands its argument
 //! back. Every other call takes none. Proved: copies, parts and appended bytes have the contents
 //! that they should (`copy`, `part`, `appended`), a list's room is memory that it has
-//! (`List::push`, clause `succeeds`), and out of memory nothing changes (`unchanged`). Texts are
-//! std's `ArcStr`, bytes are those of the crate `bytes`.
+//! (`List::push`, clause `succeeds`), and out of memory nothing changes (`unchanged`). A short text
+//! lies in its block as an `ArrayString` of the crate `arrayvec`; bytes are those of the crate `bytes`.
 #![tactic(auto)]
 
 mod agent;
