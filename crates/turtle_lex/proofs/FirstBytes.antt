@@ -194,7 +194,7 @@ low x = ltb x 128
 abbrev pub apart_low : Pattern → Pattern → Bool
 apart_low p q = not (nullable p) && (not (nullable q) && none_below (first p) (first q) 128)
 
-low_both : (f g : ℕ → Bool) (s : List ℕ) → none_below f g 128 ≡ true → StartsWith low s → StartsWith f s → StartsWith g s → ⊥
+pub low_both : (f g : ℕ → Bool) (s : List ℕ) → none_below f g 128 ≡ true → StartsWith low s → StartsWith f s → StartsWith g s → ⊥
 low_both f g [] h l j k = j
 low_both f g (b ∷ s) h l j k = below f g 128 (lead b) h (ltb-true (lead b) 128 l) j k
 

@@ -1,6 +1,6 @@
 -- Names of parts and dots, which don't end in a dot.
 use mathlib.Core.List.{IsSuffix}
-use Rattle.std.proofs.Common.{◌≡◌, ℕ, zero, suc, ◌<◌, ◌≤◌, true, ◌⊎◌, inl, inr, List, [], ◌∷◌, ◌++◌, length, take, drop, get_or, Option, Some, None, IfSome, refl, sym, ap, ◌∙◌, subst, arith, append_assoc, length-append}
+use Rattle.std.proofs.Common.{◌≡◌, ℕ, zero, suc, ◌<◌, ◌≤◌, true, false, ltb, ◌⊎◌, inl, inr, List, [], ◌∷◌, ◌++◌, length, take, drop, get_or, slice_index_or, Option, Some, None, IfSome, refl, sym, ap, ◌∙◌, subst, arith, append_assoc, length-append}
 use Rattle.std.proofs.lemmas.Bool.{false≢true, cases_lt}
 use Rattle.std.proofs.lemmas.List.{get_or_at}
 use Rattle.std.proofs.lemmas.Bool.Decides.{nat_tests}
@@ -15,9 +15,9 @@ use Rattle.turtle_lex.specs.declared.names.Parts.TheVariants.{Plain, Local}
 use Rattle.turtle_lex.specs.Classes.{is_pn_chars, is_pn_chars_u, is_pn_chars_base, is_local_escaped}
 use Rattle.turtle_lex.specs.Pattern.{Pattern, word, one, ◌∘◌, ◌∣◌, many, Matches, Times, MatchesOnly, MatchesLongest}
 use Rattle.turtle_lex.specs.Terminals.{plx, dotted, label, pn_local, pn_prefix, pname_ns}
-use Rattle.turtle_lex.specs.Names.{two_digits, colon_or_plx, name_part, dot, tail, IsTail, label_first, local_first, prefix_and_colon, StartsWithAscii, HasNoPrefixBefore, PrefixesEnd, is_name_byte}
+use Rattle.turtle_lex.specs.Names.{two_digits, colon_or_plx, name_part, dot, tail, IsTail, label_first, local_first, prefix_and_colon, StartsWithAscii, HasNoPrefixBefore, PrefixesEnd, is_name_byte, is_name_end, EndsNames}
 use Rattle.turtle_lex.proofs.Matching.{one_found, leaves_suffix, suffix_trans, refused, not_matched, matched_rest, word_clashes, or_left, or_right, then_only, then_refused, heads, char_same, ones_found}
-use Rattle.turtle_lex.proofs.FirstBytes.{excluded, and_left, and_right}
+use Rattle.turtle_lex.proofs.FirstBytes.{StartsWith, nullable, first, none_below, low, lead_low, begins, low_both, excluded, and_left, and_right}
 
 pub plx_of_digits : (s m : List ℕ) (o : Option (List ℕ)) → MatchesOnly (word (codes "%")) s (Some m) → MatchesOnly two_digits m o → MatchesOnly plx s o
 unfolding plx
@@ -442,3 +442,21 @@ known_no_name (b ∷ s) stop h less letter =
     ns_of_prefix (b ∷ s) None
     (refused (word (codes ":")) (b ∷ s) (λ r x. letter_no_colon b letter (heads b 58 s r x).0))
     (refused prefix_and_colon (b ∷ s) (λ r x. h (b ∷ s) r ([], refl) less (letter_small b letter) x))
+
+-- the text begins with ASCII that ends names, and no text of the pattern does
+ended : (p : Pattern) (s : List ℕ) → nullable p ≡ false → none_below is_name_end (first p) 128 ≡ true → StartsWith low s → StartsWith is_name_end s → MatchesOnly p s None
+ended p s full apart is_low ends = refused p s (λ r x. low_both is_name_end (first p) s apart is_low ends (begins p s r full x))
+
+pub names_end : (s : List ℕ) → 1 ≤ length s → is_name_end (slice_index_or s 0 0) ≡ true → EndsNames s
+unfolding plx is_pn_chars is_pn_chars_u is_pn_chars_base is_name_end is_name_byte
+names_end [] some h = absurd (omega (arith, some))
+names_end (b ∷ s) some h = λ parts.
+    let is_low : ltb b 128 ≡ true = and_left (ltb b 128) _ h in
+    let same = lead_low b is_low in
+    let lows : StartsWith low (b ∷ s) = ap low same ∙ is_low in
+    let ends : StartsWith is_name_end (b ∷ s) = ap is_name_end same ∙ h in
+    (part_ends parts lows ends, ended dot (b ∷ s) refl refl lows ends)
+  where
+    part_ends : (parts : Parts) → StartsWith low (b ∷ s) → StartsWith is_name_end (b ∷ s) → MatchesOnly (name_part parts) (b ∷ s) None
+    part_ends Plain lows ends = ended (name_part Plain) (b ∷ s) refl refl lows ends
+    part_ends Local lows ends = ended (name_part Local) (b ∷ s) refl refl lows ends

@@ -1,6 +1,6 @@
 -- Names of parts and dots, which don't end in a dot.
 use mathlib.Core.List.{IsSuffix}
-use Rattle.std.specs.Prelude.{◌≡◌, ℕ, ◌<◌, ◌≤◌, Bool, ◌||◌, ◌==◌, List, [], ◌∷◌, length, None}
+use Rattle.std.specs.Prelude.{◌≡◌, ℕ, ◌<◌, ◌≤◌, Bool, ◌&&◌, ◌||◌, not, nat_lt, ◌==◌, List, [], ◌∷◌, length, None}
 use Rattle.std.specs.Char.{is_ascii_digit, is_ascii_hexdigit, is_ascii_alphabetic}
 use lib.Chars.{codes}
 use Rattle.turtle_lex.specs.declared.names.Parts.{Parts}
@@ -25,6 +25,10 @@ name_part Local = one is_pn_chars ∣ colon_or_plx
 -- the ASCII of PN_CHARS
 unfoldable pub is_name_byte : ℕ → Bool
 is_name_byte b = is_ascii_alphabetic b || is_ascii_digit b || b == 0x5F || b == 0x2D
+
+-- the ASCII that no name goes on with
+unfoldable pub is_name_end : ℕ → Bool
+is_name_end b = nat_lt b 128 && not (is_name_byte b || b == 0x2E || b == 0x3A || b == 0x25 || b == 0x5C)
 
 -- what a label, and what a local name, may begin with
 abbrev pub label_first : Pattern
@@ -51,6 +55,10 @@ pub record IsTail (part : Pattern) (s end stop : List ℕ) : Type 0 where
   -- no other end has something else than a part or a dot after it
   pub stops : (r : List ℕ) → Matches (tail part) s r → MatchesOnly part r None
       → MatchesOnly dot r None → r ≡ stop
+
+-- No name goes on here.
+abbrev pub EndsNames : List ℕ → Type 0
+EndsNames s = (parts : Parts) → MatchesOnly (name_part parts) s None × MatchesOnly dot s None
 
 abbrev pub StartsWithAscii : List ℕ → Type 0
 StartsWithAscii [] = ⊥

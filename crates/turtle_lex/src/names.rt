@@ -9,7 +9,7 @@ ghost use Rattle.turtle_lex.specs.Terminals.{plx, label, pn_local, pname_ns};
 ghost use Rattle.turtle_lex.specs.declared.names.Parts.TheVariants as Parts;
 ghost use Rattle.turtle_lex.specs.Names.{HasNoPrefixBefore, PrefixesEnd, two_digits, colon_or_plx};
 ghost use Rattle.turtle_lex.specs.Names.{name_part, IsTail, label_first, local_first, is_name_byte};
-ghost use Rattle.turtle_lex.specs.Names.{prefix_and_colon};
+ghost use Rattle.turtle_lex.specs.Names.{prefix_and_colon, is_name_end, EndsNames};
 
 use crate::classes::{Class, strip_one};
 use crate::escapes::strip_word;
@@ -100,6 +100,24 @@ fn strip_name_bytes(text: &[u8]) -> &[u8]
     text.split_at(name_len(text)).1
 }
 
+/// Whether the byte is ASCII and goes on with no name: it is no part of one, and no dot.
+#[tactic(auto, unfolding(crate::specs::Names::is_name_end))]
+fn is_name_end(byte: u8) -> bool
+    ensures { result ≡ is_name_end byte }
+{
+    byte < 0x80 && !is_name_byte(byte) && !matches!(byte, b'.' | b':' | b'%' | b'\\')
+}
+
+/// Whether the first byte of the text ends each name.
+fn ends_names(text: &[u8]) -> bool
+    ensures { result ≡ true → EndsNames text.now }
+{
+    match text {
+        [byte, ..] => is_name_end(*byte),
+        [] => false,
+    }
+}
+
 /// Where a name ends after its first part, and where its parts and dots end.
 fn strip_tail(text: &[u8], parts: Parts) -> (&[u8], &[u8])
     ensures name { IsTail (name_part parts) text.now result.0.now result.1.now }
@@ -108,6 +126,9 @@ fn strip_tail(text: &[u8], parts: Parts) -> (&[u8], &[u8])
     let mut end = strip_name_bytes(text);
     let mut rest = end;
     loop {
+        if ends_names(rest) {
+            return (end, rest);
+        }
         match strip_name_part(rest, parts) {
             Some(after) => {
                 rest = strip_name_bytes(after);
