@@ -33,7 +33,7 @@ use Rattle.turtle_reader.specs.declared.meaning.Meaning.{Meaning}
 use Rattle.turtle_reader.specs.declared.meaning.Meaning.TheVariants as meaning_of
 use Rattle.turtle_reader.specs.declared.referent.Referent.{Referent}
 use Rattle.turtle_reader.specs.declared.referent.Referent.TheVariants as referent_of
-use Rattle.turtle_reader.proofs.AsTokens.{lexemes_are_tokens}
+use Rattle.turtle_reader.proofs.OneLexeme.{lexemes_are_tokens}
 use Rattle.turtle_terms.specs.Meaning.{IsTermMeaning as IsTermOfKind, IsIriTerm, IsIriMeaning, datatype_of}
 use Rattle.turtle_terms.specs.Prefixes.{Prefixes}
 use Rattle.turtle_terms.specs.declared.fault.TurtleFault.{TurtleFault}

@@ -6,14 +6,14 @@ use Rattle.turtle_grammar.specs.declared.symbol.Start.{Start}
 use Rattle.turtle_reader.specs.declared.lexeme.Lexeme.{Lexeme}
 use Rattle.turtle_reader.specs.Faults.{Next}
 use Rattle.turtle_reader.specs.Texts.{IsLexed, is_string_symbol, AreLexemesTo, AreFirst}
-use Rattle.turtle_reader.proofs.OneLexeme.{one_lexed, same_lexeme}
+use Rattle.turtle_reader.proofs.OneLexeme.{one_lexed}
 
 pub ended : (l : Lexeme) (next : Next) → next ≡ Ok None → next ≡ Ok (Some l) → ⊥
 ended l next e f = cc
 
 module _ (start : Start) (bytes : List ℕ) where
   next_agrees : (from : ℕ) (s : Bool) (a b : Lexeme) → IsLexed start bytes from s (Ok (Some a)) → IsLexed start bytes from s (Ok (Some b)) → a ≡ b
-  next_agrees from s a b h k = same_lexeme a b (Ok (Some a)) refl (one_lexed start bytes from s (Ok (Some a)) (Ok (Some b)) h k)
+  next_agrees from s a b h k = let both = one_lexed start bytes from s (Ok (Some a)) (Ok (Some b)) h k in cc
 
   here : (from : ℕ) (s : Bool) (to : ℕ) (u : Bool) (a : Next) → from ≡ to → s ≡ u → IsLexed start bytes to u a → IsLexed start bytes from s a
   here from s to u a at string h =

@@ -9,7 +9,7 @@ use Rattle.turtle_reader.specs.declared.referent.Referent.{Referent}
 use Rattle.turtle_reader.specs.declared.referent.ResolvedTriple.{ResolvedTriple}
 use Rattle.turtle_reader.specs.Handed.{AreMadeOf, AreResolved, AreEach}
 use Rattle.turtle_reader.specs.Referents.{referent, IsResolved}
-use Rattle.turtle_reader.proofs.MoreMeanings.{referent_still}
+use Rattle.turtle_reader.proofs.Holding.{referent_still}
 
 module _ {T : Type 0} (Is : SymbolicTriple → T → Type 0) where
   -- productions after productions

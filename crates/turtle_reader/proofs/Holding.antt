@@ -1,10 +1,13 @@
--- What a reader drops is named by no later production.
-use Rattle.std.proofs.Common.{◌≡◌, ◌⊎◌, inl, inr, ⊎_elim, ℕ, zero, suc, ◌<◌, Bool, true, false, List, [], ◌∷◌, ◌++◌, length, Option, Some, None, slice_get, refl, sym, ap, ◌∙◌, subst, arith}
-use Rattle.std.specs.Prelude.{IfNone, slice_index_or}
-use Rattle.std.proofs.lemmas.List.Elements.{All-nil, All-head, All-tail, All-cons, All-append}
+-- What is kept and what nodes refer to with more meanings, and that no later production names what a reader drops.
+use Rattle.std.proofs.Common.{◌≡◌, ◌⊎◌, inl, inr, ⊎_elim, ℕ, zero, suc, ◌<◌, Bool, true, false, List, [], ◌∷◌, ◌++◌, length, Option, Some, None}
+use Rattle.std.proofs.Common.{slice_get, refl, sym, ap, ◌∙◌, subst, arith}
+use Rattle.std.specs.Prelude.{slice_index_or}
+use Rattle.std.proofs.lemmas.List.Elements.{All-head, All-tail, All-cons, All-push, All-weaker}
 use Rattle.std.proofs.lemmas.List.{append_assoc}
-use Rattle.std.proofs.lemmas.Option.{none-some, same_Some, slice_get_within}
+use Rattle.std.proofs.lemmas.Option.{none-some, slice_get_within}
 use Rattle.std.specs.List.{All}
+use Rattle.rdf_graph.proofs.Members.{All-left, slice_get-push_before}
+use Rattle.rdf_graph.specs.declared.term.Term.TheVariants.{Literal}
 use Rattle.turtle_grammar.specs.declared.machine.Machine.{Machine}
 use Rattle.turtle_grammar.specs.declared.production.Node.{Node}
 use Rattle.turtle_grammar.specs.declared.production.Node.TheVariants as node
@@ -16,9 +19,77 @@ use Rattle.turtle_grammar.specs.Readings.{Avoids, WaitingNames}
 use Rattle.turtle_reader.specs.declared.kept_meanings.Kept.{Kept}
 use Rattle.turtle_reader.specs.declared.kept_meanings.KeptMeanings.{KeptMeanings}
 use Rattle.turtle_reader.specs.declared.meaning.Meaning.{Meaning}
+use Rattle.turtle_reader.specs.declared.meaning.Meaning.TheVariants as meaning_of
 use Rattle.turtle_reader.specs.declared.reader.Reader.{Reader}
+use Rattle.turtle_reader.specs.declared.referent.Referent.{Referent}
 use Rattle.turtle_reader.specs.Kept.{IsKept, AreKept, Has, entries, is_referred_to, with_meaning, DropsUnnamed, ShortensTo}
 use Rattle.turtle_reader.specs.Readings.{IsHeld, AreHeld, produced_last}
+use Rattle.turtle_reader.specs.Referents.{term_referent, tagged, typed, referent}
+
+-- the items after one more
+pub slice_get_push : {X : Type 0} (xs : List X) (y : X) (k : ℕ) (x : X) → slice_get (xs ++ y ∷ []) k ≡ Some x
+    → (slice_get xs k ≡ Some x) ⊎ ((k ≡ length xs) × (y ≡ x))
+slice_get_push [] y zero x e = inr (refl, cc)
+slice_get_push [] y (suc k) x e = cc
+slice_get_push (z ∷ xs) y zero x e = inl e
+slice_get_push (z ∷ xs) y (suc k) x e = ⊎_elim (λ l. inl l) (λ r. inr (ap suc r.0, r.1)) (slice_get_push xs y k x e)
+
+still_there : (ms : List Meaning) (more : Meaning) (i : ℕ) (m : Meaning) → slice_get ms i ≡ Some m → slice_get (ms ++ more ∷ []) i ≡ Some m
+still_there ms more i m h = slice_get-push_before ms more i (slice_get_within ms i m h) ∙ h
+
+-- What is kept
+
+last_there : (ms : List Meaning) (m : Meaning) → slice_get (ms ++ m ∷ []) (length ms) ≡ Some m
+last_there [] m = refl
+last_there (n ∷ ms) m = last_there ms m
+
+keeps_more : (m : Meaning) (ms : List Meaning) (list : List Kept) → All (IsKept ms) list → All (IsKept (ms ++ m ∷ [])) list
+keeps_more m ms list h = All-weaker (IsKept ms) (IsKept (ms ++ m ∷ [])) (λ k. still_there ms m k.index k.meaning) list h
+
+-- with one lexeme more, what is kept of the others and of this one
+pub keeps_with : (b : Bool) (ms : List Meaning) (m : Meaning) (list : List Kept) → All (IsKept ms) list
+    → All (IsKept (ms ++ m ∷ [])) (with_meaning b (length ms) m list)
+keeps_with true ms m list h = All-push (IsKept (ms ++ m ∷ [])) list _ (keeps_more m ms list h) (last_there ms m)
+keeps_with false ms m list h = keeps_more m ms list h
+
+-- What nodes refer to
+
+abbrev got : Referent → Option Referent
+got r = Some r
+
+term_still : (a b : Option Meaning) (r : Referent) → ((m : Meaning) → a ≡ Some m → b ≡ Some m) → term_referent a ≡ Some r → term_referent b ≡ Some r
+term_still None b r f h = absurd (none-some r h)
+term_still (Some m) b r f h = subst (λ (z : Option Meaning). term_referent z ≡ got r) (sym (f m refl)) h
+
+abbrev none : Option Referent
+none = None
+
+no_tag : (m : Meaning) → tagged (Some m) None ≡ none
+no_tag (meaning_of.Term (Literal l d)) = refl
+no_tag (meaning_of.Term _) = refl
+no_tag _ = refl
+
+no_type : (m : Meaning) → typed (Some m) None ≡ none
+no_type (meaning_of.Term (Literal l d)) = refl
+no_type (meaning_of.Term _) = refl
+no_type _ = refl
+
+-- what two meanings make together
+both_still : (make : Option Meaning → Option Meaning → Option Referent) → ((o : Option Meaning) → make None o ≡ none) → ((m : Meaning) → make (Some m) None ≡ none)
+    → (a b c d : Option Meaning) (r : Referent) → ((m : Meaning) → a ≡ Some m → b ≡ Some m) → ((m : Meaning) → c ≡ Some m → d ≡ Some m)
+    → make a c ≡ Some r → make b d ≡ Some r
+both_still make first second None b c d r f g h = absurd (none-some r (sym (first c) ∙ h))
+both_still make first second (Some m) b None d r f g h = absurd (none-some r (sym (second m) ∙ h))
+both_still make first second (Some m) b (Some n) d r f g h =
+    subst (λ (z : Option Meaning). make z d ≡ got r) (sym (f m refl)) (subst (λ (z : Option Meaning). make (Some m) z ≡ got r) (sym (g n refl)) h)
+
+pub referent_still : (ms : List Meaning) (more : Meaning) (n : Node) (r : Referent) → referent ms n ≡ Some r → referent (ms ++ more ∷ []) n ≡ Some r
+referent_still ms more (node.Token i) r h = term_still (slice_get ms i) (slice_get (ms ++ more ∷ []) i) r (still_there ms more i) h
+referent_still ms more (node.Tagged i k) r h =
+    both_still tagged (λ o. refl) no_tag (slice_get ms i) (slice_get (ms ++ more ∷ []) i) (slice_get ms k) (slice_get (ms ++ more ∷ []) k) r (still_there ms more i) (still_there ms more k) h
+referent_still ms more (node.Typed i k) r h =
+    both_still typed (λ o. refl) no_type (slice_get ms i) (slice_get (ms ++ more ∷ []) i) (slice_get ms k) (slice_get (ms ++ more ∷ []) k) r (still_there ms more i) (still_there ms more k) h
+referent_still ms more _ r h = h
 
 -- What is among kept meanings
 
@@ -36,10 +107,6 @@ has_parts i [] ys h = inr h
 has_parts i (x ∷ xs) ys (inl e) = inl (inl e)
 has_parts i (x ∷ xs) ys (inr h) = ⊎_elim (λ l. inl (inr l)) (λ r. inr r) (has_parts i xs ys h)
 
-all_left : (P : Kept → Type 0) (xs ys : List Kept) → All P (xs ++ ys) → All P xs
-all_left P [] ys h = All-nil P
-all_left P (x ∷ xs) ys h = All-cons P x xs (All-head P x (xs ++ ys) h) (all_left P xs ys (All-tail P x (xs ++ ys) h))
-
 -- what isn't the last one is among those before it
 pub has_before : (i : ℕ) (list rest : List Kept) (last : Kept) → list ≡ rest ++ last ∷ [] → (last.index ≡ i → ⊥) → Has i list → Has i rest
 has_before i list rest last is other h =
@@ -47,7 +114,7 @@ has_before i list rest last is other h =
     (has_parts i rest (last ∷ []) (subst (Has i) is h))
 
 pub before_kept : (all : List Meaning) (list rest : List Kept) (last : Kept) → list ≡ rest ++ last ∷ [] → All (IsKept all) list → All (IsKept all) rest
-before_kept all list rest last is h = all_left (IsKept all) rest (last ∷ []) (subst (All (IsKept all)) is h)
+before_kept all list rest last is h = All-left (IsKept all) rest (last ∷ []) (subst (All (IsKept all)) is h)
 
 module _ (machine : Machine) where
   abbrev Unnamed : Kept → Type 0
@@ -69,7 +136,7 @@ module _ (machine : Machine) where
       ⊎_elim (λ left. inl left) (λ gone. inr (unnamed_avoided i dropped unnamed gone)) (has_parts i new.list.items dropped (subst (Has i) is h))
 
   pub drops_kept : (old new : KeptMeanings) → ShortensTo machine old.list.items new.list.items → (all : List Meaning) → AreKept all old → AreKept all new
-  drops_kept old new (dropped, is, unnamed) all h = all_left (IsKept all) new.list.items dropped (subst (All (IsKept all)) is h)
+  drops_kept old new (dropped, is, unnamed) all h = All-left (IsKept all) new.list.items dropped (subst (All (IsKept all)) is h)
 
 -- What productions name is kept
 
@@ -104,13 +171,6 @@ module _ (ms : List Meaning) (kept : KeptMeanings) where
 
 -- One lexeme more
 
-last_or_before : (ms : List Meaning) (m : Meaning) (i : ℕ) (n : Meaning) → slice_get (ms ++ m ∷ []) i ≡ Some n
-    → (slice_get ms i ≡ Some n) ⊎ ((i ≡ length ms) × (m ≡ n))
-last_or_before [] m zero n e = inr (refl, same_Some m n e)
-last_or_before [] m (suc i) n e = absurd (none-some n e)
-last_or_before (x ∷ ms) m zero n e = inl e
-last_or_before (x ∷ ms) m (suc i) n e = ⊎_elim (λ l. inl l) (λ r. inr (ap suc r.0, r.1)) (last_or_before ms m i n e)
-
 more_has : (b : Bool) (i index : ℕ) (m : Meaning) (list : List Kept) → Has i list → Has i (with_meaning b index m list)
 more_has true i index m list h = has_left i list _ h
 more_has false i index m list h = h
@@ -133,7 +193,7 @@ module _ (ms : List Meaning) (m : Meaning) (symbols : ℕ) (size : length ms ≡
       (held i n earlier r))
       (λ last. inl (subst (Has i) (sym is) (subst (λ k. Has k (with_meaning (is_referred_to m) (length ms) m (entries mid))) (sym last.0)
       (new_has (is_referred_to m) (length ms) m (entries mid) (ap is_referred_to last.1 ∙ r)))))
-      (last_or_before ms m i n e)
+      (slice_get_push ms m i n e)
     where
       before : slice_get ms i ≡ Some n → IsOther i symbols
       before e' same = let lt : i < length ms = slice_get_within ms i n e' in let at : symbols ≡ i = same in absurd (omega (arith, lt, at, size))

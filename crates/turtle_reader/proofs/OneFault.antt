@@ -7,13 +7,13 @@ use Rattle.turtle_terms.specs.declared.fault.TurtleFault.{TurtleFault}
 use Rattle.turtle_terms.specs.declared.fault.TurtleFault.TheVariants.{Bad, TooLarge, NoMemory}
 use Rattle.turtle_reader.specs.declared.lexeme.Lexeme.{Lexeme}
 use Rattle.turtle_reader.specs.Contexts.{at_start, context_from}
-use Rattle.turtle_reader.specs.Faults.{Next, IsStop, HasNoIri, IsDeep, rank}
-use Rattle.turtle_reader.specs.FirstFaults.{IsFaultAt, IsLargeAt, HasFaultAt, IsFirstFault, place_of}
+use Rattle.turtle_reader.specs.Faults.{Next, rank}
+use Rattle.turtle_reader.specs.FirstFaults.{IsFaultAt, HasFaultAt, IsFirstFault, place_of}
 use Rattle.turtle_reader.specs.Texts.{IsLexed, is_string_symbol, AreLexemesTo}
 use Rattle.turtle_reader.proofs.Firsts.{first_shorter}
 use Rattle.turtle_reader.proofs.OneLexeme.{lex_at, placed, fault_after}
 use Rattle.turtle_reader.proofs.Sequences.{iri_fault}
-use Rattle.turtle_reader.proofs.Telling.{at_index}
+use Rattle.turtle_reader.proofs.Walking.{at_index}
 
 -- the fault of a rank at a position
 abbrev fault_of : ℕ → ℕ → TurtleFault
@@ -35,24 +35,6 @@ abbrev pub places : ℕ → Next → ℕ
 places end (Ok (Some l)) = l.from
 places end (Ok None) = end
 places end (Err f) = lex_at f
-
-iri_place : (base bytes : List ℕ) (before : List Lexeme) (next : Next) (f : TurtleFault) → HasNoIri base bytes before next f
-    → place_of f ≡ places (length bytes) next
-iri_place base bytes before (Ok (Some l)) f (ms, means, bad) = (iri_fault bytes (context_from (at_start base) before ms) l f bad).1
-iri_place base bytes before _ f h = absurd h
-
-stop_place : (start : Start) (end : ℕ) (before : List Lexeme) (next : Next) (at : ℕ) → IsStop start end before next at → at ≡ places end next
-stop_place start end before (Ok (Some l)) at h = h.0
-stop_place start end before (Ok None) at h = h.0
-stop_place start end before (Err f) at h = absurd h
-
-deep_place : (end : ℕ) (before : List Lexeme) (next : Next) (at : ℕ) → IsDeep before next at → at ≡ places end next
-deep_place end before (Ok (Some l)) at h = h.0
-deep_place end before _ at h = absurd h
-
-large_place : (IsLarge : List Lexeme → Type 0) (end : ℕ) (before : List Lexeme) (next : Next) (at : ℕ) → IsLargeAt IsLarge before next at → at ≡ places end next
-large_place IsLarge end before (Ok (Some l)) at h = h.0
-large_place IsLarge end before _ at h = absurd h
 
 -- The positions of lexemes
 
@@ -92,12 +74,13 @@ module _ (IsLarge : List Lexeme → Type 0) (start : Start) (base bytes : List �
   place_is : (before : List Lexeme) (next : Next) (f : TurtleFault) → Here before next f → place_of f ≡ places (length bytes) next
   place_is before next (Bad at Why.NotText) h = sym (ap (places (length bytes)) h)
   place_is before next (Bad at Why.BadToken) h = sym (ap (places (length bytes)) h)
-  place_is before next (Bad at Why.Grammar) h = stop_place start (length bytes) before next at h
-  place_is before next (Bad at Why.Prefix) h = iri_place base bytes before next (Bad at Why.Prefix) h
-  place_is before next (Bad at Why.BadIri) h = iri_place base bytes before next (Bad at Why.BadIri) h
-  place_is before next (Bad at Why.Depth) h = deep_place (length bytes) before next at h
-  place_is before next (TooLarge at) h = large_place IsLarge (length bytes) before next at h
-  place_is before next NoMemory h = absurd h
+  place_is before (Ok (Some l)) (Bad at Why.Grammar) h = h.0
+  place_is before (Ok None) (Bad at Why.Grammar) h = h.0
+  place_is before (Ok (Some l)) (Bad at Why.Prefix) (ms, means, bad) = (iri_fault bytes (context_from (at_start base) before ms) l (Bad at Why.Prefix) bad).1
+  place_is before (Ok (Some l)) (Bad at Why.BadIri) (ms, means, bad) = (iri_fault bytes (context_from (at_start base) before ms) l (Bad at Why.BadIri) bad).1
+  place_is before (Ok (Some l)) (Bad at Why.Depth) h = h.0
+  place_is before (Ok (Some l)) (TooLarge at) h = h.0
+  place_is before _ _ h = absurd h
 
   same_fault : (before : List Lexeme) (next : Next) (f g : TurtleFault) → rank f ≡ rank g → Here before next f → Here before next g → f ≡ g
   same_fault before next f g same h k =

@@ -4,7 +4,7 @@ use Rattle.std.proofs.lemmas.List.Elements.{All-head}
 use Rattle.turtle_lex.specs.declared.token.Token.{Token as LexToken}
 use Rattle.turtle_lex.specs.declared.token.LexFault.{LexFault}
 use Rattle.turtle_lex.specs.declared.token.LexFault.TheVariants as lex
-use Rattle.turtle_lex.specs.Tokens.{IsNext, IsBadToken, IsTokenOf, AreTokens, AreTokensTo, is_string, kind_after, listed_token}
+use Rattle.turtle_lex.specs.Tokens.{IsNext, IsAnswer, IsBadToken, IsTokenOf, AreTokens, AreTokensTo, is_string, kind_after, listed_token}
 use Rattle.turtle_lex.specs.declared.token.TokenKind.{TokenKind}
 use Rattle.turtle_lex.specs.declared.token.TokenKind.TheVariants as Kind
 use Rattle.turtle_lex.proofs.NextLemmas.{one_answer}
@@ -19,24 +19,18 @@ use Rattle.turtle_reader.specs.Lexemes.{lexeme_of, lexemes_of, IsPlaceOf, IsLexe
 use Rattle.turtle_reader.specs.Texts.{Answer, MatchesWord, IsWordAnswer, IsTokenlessAnswer, IsReadAs, IsLexed, AreLexemesTo, AreFirst, is_string_symbol}
 use Rattle.turtle_reader.proofs.Words.{same_word}
 
-abbrev found : Lexeme → Next
-found l = Ok (Some l)
-
-abbrev failed : LexFault → Next
-failed f = Err f
-
 not_both : (bytes : List ℕ) (at : ℕ) (l : Lexeme) (f : LexFault) → IsWordAnswer bytes at (Ok (Some l)) → IsWordAnswer bytes at (Err f) → ⊥
 not_both bytes at l f (e, word) (is, none) =
     none l.symbol (drop l.to bytes) (subst (λ (n : ℕ). MatchesWord l.symbol (drop n bytes) (drop l.to bytes)) e word.matches)
 
 one_word_answer : (bytes : List ℕ) (at : ℕ) (a b : Next) → IsWordAnswer bytes at a → IsWordAnswer bytes at b → a ≡ b
-one_word_answer bytes at (Ok (Some l)) (Ok (Some m)) (e, h) (f, k) = ap found (same_word bytes at l m e f h k)
+one_word_answer bytes at (Ok (Some l)) (Ok (Some m)) (e, h) (f, k) = let same = same_word bytes at l m e f h k in cc
 one_word_answer bytes at (Ok (Some l)) (Ok None) h k = absurd k
 one_word_answer bytes at (Ok (Some l)) (Err g) h k = absurd (not_both bytes at l g h k)
 one_word_answer bytes at (Ok None) b h k = absurd h
 one_word_answer bytes at (Err f) (Ok (Some m)) h k = absurd (not_both bytes at m f k h)
 one_word_answer bytes at (Err f) (Ok None) h k = absurd k
-one_word_answer bytes at (Err f) (Err g) (e, h) (e', k) = ap failed (e ∙ sym e')
+one_word_answer bytes at (Err f) (Err g) (e, h) (e', k) = cc
 
 one_tokenless : (start : Start) (bytes : List ℕ) (at : ℕ) (a b : Next) → IsTokenlessAnswer start bytes at a → IsTokenlessAnswer start bytes at b → a ≡ b
 one_tokenless Document bytes at a b h k = h ∙ sym k
@@ -79,19 +73,10 @@ word_place bytes l Delete u r x = tt
 word_place bytes l Data u r x = tt
 word_place bytes l (Token kind) u r x = absurd x
 
-pub no_lexeme : (l : Lexeme) (f : LexFault) (next : Next) → next ≡ Ok (Some l) → next ≡ Err f → ⊥
-no_lexeme l f next e h = cc
-
-pub ended : (l : Lexeme) (next : Next) → next ≡ Ok (Some l) → next ≡ Ok None → ⊥
-ended l next e h = cc
-
-pub same_lexeme : (l m : Lexeme) (next : Next) → next ≡ Ok (Some l) → next ≡ Ok (Some m) → l ≡ m
-same_lexeme l m next e h = cc
-
 tokenless_placed : (start : Start) (bytes : List ℕ) (from at : ℕ) (l : Lexeme) → IsBadToken bytes from at → IsTokenlessAnswer start bytes at (Ok (Some l))
     → IsPlaced bytes from l
-tokenless_placed Document bytes from at l bad is = absurd (no_lexeme l (lex.BadToken at) (Ok (Some l)) refl is)
-tokenless_placed Patch bytes from at l bad is = absurd (no_lexeme l (lex.BadToken at) (Ok (Some l)) refl is)
+tokenless_placed Document bytes from at l bad is = cc
+tokenless_placed Patch bytes from at l bad is = cc
 tokenless_placed Update bytes from at l bad (e, word) = record {
   after = subst (λ (n : ℕ). from ≤ n) (sym e) bad.after;
   in_order = word.in_order;
@@ -101,9 +86,9 @@ tokenless_placed Update bytes from at l bad (e, word) = record {
 
 pub placed : (start : Start) (bytes : List ℕ) (from : ℕ) (s : Bool) (l : Lexeme) → IsLexed start bytes from s (Ok (Some l)) → IsPlaced bytes from l
 placed start bytes from s l (Ok (Some t), is_next, is) =
-    subst (IsPlaced bytes from) (sym (same_lexeme l (lexeme_of (listed_token s t)) (Ok (Some l)) refl is)) (token_placed bytes from s t is_next)
-placed start bytes from s l (Ok None, answers, is) = absurd (ended l (Ok (Some l)) refl is)
-placed start bytes from s l (Err (lex.NotText at), answers, is) = absurd (no_lexeme l (lex.NotText at) (Ok (Some l)) refl is)
+    let same : lexeme_of (listed_token s t) ≡ l = cc in subst (IsPlaced bytes from) same (token_placed bytes from s t is_next)
+placed start bytes from s l (Ok None, answers, is) = cc
+placed start bytes from s l (Err (lex.NotText at), answers, is) = cc
 placed start bytes from s l (Err (lex.BadToken at), bad, is) = tokenless_placed start bytes from at l bad is
 placed start bytes from s l (Err lex.NoMemory, answers, is) = absurd answers
 
@@ -112,22 +97,16 @@ lex_at (lex.NotText at) = at
 lex_at (lex.BadToken at) = at
 lex_at lex.NoMemory = 0
 
-same_fault : (f g : LexFault) (next : Next) → next ≡ Err f → next ≡ Err g → f ≡ g
-same_fault f g next e h = cc
-
-pub found_none : (f : LexFault) (next : Next) → next ≡ Err f → next ≡ Ok None → ⊥
-found_none f next e h = cc
-
 tokenless_after : (start : Start) (bytes : List ℕ) (from at : ℕ) (f : LexFault) → from ≤ at → IsTokenlessAnswer start bytes at (Err f) → from ≤ lex_at f
-tokenless_after Document bytes from at f low is = subst (λ (g : LexFault). from ≤ lex_at g) (sym (same_fault f (lex.BadToken at) (Err f) refl is)) low
-tokenless_after Patch bytes from at f low is = subst (λ (g : LexFault). from ≤ lex_at g) (sym (same_fault f (lex.BadToken at) (Err f) refl is)) low
+tokenless_after Document bytes from at f low is = let same : lex.BadToken at ≡ f = cc in subst (λ (g : LexFault). from ≤ lex_at g) same low
+tokenless_after Patch bytes from at f low is = let same : lex.BadToken at ≡ f = cc in subst (λ (g : LexFault). from ≤ lex_at g) same low
 tokenless_after Update bytes from at f low (is, none) = subst (λ (g : LexFault). from ≤ lex_at g) (sym is) low
 
 pub fault_after : (start : Start) (bytes : List ℕ) (from : ℕ) (s : Bool) (f : LexFault) → IsLexed start bytes from s (Err f) → from ≤ lex_at f
-fault_after start bytes from s f (Ok (Some t), is_next, is) = absurd (no_lexeme (lexeme_of (listed_token s t)) f (Err f) is refl)
-fault_after start bytes from s f (Ok None, answers, is) = absurd (found_none f (Err f) refl is)
+fault_after start bytes from s f (Ok (Some t), is_next, is) = cc
+fault_after start bytes from s f (Ok None, answers, is) = cc
 fault_after start bytes from s f (Err (lex.NotText at), answers, is) =
-    subst (λ (g : LexFault). from ≤ lex_at g) (sym (same_fault f (lex.NotText at) (Err f) refl is)) answers.after
+    let same : lex.NotText at ≡ f = cc in subst (λ (g : LexFault). from ≤ lex_at g) same answers.after
 fault_after start bytes from s f (Err (lex.BadToken at), bad, is) = tokenless_after start bytes from at f bad.after is
 fault_after start bytes from s f (Err lex.NoMemory, answers, is) = absurd answers
 
@@ -156,9 +135,43 @@ tokens_to start bytes (t ∷ ts) from s to u (n, is_next, listed, rest) =
     let at : n.to ≡ t.to = ap (λ (z : LexToken). z.to) (sym listed) in
     let moved : AreTokensTo bytes t.to (is_string t.kind) ts to u =
     subst (λ (b : Bool). AreTokensTo bytes t.to b ts to u) string (subst (λ (k : ℕ). AreTokensTo bytes k (is_string n.kind) ts to u) at rest) in
-    ((Ok (Some n), is_next, ap (λ (z : LexToken). found (lexeme_of z)) listed), tokens_to start bytes ts t.to (is_string t.kind) to u moved)
+    ((Ok (Some n), is_next, cc), tokens_to start bytes ts t.to (is_string t.kind) to u moved)
 
 -- the tokens of a text without words are its lexemes
 pub tokens_are_lexemes : (start : Start) (bytes : List ℕ) (ts : List LexToken) → AreTokens bytes ts → AreFirst start bytes (lexemes_of ts) (Ok None)
 tokens_are_lexemes start bytes ts (end, string, tokens, answers) =
     record { to = end; string = string; lexemes_are = tokens_to start bytes ts 0 false end string tokens; lexed = (Ok None, answers, refl) }
+
+-- the lexemes of a text without words are its tokens
+
+token_of : (bytes : List ℕ) (from : ℕ) (s : Bool) (l : Lexeme) → IsLexed Document bytes from s (Ok (Some l))
+    → (n : LexToken) × IsNext bytes from n × (l ≡ lexeme_of (listed_token s n))
+token_of bytes from s l (Ok (Some n), is_next, is) = (n, is_next, cc)
+token_of bytes from s l (Ok None, answers, is) = cc
+token_of bytes from s l (Err (lex.NotText at), answers, is) = cc
+token_of bytes from s l (Err (lex.BadToken at), answers, is) = cc
+token_of bytes from s l (Err lex.NoMemory, answers, is) = absurd answers
+
+ends_with : (bytes : List ℕ) (from : ℕ) (s : Bool) → IsLexed Document bytes from s (Ok None) → IsAnswer bytes from (Ok None)
+ends_with bytes from s (Ok (Some n), is_next, is) = cc
+ends_with bytes from s (Ok None, answers, is) = answers
+ends_with bytes from s (Err (lex.NotText at), answers, is) = cc
+ends_with bytes from s (Err (lex.BadToken at), answers, is) = cc
+ends_with bytes from s (Err lex.NoMemory, answers, is) = absurd answers
+
+tokens_from : (bytes : List ℕ) (ls : List Lexeme) (from : ℕ) (s : Bool) (to : ℕ) (u : Bool) → AreLexemesTo Document bytes from s ls to u
+    → (ts : List LexToken) × (ls ≡ lexemes_of ts) × AreTokensTo bytes from s ts to u
+tokens_from bytes [] from s to u h = ([], refl, h)
+tokens_from bytes (l ∷ ls) from s to u (lexed, rest) =
+    let (n, is_next, is) = token_of bytes from s l lexed in
+    let at : l.to ≡ n.to = ap (λ (z : Lexeme). z.to) is in
+    let string : is_string_symbol l.symbol ≡ is_string n.kind = ap (λ (z : Lexeme). is_string_symbol z.symbol) is ∙ sym (string_same s n.kind) in
+    let moved : AreLexemesTo Document bytes n.to (is_string n.kind) ls to u =
+    subst (λ (b : Bool). AreLexemesTo Document bytes n.to b ls to u) string (subst (λ (k : ℕ). AreLexemesTo Document bytes k (is_string_symbol l.symbol) ls to u) at rest) in
+    let (ts, same, tokens) = tokens_from bytes ls n.to (is_string n.kind) to u moved in
+    (listed_token s n ∷ ts, ap (λ (z : Lexeme). z ∷ ls) is ∙ ap (λ (z : List Lexeme). lexeme_of (listed_token s n) ∷ z) same, (n, is_next, refl, tokens))
+
+pub lexemes_are_tokens : (bytes : List ℕ) (ls : List Lexeme) → AreFirst Document bytes ls (Ok None) → (ts : List LexToken) × (ls ≡ lexemes_of ts) × AreTokens bytes ts
+lexemes_are_tokens bytes ls h =
+    let (ts, same, tokens) = tokens_from bytes ls 0 false h.to h.string h.lexemes_are in
+    (ts, same, (h.to, h.string, tokens, ends_with bytes h.to h.string h.lexed))

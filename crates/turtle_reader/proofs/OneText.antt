@@ -1,16 +1,14 @@
 -- The bytes are one text, and one within the limits has no fault.
-use Rattle.std.proofs.Common.{◌≡◌, ℕ, Bool, true, false, List, [], ◌∷◌, ◌++◌, length, take, Some, None, Ok, Err}
-use Rattle.std.proofs.Common.{inl, inr, refl, sym, ap, ◌∙◌, subst, arith, append_assoc, length-append}
+use Rattle.std.proofs.Common.{◌≡◌, ℕ, Bool, true, false, List, [], ◌∷◌, ◌++◌, length, Some, None, Ok, Err}
+use Rattle.std.proofs.Common.{inl, inr, refl, sym, ap, ◌∙◌, subst, arith}
 use Rattle.std.proofs.lemmas.Bool.{cases_lt}
-use Rattle.std.proofs.lemmas.List.{map-append, take_at}
-use Rattle.turtle_lex.specs.declared.token.LexFault.TheVariants as lex
+use Rattle.std.proofs.lemmas.List.{same_from_push}
 use Rattle.turtle_grammar.specs.declared.symbol.Symbol.{Symbol}
 use Rattle.turtle_grammar.specs.declared.symbol.Start.{Start}
 use Rattle.turtle_grammar.specs.declared.production.Production.{Production}
 use Rattle.turtle_grammar.specs.Derivations.{Derives, GoesOn}
 use Rattle.turtle_grammar.proofs.OneProduced.{one_produced}
 use Rattle.turtle_grammar.proofs.Theorem.{same_productions}
-use Rattle.turtle_terms.specs.declared.fault.TurtleKind.TheVariants as Why
 use Rattle.turtle_terms.specs.declared.fault.TurtleFault.{TurtleFault}
 use Rattle.turtle_terms.specs.declared.fault.TurtleFault.TheVariants.{Bad, TooLarge, NoMemory}
 use Rattle.turtle_reader.specs.declared.lexeme.Lexeme.{Lexeme}
@@ -18,16 +16,16 @@ use Rattle.turtle_reader.specs.declared.meaning.Meaning.{Meaning}
 use Rattle.turtle_reader.specs.declared.referent.ResolvedTriple.{ResolvedTriple}
 use Rattle.turtle_reader.specs.Contexts.{at_start}
 use Rattle.turtle_reader.specs.Faults.{Next, HasNoIri}
-use Rattle.turtle_reader.specs.FirstFaults.{IsFaultAt, IsLargeAt, NeverLarge, HasFaultAt, HasNoFault, IsShallow, IsNowhereLarge}
+use Rattle.turtle_reader.specs.FirstFaults.{IsFaultAt, IsLargeAt, NeverLarge, HasNoFault, IsShallow, IsNowhereLarge}
 use Rattle.turtle_reader.specs.Handed.{AreResolved}
 use Rattle.turtle_reader.specs.Lexemes.{symbols_of}
 use Rattle.turtle_reader.specs.Meanings.{AreMeanings}
 use Rattle.turtle_reader.specs.Texts.{AreFirst, IsText, AreComplete, AreCompleteWhere, adds_to_string}
 use Rattle.turtle_reader.proofs.Firsts.{firsts_agree, strings_agree, first_shorter, one_list, ended}
 use Rattle.turtle_reader.proofs.Handing.{one_handed}
-use Rattle.turtle_reader.proofs.OneLexeme.{no_lexeme}
 use Rattle.turtle_reader.proofs.Sequences.{one_means, no_iri_fault}
-use Rattle.turtle_reader.proofs.Telling.{fault_along, at_index, least_end}
+use Rattle.turtle_reader.proofs.Stepping.{none_after, split_symbols}
+use Rattle.turtle_reader.proofs.Walking.{fault_along, at_index, least_end}
 
 pub one_text : (start : Start) (base bytes : List ℕ) (ps qs : List Production) (ms ns : List Meaning) → IsText start base bytes ps ms → IsText start base bytes qs ns
     → (qs ≡ ps) × (ns ≡ ms)
@@ -40,16 +38,13 @@ one_text start base bytes ps qs ms ns h k =
 -- A text within the limits has no fault.
 module _ (IsLarge : List Lexeme → Type 0) (start : Start) (base bytes : List ℕ) (ps : List Production) (ms : List Meaning) (h : IsText start base bytes ps ms)
     (shallow : IsShallow IsLarge start base bytes) (small : IsNowhereLarge IsLarge start base bytes) where
-  module _ (before : List Lexeme) (l : Lexeme) (rest : List Lexeme) (split : h.lexemes ≡ before ++ l ∷ rest) where
-    symbols : symbols_of h.lexemes ≡ symbols_of (before ++ l ∷ []) ++ symbols_of rest
-    symbols =
-        ap symbols_of (split ∙ sym (append_assoc before (l ∷ []) rest)) ∙ map-append (λ (x : Lexeme). x.symbol) (before ++ l ∷ []) rest
-
+  module _ (before : List Lexeme) (l : Lexeme) (rest : List Lexeme) (split : h.lexemes ≡ before ++ l ∷ rest)
+      (first : AreFirst start bytes before (Ok (Some l))) where
     goes : GoesOn start (symbols_of (before ++ l ∷ []))
     goes = record {
       rest = symbols_of rest;
       productions = ps;
-      derives = subst (λ (z : List Symbol). Derives start z ps) symbols h.derives;
+      derives = subst (λ (z : List Symbol). Derives start z ps) (ap symbols_of split ∙ split_symbols before l rest) h.derives;
     }
 
     no_iri : (f : TurtleFault) → HasNoIri base bytes before (Ok (Some l)) f → ⊥
@@ -57,22 +52,17 @@ module _ (IsLarge : List Lexeme → Type 0) (start : Start) (base bytes : List �
         no_iri_fault bytes (at_start base) before l rest ms ns f
         (subst (λ (z : List Lexeme). AreMeanings bytes (at_start base) z ms) split h.means) means bad
 
-    not_inside : (f : TurtleFault) → (n : ℕ) → HasFaultAt IsLarge start base bytes n f → IsFaultAt IsLarge start base bytes before (Ok (Some l)) f → ⊥
-    not_inside (Bad at Why.NotText) n has is = no_lexeme l (lex.NotText at) (Ok (Some l)) refl is
-    not_inside (Bad at Why.BadToken) n has is = no_lexeme l (lex.BadToken at) (Ok (Some l)) refl is
-    not_inside (Bad at Why.Grammar) n has is = is.1 goes
-    not_inside (Bad at Why.Prefix) n has is = no_iri (Bad at Why.Prefix) is
-    not_inside (Bad at Why.BadIri) n has is = no_iri (Bad at Why.BadIri) is
-    not_inside (Bad at Why.Depth) n has is = shallow n at has
-    not_inside (TooLarge at) n has is = small n at has
-    not_inside NoMemory n has is = is
+    not_inside : (f : TurtleFault) → IsFaultAt IsLarge start base bytes before (Ok (Some l)) f → ⊥
+    not_inside (Bad at kind) is =
+        none_after start base bytes before l goes no_iri (λ at' deep. shallow (length before) at' (before, Ok (Some l), first, refl, deep)) (Bad at kind) is
+    not_inside (TooLarge at) is = small (length before) at (before, Ok (Some l), first, refl, is)
+    not_inside NoMemory is = is
 
-  no_fault_by : (n : ℕ) (f : TurtleFault) (before : List Lexeme) (next : Next) → HasFaultAt IsLarge start base bytes n f → AreFirst start bytes before next
-      → IsFaultAt IsLarge start base bytes before next f → ⊥
-  no_fault_by n f before next has first is = elim (cases_lt (length before) (length h.lexemes)) [
+  pub no_fault : HasNoFault IsLarge start base bytes
+  no_fault n f (before, next, first, size, is) = elim (cases_lt (length before) (length h.lexemes)) [
     | inl lt ↦
         let (l, rest, answer, split) = first_shorter start bytes before h.lexemes next (Ok None) first h.are_lexemes lt in
-        not_inside before l rest split f n has (fault_along IsLarge start base bytes before next (Ok (Some l)) f answer is)
+        not_inside before l rest split (subst (AreFirst start bytes before) answer first) f (fault_along IsLarge start base bytes before next (Ok (Some l)) f answer is)
     | inr le ↦ elim (cases_lt (length h.lexemes) (length before)) [
       | inl more ↦
           let (l, rest, answer, split) = first_shorter start bytes h.lexemes before (Ok None) next h.are_lexemes first more in
@@ -84,19 +74,10 @@ module _ (IsLarge : List Lexeme → Type 0) (start : Start) (base bytes : List �
     ]
   ]
 
-  pub no_fault : HasNoFault IsLarge start base bytes
-  no_fault n f (before, next, first, size, is) = no_fault_by n f before next (before, next, first, size, is) first is
-
 -- Complete triples
 
-last_size : {X : Type 0} (xs ys : List X) (x y : X) → xs ++ x ∷ [] ≡ ys ++ y ∷ [] → length xs ≡ length ys
-last_size xs ys x y e = omega (arith, ap length e, length-append xs (x ∷ []), length-append ys (y ∷ []))
-
-fronts_agree : {X : Type 0} (xs ys : List X) (x y : X) → xs ++ x ∷ [] ≡ ys ++ y ∷ [] → xs ≡ ys
-fronts_agree xs ys x y e = sym (take_at xs (x ∷ []) (length xs) refl) ∙ ap (take (length xs)) e ∙ take_at ys (y ∷ []) (length xs) (sym (last_size xs ys x y e))
-
 one_where : (string adds : Bool) (ps cs ds : List Production) → AreCompleteWhere string adds ps cs → AreCompleteWhere string adds ps ds → cs ≡ ds
-one_where true true ps cs ds (own, e) (other, f) = fronts_agree cs ds own other (sym e ∙ f)
+one_where true true ps cs ds (own, e) (other, f) = (same_from_push cs ds own other (sym e ∙ f)).0
 one_where true false ps cs ds h k = sym h ∙ k
 one_where false adds ps cs ds h k = sym h ∙ k
 

@@ -57,28 +57,13 @@ context_more bytes c (x ∷ ls) (n ∷ ms) l m h = context_more bytes (context_a
 abbrev MeaningResult : Type 0
 MeaningResult = Result Meaning TurtleFault
 
--- A result is one value, or one fault.
-module _ {T E : Type 0} where
-  same_ok : (a b : T) (r : Result T E) → r ≡ Ok a → r ≡ Ok b → a ≡ b
-  same_ok a b r e f = cc
-
-  same_err : (a b : E) (r : Result T E) → r ≡ Err a → r ≡ Err b → a ≡ b
-  same_err a b r e f = cc
-
-  apart : (a : T) (b : E) (r : Result T E) → r ≡ Ok a → r ≡ Err b → ⊥
-  apart a b r e f = cc
-
 one_term_meaning : (base : List ℕ) (prefixes : Prefixes) (bytes : List ℕ) (token : LexToken) (a b : MeaningResult)
     → IsTermMeaning base prefixes bytes token a → IsTermMeaning base prefixes bytes token b → a ≡ b
 one_term_meaning base prefixes bytes token (Ok m) (Ok n) (t, h, e) (u, k, f) =
-    let same : t ≡ u = same_ok t u (Ok t) refl (one_term base prefixes bytes token (Ok t) (Ok u) h k) in
-    ap Ok (e ∙ ap term_meaning same ∙ sym f)
-one_term_meaning base prefixes bytes token (Ok m) (Err f) (t, h, e) k =
-    absurd (apart t f (Ok t) refl (one_term base prefixes bytes token (Ok t) (Err f) h k))
-one_term_meaning base prefixes bytes token (Err f) (Ok n) h (u, k, e) =
-    absurd (apart u f (Ok u) refl (one_term base prefixes bytes token (Ok u) (Err f) k h))
-one_term_meaning base prefixes bytes token (Err f) (Err g) h k =
-    ap Err (same_err f g (Err f) refl (one_term base prefixes bytes token (Err f) (Err g) h k))
+    let both = one_term base prefixes bytes token (Ok t) (Ok u) h k in let same : t ≡ u = cc in ap Ok (e ∙ ap term_meaning same ∙ sym f)
+one_term_meaning base prefixes bytes token (Ok m) (Err f) (t, h, e) k = let both = one_term base prefixes bytes token (Ok t) (Err f) h k in cc
+one_term_meaning base prefixes bytes token (Err f) (Ok n) h (u, k, e) = let both = one_term base prefixes bytes token (Ok u) (Err f) k h in cc
+one_term_meaning base prefixes bytes token (Err f) (Err g) h k = let both = one_term base prefixes bytes token (Err f) (Err g) h k in cc
 
 one_plain : (special : Option Meaning) (base : List ℕ) (prefixes : Prefixes) (bytes : List ℕ) (token : LexToken) (a b : MeaningResult)
     → IsPlainMeaning special base prefixes bytes token a → IsPlainMeaning special base prefixes bytes token b → a ≡ b
@@ -101,14 +86,14 @@ pub one_meaning : (bytes : List ℕ) (c : Context) (l : Lexeme) (a b : Result Me
 one_meaning bytes c l a b h k = one_by l.symbol bytes c l a b h k
 
 pub meanings_agree : (bytes : List ℕ) (c : Context) (l : Lexeme) (m n : Meaning) → IsMeaning bytes c l (Ok m) → IsMeaning bytes c l (Ok n) → m ≡ n
-meanings_agree bytes c l m n h k = same_ok m n (Ok m) refl (one_meaning bytes c l (Ok m) (Ok n) h k)
+meanings_agree bytes c l m n h k = let both = one_meaning bytes c l (Ok m) (Ok n) h k in cc
 
 pub meaning_or_fault : (bytes : List ℕ) (c : Context) (l : Lexeme) (m : Meaning) (f : TurtleFault)
     → IsMeaning bytes c l (Ok m) → IsMeaning bytes c l (Err f) → ⊥
-meaning_or_fault bytes c l m f h k = apart m f (Ok m) refl (one_meaning bytes c l (Ok m) (Err f) h k)
+meaning_or_fault bytes c l m f h k = let both = one_meaning bytes c l (Ok m) (Err f) h k in cc
 
 pub faults_agree : (bytes : List ℕ) (c : Context) (l : Lexeme) (f g : TurtleFault) → IsMeaning bytes c l (Err f) → IsMeaning bytes c l (Err g) → f ≡ g
-faults_agree bytes c l f g h k = same_err f g (Err f) refl (one_meaning bytes c l (Err f) (Err g) h k)
+faults_agree bytes c l f g h k = let both = one_meaning bytes c l (Err f) (Err g) h k in cc
 
 -- lexemes mean one list
 pub one_means : (bytes : List ℕ) (c : Context) (ls : List Lexeme) (ms ns : List Meaning)
@@ -143,6 +128,9 @@ IsIriFault (Bad at Why.Prefix) = Unit {0}
 IsIriFault (Bad at Why.BadIri) = Unit {0}
 IsIriFault fault = ⊥
 
+no_fault : {T E : Type 0} (a : T) (b : E) → ◌≡◌ {A = Result T E} (Err b) (Ok a) → ⊥
+no_fault a b e = cc
+
 abbrev IsIriKind : TurtleKind → Type 0
 IsIriKind Why.Prefix = Unit {0}
 IsIriKind Why.BadIri = Unit {0}
@@ -163,8 +151,8 @@ term_kind : (base : List ℕ) (prefixes : Prefixes) (kind : TokenKind) (text : L
 term_kind base prefixes Kind.IriRef text why h = reference_kind base (reference_value text) why h
 term_kind base prefixes Kind.PnameNs text why h = name_kind (map_of.get prefixes (prefix_value text)) (local_value text) why h
 term_kind base prefixes Kind.PnameLn text why h = name_kind (map_of.get prefixes (prefix_value text)) (local_value text) why h
-term_kind base prefixes Kind.A text why h = absurd (apart _ why (Err why) h refl)
-term_kind base prefixes _ text why h = absurd (apart _ why (Err why) h refl)
+term_kind base prefixes Kind.A text why h = absurd (no_fault _ why h)
+term_kind base prefixes _ text why h = absurd (no_fault _ why h)
 
 fault_of_kind : (at : ℕ) (why : TurtleKind) → IsIriKind why → IsIriFault (Bad at why)
 fault_of_kind at Why.Prefix h = tt
@@ -182,17 +170,17 @@ term_fault base prefixes bytes token _ h = absurd h
 
 plain_fault : (special : Option Meaning) (base : List ℕ) (prefixes : Prefixes) (bytes : List ℕ) (token : LexToken) (f : TurtleFault)
     → IsPlainMeaning special base prefixes bytes token (Err f) → IsIriFaultAt token.from f
-plain_fault (Some m) base prefixes bytes token f h = absurd (apart m f (Err f) h refl)
+plain_fault (Some m) base prefixes bytes token f h = absurd (no_fault m f h)
 plain_fault None base prefixes bytes token f h = term_fault base prefixes bytes token f h
 
 token_fault : (d : Directive) (base : List ℕ) (prefixes : Prefixes) (bytes : List ℕ) (token : LexToken) (f : TurtleFault)
     → IsTokenMeaning d base prefixes bytes token (Err f) → IsIriFaultAt token.from f
-token_fault directive_of.Name base prefixes bytes token f h = absurd (apart _ f (Err f) h refl)
+token_fault directive_of.Name base prefixes bytes token f h = absurd (no_fault _ f h)
 token_fault _ base prefixes bytes token f h = plain_fault (special_meaning token.kind (text_of bytes token)) base prefixes bytes token f h
 
 by_fault : (s : Symbol) (bytes : List ℕ) (c : Context) (l : Lexeme) (f : TurtleFault) → IsMeaningBy s bytes c l (Err f) → IsIriFaultAt l.from f
 by_fault (Token kind) bytes c l f h = token_fault c.directive c.base c.scope bytes (token_at kind l) f h
-by_fault _ bytes c l f h = absurd (apart _ f (Err f) h refl)
+by_fault _ bytes c l f h = absurd (no_fault _ f h)
 
 -- the fault of a lexeme is that of an IRI, at its start
 pub iri_fault : (bytes : List ℕ) (c : Context) (l : Lexeme) (f : TurtleFault) → IsMeaning bytes c l (Err f) → IsIriFault f × (place_of f ≡ l.from)

@@ -1,8 +1,7 @@
 -- Tokens, and the words that SPARQL updates have beside them, as symbols with their places.
-use Rattle.std.specs.Prelude.{ℕ, List, map, Option, Some, None, Result, Ok, Err}
+use Rattle.std.specs.Prelude.{ℕ, List, map}
 use Rattle.turtle_lex.specs.declared.token.TokenKind.{TokenKind}
 use Rattle.turtle_lex.specs.declared.token.Token.{Token as LexToken}
-use Rattle.turtle_lex.specs.declared.token.LexFault.{LexFault}
 use Rattle.turtle_lex.specs.Tokens.{IsTokenOf}
 use Rattle.turtle_grammar.specs.declared.symbol.Symbol.{Symbol}
 use Rattle.turtle_grammar.specs.declared.symbol.Symbol.TheVariants.{Token}
@@ -28,9 +27,3 @@ IsPlaceOf word bytes lexeme = Unit {0}
 
 abbrev pub IsLexemeOf : List ℕ → Lexeme → Type 0
 IsLexemeOf bytes lexeme = IsPlaceOf lexeme.symbol bytes lexeme
-
--- what a text has next, with a lexeme in place of a token
-abbrev pub lexeme_answer : Result (Option LexToken) LexFault → Result (Option Lexeme) LexFault
-lexeme_answer (Ok (Some token)) = Ok (Some (lexeme_of token))
-lexeme_answer (Ok None) = Ok None
-lexeme_answer (Err fault) = Err fault

@@ -1,11 +1,10 @@
 -- What the walk over the lexemes of a text keeps.
 use Rattle.std.specs.Prelude.{◌≡◌, ◌+◌, ◌<◌, ◌&&◌, ℕ, Bool, true, false, List, [], ◌∷◌, ◌++◌, length}
-use Rattle.std.specs.Prelude.{Option, Some, None, Ok}
+use Rattle.std.specs.Prelude.{Option, Some, None}
 use Rattle.turtle_grammar.specs.declared.production.SymbolicTriple.{SymbolicTriple}
 use Rattle.turtle_grammar.specs.declared.production.Production.{Production}
 use Rattle.turtle_grammar.specs.declared.symbol.Start.{Start}
 use Rattle.turtle_grammar.specs.Readings.{HasString, IsTriple, Waits}
-use Rattle.turtle_terms.specs.declared.fault.TurtleFault.{TurtleFault}
 use Rattle.turtle_terms.specs.declared.fault.TurtleFault.TheVariants.{TooLarge}
 use Rattle.turtle_reader.specs.declared.lexeme.Lexeme.{Lexeme}
 use Rattle.turtle_reader.specs.declared.meaning.Meaning.{Meaning}
@@ -29,17 +28,22 @@ abbrev pub FitsBelow : (List Lexeme → Type 0) → Start → List ℕ → List 
 FitsBelow IsLarge start base bytes count =
     (i at : ℕ) → i < count → HasFaultAt IsLarge start base bytes i (TooLarge at) → ⊥
 
--- The text was read up to this position: these are its lexemes, and these triples were handed out.
-pub record IsSoFar (IsLarge : List Lexeme → Type 0) (start : Start) (base bytes : List ℕ)
-    (lexemes : List Lexeme) (at : ℕ) (handed : List ResolvedTriple) (p : Progress) : Type 0 where
+-- The text was read up to this position: these are its lexemes, their triples were handed out, and
+-- this is kept of them.
+pub record HasKept {T : Type 0} (IsKept : List ℕ → List ResolvedTriple → T → Type 0)
+    (IsLarge : List Lexeme → Type 0) (start : Start) (base bytes : List ℕ) (at : ℕ)
+    (p : Progress) (kept : T) : Type 0 where
+  pub lexemes : List Lexeme
   pub productions : List Production
   pub meanings : List Meaning
+  pub handed : List ResolvedTriple
   pub lexemes_are : AreLexemesTo start bytes 0 false lexemes at p.after_string
   pub reading : IsReading start base bytes lexemes productions meanings p.reader
   pub resolved : AreResolved meanings productions handed
   pub string : p.after_string ≡ true → HasString p.reader.machine
   pub last : IsLastAt lexemes p.last
   pub fits : (count : ℕ) → count + 1 ≡ length lexemes → FitsBelow IsLarge start base bytes count
+  pub is_kept : IsKept bytes handed kept
 
 -- the triple of a last String, where nothing is added to it
 abbrev pub if_complete : Bool → Option SymbolicTriple → Option SymbolicTriple
@@ -70,15 +74,6 @@ KeepsAll IsKept bytes reader produced old new =
     → (more : List ResolvedTriple) × AreResolved meanings produced more
     × IsKept bytes (handed ++ more) new
 
--- the triples of a text so far, and what is kept of them
-pub record HasKept {T : Type 0} (IsKept : List ℕ → List ResolvedTriple → T → Type 0)
-    (IsLarge : List Lexeme → Type 0) (start : Start) (base bytes : List ℕ) (at : ℕ)
-    (p : Progress) (kept : T) : Type 0 where
-  pub lexemes : List Lexeme
-  pub handed : List ResolvedTriple
-  pub so_far : IsSoFar IsLarge start base bytes lexemes at handed p
-  pub is_kept : IsKept bytes handed kept
-
 -- the complete triples fit, or are too large at this position
 abbrev pub IsSized : (List Lexeme → Type 0) → Start → List ℕ → List ℕ → ℕ → Option ℕ
     → Type 0
@@ -91,45 +86,6 @@ abbrev pub SizesUp : {T : Type 0} → Start → (List ℕ → List ResolvedTripl
     → (List ℕ → List ℕ → List Lexeme → Type 0) → List ℕ → Progress → Next → T → Option ℕ
     → Type 0
 SizesUp start IsKept IsLarge bytes p next kept found =
-    (base : List ℕ) (lexemes : List Lexeme) (at : ℕ) (handed : List ResolvedTriple)
-    → IsSoFar (IsLarge base bytes) start base bytes lexemes at handed p → IsKept bytes handed kept
+    (base : List ℕ) (at : ℕ) (h : HasKept IsKept (IsLarge base bytes) start base bytes at p kept)
     → IsLexed start bytes at p.after_string next
-    → IsSized (IsLarge base bytes) start base bytes (length lexemes) found
-
--- Whatever was read before, its triples fit.
-abbrev pub Fits : {T : Type 0} → Start → (List ℕ → List ResolvedTriple → T → Type 0)
-    → (List ℕ → List ℕ → List Lexeme → Type 0) → List ℕ → ℕ → Progress → T → Type 0
-Fits start IsKept IsLarge bytes from p kept =
-    (base : List ℕ) (lexemes : List Lexeme) (handed : List ResolvedTriple)
-    → IsSoFar (IsLarge base bytes) start base bytes lexemes from handed p → IsKept bytes handed kept
-    → FitsBelow (IsLarge base bytes) start base bytes (length lexemes)
-
--- Whatever was read before, this is the fault that is told where the next lexeme was wanted.
-abbrev pub IsRefusedNext : {T : Type 0} → Start → (List ℕ → List ResolvedTriple → T → Type 0)
-    → (List ℕ → List ℕ → List Lexeme → Type 0) → List ℕ → ℕ → Progress → T → TurtleFault
-    → Type 0
-IsRefusedNext start IsKept IsLarge bytes from p kept fault =
-    (base : List ℕ) (lexemes : List Lexeme) (handed : List ResolvedTriple)
-    → IsSoFar (IsLarge base bytes) start base bytes lexemes from handed p → IsKept bytes handed kept
-    → IsFirstFault (IsLarge base bytes) start base bytes fault
-
--- Whatever was read before, the lexeme was read after it.
-abbrev pub TakesOn : {T : Type 0} → Start → (List ℕ → List ResolvedTriple → T → Type 0)
-    → (List ℕ → List ℕ → List Lexeme → Type 0) → List ℕ → Lexeme → Progress → Progress
-    → T → T → Type 0
-TakesOn start IsKept IsLarge bytes lexeme old new kept_old kept_new =
-    (base : List ℕ) (lexemes : List Lexeme) (at : ℕ) (handed : List ResolvedTriple)
-    → IsSoFar (IsLarge base bytes) start base bytes lexemes at handed old
-    → IsKept bytes handed kept_old → IsLexed start bytes at old.after_string (Ok (Some lexeme))
-    → FitsBelow (IsLarge base bytes) start base bytes (length lexemes)
-    → HasKept IsKept (IsLarge base bytes) start base bytes lexeme.to new kept_new
-
--- Whatever was read before, this is the fault that is told of the lexeme after it.
-abbrev pub IsRefusedAfter : Start → (List ℕ → List ℕ → List Lexeme → Type 0) → List ℕ
-    → Lexeme → Progress → TurtleFault → Type 0
-IsRefusedAfter start IsLarge bytes lexeme old fault =
-    (base : List ℕ) (lexemes : List Lexeme) (at : ℕ) (handed : List ResolvedTriple)
-    → IsSoFar (IsLarge base bytes) start base bytes lexemes at handed old
-    → IsLexed start bytes at old.after_string (Ok (Some lexeme))
-    → FitsBelow (IsLarge base bytes) start base bytes (length lexemes)
-    → IsFirstFault (IsLarge base bytes) start base bytes fault
+    → IsSized (IsLarge base bytes) start base bytes (length h.lexemes) found

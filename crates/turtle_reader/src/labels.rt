@@ -40,6 +40,7 @@ impl Labels {
 
     /// The labels of a document, up to its end or the first text without a token. One pass over its
     /// tokens; it takes memory for each different label that is `g` and a number.
+    #[tactic(auto, using(crate::proofs::DocumentLemmas::numbers_seen))]
     pub fn of(alloc: Global, bytes: &[u8]) -> Mem<Labels>
         ensures written { IfOk result (λ labels. HasNumbersIn (set.contains labels) bytes.now) }
         ensures tokens { IfOk result (λ labels. HasTokensBefore bytes.now) }

@@ -13,6 +13,7 @@ pub fn one_meaning()
 {}
 
 /// The law that lexemes which were read have no fault.
+#[tactic(auto, using(crate::proofs::Stepping::no_fault_before))]
 pub fn no_fault()
     ensures { ReadHasNoFault }
 {}

@@ -42,6 +42,7 @@ pub(crate) fn adds_to_string(next: &Result<Option<Lexeme>, LexFault>) -> bool
 }
 
 /// The word of an update at the start of a text, and what follows it.
+#[tactic(auto, using(crate::proofs::Words::no_word))]
 fn first_word(text: &[u8]) -> Option<(Symbol, &[u8])>
     ensures found { IfSome result (λ word. MatchesWord word.0 text.now word.1.now) }
     ensures none { IfNone result (HasNoWord text.now) }

@@ -1,12 +1,12 @@
 //! How far a text is read.
 
-ghost use Rattle.std.specs.Prelude.{◌≡◌, [], ◌&&◌, ℕ, List, None, Some, false, IfOk};
+ghost use Rattle.std.specs.Prelude.{◌≡◌, [], ◌&&◌, ℕ, List, None, false, IfOk};
 ghost use Rattle.turtle_reader.specs.Readings.{IsReading};
-ghost use Rattle.turtle_reader.specs.Texts.{adds_to_string, is_string_symbol};
+ghost use Rattle.turtle_reader.specs.Texts.{adds_to_string};
 ghost use Rattle.turtle_reader.specs.Walks.{if_complete, Completes};
 
 use crate::lexeme::Lexeme;
-use crate::lexing::{adds_to_string, is_string};
+use crate::lexing::adds_to_string;
 use crate::reader::Reader;
 use crate::referent::ResolvedTriple;
 use iri_ref::Iri;
@@ -47,16 +47,6 @@ impl Progress {
             after_string: false,
             last: None,
         })
-    }
-
-    /// Notes in the progress the lexeme that was read.
-    pub(crate) fn pass(&mut self, lexeme: Lexeme)
-        ensures reader { self.new.reader ≡ self.old.reader }
-        ensures string { self.new.after_string ≡ is_string_symbol lexeme.symbol }
-        ensures last { self.new.last ≡ Some lexeme.from }
-    {
-        self.after_string = is_string(lexeme.symbol);
-        self.last = Some(lexeme.from);
     }
 
     /// Whether the last lexeme is a String to which this adds something.

@@ -35,7 +35,7 @@ pub struct Reader {
 }
 
 /// The reader's fault of this kind at a position.
-fn fault_at(at: usize, kind: TurtleKind) -> TurtleFault
+pub(crate) fn fault_at(at: usize, kind: TurtleKind) -> TurtleFault
     ensures { result ≡ Bad at kind }
 {
     TurtleFault::Bad { at, kind }

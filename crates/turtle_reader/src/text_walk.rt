@@ -1,22 +1,20 @@
 //! [`walk`]: reads a whole text.
 
-ghost use Rattle.std.specs.Prelude.{◌≡◌, ◌≢◌, [], ◌∷◌, Ok, IfOk, IfErr, IfSome, OnOk};
+ghost use Rattle.std.specs.Prelude.{◌≡◌, ◌≢◌, ◌-◌, ◌<◌, true, false, [], ◌∷◌, length};
+ghost use Rattle.std.specs.Prelude.{IfOk, IfErr, OnOk};
 ghost use Rattle.turtle_terms.specs.declared.fault.TurtleFault.TheVariants.{NoMemory as NoMemoryFault};
 ghost use Rattle.turtle_reader.specs.Faults.{document_fault};
 ghost use Rattle.turtle_reader.specs.FirstFaults.{HasNoFault, IsFirstFault};
 ghost use Rattle.turtle_reader.specs.Languages.{KeepsText, StaysKept};
-ghost use Rattle.turtle_reader.specs.Lexemes.{IsLexemeOf};
-ghost use Rattle.turtle_reader.specs.Texts.{IsLexed};
-ghost use Rattle.turtle_reader.specs.Walks.{KeepsAll, SizesUp, Fits, IsRefusedNext, TakesOn};
-ghost use Rattle.turtle_reader.specs.Walks.{IsRefusedAfter};
+ghost use Rattle.turtle_reader.specs.Walks.{HasKept, KeepsAll, SizesUp};
 
 use crate::language::Language;
 use crate::lexeme::Lexeme;
-use crate::lexing::next_lexeme;
+use crate::lexing::{is_string, next_lexeme};
 use crate::progress::Progress;
-use crate::reader::Reader;
+use crate::reader::{Reader, fault_at};
 use iri_ref::Iri;
-use pod_base::{Mem, NoMemory};
+use pod_base::Mem;
 use std::alloc::Global;
 use turtle_grammar::Production;
 use turtle_lex::{LexFault, Lexer};
@@ -27,14 +25,8 @@ fn document_fault(fault: LexFault) -> TurtleFault
     ensures { result ≡ document_fault fault }
 {
     match fault {
-        LexFault::NotText { at } => TurtleFault::Bad {
-            at,
-            kind: TurtleKind::NotText,
-        },
-        LexFault::BadToken { at } => TurtleFault::Bad {
-            at,
-            kind: TurtleKind::BadToken,
-        },
+        LexFault::NotText { at } => fault_at(at, TurtleKind::NotText),
+        LexFault::BadToken { at } => fault_at(at, TurtleKind::BadToken),
         LexFault::NoMemory => TurtleFault::NoMemory,
     }
 }
@@ -109,68 +101,51 @@ fn too_large<L: Language>(
     }
 }
 
-/// The next lexeme of a walk over a text.
-fn next<'a, L: Language>(
+/// Reads the next lexeme of a walk over a text under a base, unless the text ends.
+fn read_next<'a, L: Language>(
     alloc: Global,
-    lexer: &mut Lexer<'a>,
+    _base: &Iri,
     bytes: &'a [u8],
-    progress: &Progress,
-    kept: &mut L,
-) -> Result<Option<Lexeme>, TurtleFault>
-    requires lexer { lexer.old.bytes ≡ bytes.now }
-    requires sound { L.is_sound bytes.now kept.old }
-    ensures answer { IfOk result (λ o. IsLexed L.symbol bytes.now lexer.old.from
-        progress.now.after_string (Ok o)) }
-    ensures of_bytes { IfOk result (λ o. IfSome o (IsLexemeOf bytes.now)) }
-    ensures from { IfOk result (λ o. IfSome o (λ lexeme. lexer.new.from ≡ lexeme.to)) }
-    ensures bytes { lexer.new.bytes ≡ bytes.now }
-    ensures sound { OnOk result (L.is_sound bytes.now kept.new) }
-    ensures kept { OnOk result (StaysKept L.is_kept kept.old kept.new) }
-    ensures fits { OnOk result (Fits L.symbol L.is_kept L.is_large bytes.now lexer.old.from
-        progress.now kept.old) }
-    ensures fault { IfErr result (λ fault. fault ≢ NoMemoryFault → IsRefusedNext L.symbol L.is_kept
-        L.is_large bytes.now lexer.old.from progress.now kept.old fault) }
-{
-    let next = next_lexeme(lexer, bytes, L::start(), progress.after_string);
-    match too_large(alloc, bytes, progress, kept, &next) {
-        Ok(None) => match next {
-            Ok(lexeme) => Ok(lexeme),
-            Err(fault) => Err(document_fault(fault)),
-        },
-        Ok(Some(at)) => Err(TurtleFault::TooLarge { at }),
-        Err(NoMemory) => Err(TurtleFault::NoMemory),
-    }
-}
-
-/// Reads the next lexeme of a walk over a text.
-fn take<L: Language>(
-    alloc: Global,
-    bytes: &[u8],
+    lexer: &mut Lexer<'a>,
     progress: &mut Progress,
     kept: &mut L,
-    lexeme: Lexeme,
-) -> Result<(), TurtleFault>
-    requires of_bytes { IsLexemeOf bytes.now lexeme }
+) -> Result<bool, TurtleFault>
+    requires bytes { lexer.old.bytes ≡ bytes.now }
     requires sound { L.is_sound bytes.now kept.old }
+    requires so_far { HasKept L.is_kept (L.is_large _base.now bytes.now) L.symbol _base.now bytes.now
+        lexer.old.from progress.old kept.old }
+    ensures bytes { lexer.new.bytes ≡ bytes.now }
     ensures sound { OnOk result (L.is_sound bytes.now kept.new) }
-    ensures read { OnOk result (TakesOn L.symbol L.is_kept L.is_large bytes.now lexeme progress.old
-        progress.new kept.old kept.new) }
-    ensures refused { IfErr result (λ fault. fault ≢ NoMemoryFault → IsRefusedAfter L.symbol
-        L.is_large bytes.now lexeme progress.old fault) }
+    ensures more { IfOk result (λ more. more ≡ true → HasKept L.is_kept
+        (L.is_large _base.now bytes.now) L.symbol _base.now bytes.now lexer.new.from progress.new
+        kept.new) }
+    ensures nearer { IfOk result (λ more. more ≡ true
+        → length bytes.now - lexer.new.from < length bytes.now - lexer.old.from) }
+    ensures text { IfOk result (λ more. more ≡ false
+        → KeepsText L.is_kept L.symbol _base.now bytes.now kept.new) }
+    ensures no_fault { IfOk result (λ more. more ≡ false
+        → HasNoFault (L.is_large _base.now bytes.now) L.symbol _base.now bytes.now) }
+    ensures fault { IfErr result (λ fault. fault ≢ NoMemoryFault → IsFirstFault
+        (L.is_large _base.now bytes.now) L.symbol _base.now bytes.now fault) }
 {
-    match progress.reader.step(alloc, bytes, lexeme) {
-        Ok(()) => {
-            keep_all(
-                alloc,
-                bytes,
-                &progress.reader,
-                kept,
-                progress.reader.produced(),
-            )?;
-            progress.pass(lexeme);
-            Ok(())
-        }
-        Err(fault) => Err(fault),
+    let next = next_lexeme(lexer, bytes, L::start(), progress.after_string);
+    match too_large(alloc, bytes, progress, kept, &next)? {
+        Some(at) => Err(TurtleFault::TooLarge { at }),
+        None => match next {
+            Ok(Some(lexeme)) => match progress.reader.step(alloc, bytes, lexeme) {
+                Ok(()) => {
+                    let reader = &progress.reader;
+                    keep_all(alloc, bytes, reader, kept, reader.produced())?;
+                    progress.after_string = is_string(lexeme.symbol);
+                    progress.last = Some(lexeme.from);
+                    Ok(true)
+                }
+                Err(fault) => Err(fault),
+            },
+            Ok(None) if progress.reader.is_complete() => Ok(false),
+            Ok(None) => Err(fault_at(bytes.len(), TurtleKind::Grammar)),
+            Err(fault) => Err(document_fault(fault)),
+        },
     }
 }
 
@@ -197,15 +172,6 @@ pub fn walk<L: Language>(
 {
     let mut progress = Progress::new(alloc, L::start(), base)?;
     let mut lexer = Lexer::new(bytes);
-    while let Some(lexeme) = next(alloc, &mut lexer, bytes, &progress, kept)? {
-        take(alloc, bytes, &mut progress, kept, lexeme)?;
-    }
-    if progress.reader.is_complete() {
-        Ok(())
-    } else {
-        Err(TurtleFault::Bad {
-            at: bytes.len(),
-            kind: TurtleKind::Grammar,
-        })
-    }
+    while read_next(alloc, base, bytes, &mut lexer, &mut progress, kept)? {}
+    Ok(())
 }

@@ -2,7 +2,7 @@ use Rattle.std.proofs.Common.{List, ℕ, sym, subst, arith}
 use Rattle.std.specs.BTreeSet.{contains}
 use Rattle.std.specs.Ordering.{nat_cmp}
 use Rattle.turtle_reader.specs.Taken.{AreGiven}
-use Rattle.turtle_reader.proofs.UnnamedLemmas.{given_more}
+use Rattle.turtle_reader.proofs.DocumentLemmas.{given_more}
 use Rattle.turtle_reader.proofs.issued_labels.give_next.Goals as goal
 
 pub returns-in_err-push_label-clause-given : goal.returns-in_err-push_label-clause-given

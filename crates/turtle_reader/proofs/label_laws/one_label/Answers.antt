@@ -1,4 +1,4 @@
-use Rattle.turtle_reader.proofs.UnnamedLemmas.{one_label, labels_differ, label_is_new}
+use Rattle.turtle_reader.proofs.DocumentLemmas.{one_label, labels_differ, label_is_new}
 use Rattle.turtle_reader.proofs.label_laws.one_label.Goals as goal
 
 pub returns-clause-one : goal.returns-clause-one

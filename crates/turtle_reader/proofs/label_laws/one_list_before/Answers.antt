@@ -1,4 +1,4 @@
-use Rattle.turtle_reader.proofs.BeforeLemmas.{one_list_before}
+use Rattle.turtle_reader.proofs.DocumentLemmas.{one_list_before}
 use Rattle.turtle_reader.proofs.label_laws.one_list_before.Goals as goal
 
 pub returns : goal.returns

@@ -1,6 +1,6 @@
 use Rattle.std.specs.BTreeSet.{contains}
 use Rattle.std.specs.Ordering.{nat_cmp}
-use Rattle.turtle_reader.proofs.UnnamedLemmas.{numbers_more}
+use Rattle.turtle_reader.proofs.DocumentLemmas.{numbers_more}
 use Rattle.turtle_reader.proofs.label_numbers.insert_one.Goals as goal
 
 pub returns : goal.returns

@@ -3,7 +3,7 @@ use Rattle.std.specs.BTreeSet.{contains}
 use Rattle.std.specs.Ordering.{nat_cmp}
 use Rattle.turtle_lex.specs.Tokens.{IsNext}
 use Rattle.turtle_reader.specs.Taken.{HasEnd}
-use Rattle.turtle_reader.proofs.BeforeLemmas.{read_more, read_all}
+use Rattle.turtle_reader.proofs.DocumentLemmas.{read_more, read_all}
 use Rattle.turtle_reader.proofs.label_numbers.taken_numbers.Goals as goal
 
 pub loop-token-preserved : goal.loop-token-preserved

@@ -1,7 +1,7 @@
 use Rattle.std.proofs.Common.{◌≡◌, ◌-◌, length}
 use Rattle.std.specs.BTreeSet.{contains}
 use Rattle.std.specs.Ordering.{nat_cmp}
-use Rattle.turtle_reader.proofs.BeforeLemmas.{HasRead}
+use Rattle.turtle_reader.proofs.DocumentLemmas.{HasRead}
 use Rattle.turtle_reader.proofs.label_numbers.taken_numbers.Given as goal
 
 abbrev pub invariant-loop-token : goal.invariant-loop-token

@@ -1,14 +1,14 @@
-use Rattle.std.proofs.Common.{List, take, sym, subst, arith}
+use Rattle.std.proofs.Common.{List, [], take, refl, sym, subst, arith}
 use Rattle.std.proofs.lemmas.List.{take_more, take_all}
 use Rattle.turtle_grammar.specs.declared.production.Production.{Production}
 use Rattle.turtle_reader.specs.Walks.{KeepsAll}
-use Rattle.turtle_reader.proofs.Walking.{keeps_none, keeps_more}
+use Rattle.turtle_reader.proofs.Walking.{keeps_nothing, keeps_more}
 use Rattle.turtle_reader.proofs.text_walk.keep_all.Goals as goal
 
 pub loop-production-init : goal.loop-production-init
 loop-production-init g c = record {
   sound = c.requires;
-  kept = keeps_none g.L.Language.is_kept c.args.bytes.now c.args.reader.now c.args.kept.now;
+  kept = keeps_nothing g.L.Language.is_kept c.args.bytes.now c.args.reader.now [] c.args.kept.now (λ ms. refl);
 }
 
 pub loop-production-preserved : goal.loop-production-preserved

@@ -1,8 +1,9 @@
-use Rattle.std.proofs.Common.{[], ◌∷◌, OnOk, sym, subst}
+use Rattle.std.proofs.Common.{[], ◌∷◌, OnOk, refl, sym, subst}
 use Rattle.std.proofs.lemmas.Result.{on_ok_weaker}
 use Rattle.turtle_grammar.specs.declared.production.Production.{Production}
+use Rattle.turtle_reader.specs.Handed.{AreResolved}
 use Rattle.turtle_reader.specs.Walks.{KeepsAll}
-use Rattle.turtle_reader.proofs.Walking.{keeps_triple, keeps_prefix, keeps_base}
+use Rattle.turtle_reader.proofs.Walking.{keeps_triple, keeps_nothing}
 use Rattle.turtle_reader.proofs.text_walk.keep_one.Goals as goal
 
 pub returns-in_ok-triple-in-Triple-clause-kept : goal.returns-in_ok-triple-in-Triple-clause-kept
@@ -14,12 +15,10 @@ returns-in_ok-triple-in-Triple-clause-kept g c =
 
 pub returns-in-Prefix-clause-kept : goal.returns-in-Prefix-clause-kept
 returns-in-Prefix-clause-kept g c =
-    let bytes = c.args.bytes.now in let reader = c.args.reader.now in let old = c.args.kept.now in
-    subst (λ (p : Production). KeepsAll g.L.Language.is_kept bytes reader (p ∷ []) old old) (sym c.in-Prefix.is)
-    (keeps_prefix g.L.Language.is_kept bytes reader c.in-Prefix.name c.in-Prefix.iri old)
+    keeps_nothing g.L.Language.is_kept c.args.bytes.now c.args.reader.now (c.args.production.now ∷ []) c.args.kept.now
+    (λ ms. subst (λ (p : Production). AreResolved ms (p ∷ []) []) (sym c.in-Prefix.is) refl)
 
 pub returns-in-Base-clause-kept : goal.returns-in-Base-clause-kept
 returns-in-Base-clause-kept g c =
-    let bytes = c.args.bytes.now in let reader = c.args.reader.now in let old = c.args.kept.now in
-    subst (λ (p : Production). KeepsAll g.L.Language.is_kept bytes reader (p ∷ []) old old) (sym c.in-Base.is)
-    (keeps_base g.L.Language.is_kept bytes reader c.in-Base.iri old)
+    keeps_nothing g.L.Language.is_kept c.args.bytes.now c.args.reader.now (c.args.production.now ∷ []) c.args.kept.now
+    (λ ms. subst (λ (p : Production). AreResolved ms (p ∷ []) []) (sym c.in-Base.is) refl)

@@ -4,7 +4,7 @@ use Rattle.std.specs.List.{slice_get}
 use Rattle.std.proofs.lemmas.Option.{slice_get-get_or}
 use Rattle.std.proofs.lemmas.Result.{IfOk-weaker}
 use Rattle.turtle_reader.specs.Unnamed.{HasNumbersOf, IsUnnamedBeside}
-use Rattle.turtle_reader.proofs.UnnamedLemmas.{numbers_kept}
+use Rattle.turtle_reader.proofs.DocumentLemmas.{numbers_kept}
 use Rattle.turtle_reader.proofs.labels.Labels.label.Goals as goal
 
 pub invariant_of-self : goal.invariant_of-self
