@@ -2,5 +2,4 @@ pub mod PatternLemmas
 pub mod RuleLemmas
 pub mod VariableLemmas
 pub mod Meant
-pub mod OneSpelled
 pub mod OneAnswer

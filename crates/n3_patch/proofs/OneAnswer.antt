@@ -16,7 +16,7 @@ use Rattle.n3_patch.specs.Faults.{HasNoFault, HasOnlyPatch, HasSyntax, IsN3Fault
 use Rattle.n3_patch.specs.Rules.{IsFirstBroken, IsJudged, KeepsRules}
 use Rattle.n3_patch.specs.Size.{patch_size}
 use Rattle.n3_patch.specs.Spells.{PatchSpells}
-use Rattle.n3_patch.proofs.OneSpelled.{one_spelled}
+use Rattle.n3_patch.proofs.Meant.{one_spelled}
 use Rattle.n3_patch.proofs.RuleLemmas.{one_patch, one_rule, patch_breaks_none}
 
 abbrev Answer : Type 0
@@ -91,10 +91,8 @@ module _ (base bytes : List ℕ) (patch : RdfPatch) (h : PatchSpells base bytes 
   read_as = (h, no_fault NeverLarge Patch base bytes h.spells.productions h.spells.meanings h.spells.text shallow (nowhere_large Patch base bytes))
 
   only_memory : (f : N3Fault) → IsN3Fault base bytes f → f ≡ NoMemory
-  only_memory (Syntax at) is = absurd (one_answer base bytes (Ok patch) (Err (Syntax at)) read_as is)
-  only_memory (Constraint rule) is = absurd (one_answer base bytes (Ok patch) (Err (Constraint rule)) read_as is)
-  only_memory TooLarge is = absurd (one_answer base bytes (Ok patch) (Err TooLarge) read_as is)
   only_memory NoMemory is = refl
+  only_memory f is = absurd (one_answer base bytes (Ok patch) (Err f) read_as is)
 
 pub only : (base bytes : List ℕ) (r : Answer) → IfOk r (PatchSpells base bytes) → OnOk r (HasNoFault base bytes) → IfErr r (IsN3Fault base bytes)
     → HasOnlyPatch base bytes r

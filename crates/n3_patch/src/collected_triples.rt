@@ -55,10 +55,10 @@ fn node_of(
         Referent::Term(term) => Ok(PatchNode::Term(term)),
         Referent::Variable(name) => Ok(PatchNode::Variable(shared(alloc, names, name)?)),
         Referent::Formula(index) => Ok(PatchNode::Formula(index)),
-        Referent::Unnamed(number) => match labels.label(alloc, bytes, number) {
-            Ok(label) => Ok(PatchNode::Term(Term::Blank(label))),
-            Err(full) => Err(full),
-        },
+        Referent::Unnamed(number) => {
+            let label = labels.label(alloc, bytes, number)?;
+            Ok(PatchNode::Term(Term::Blank(label)))
+        }
     }
 }
 

@@ -1,16 +1,15 @@
 //! The patch of triples, or the first rule that they break.
 
-ghost use Rattle.std.specs.Prelude.{◌↔◌, IfOk, IfErr, IfSome, IfNone, IsTrue};
+ghost use Rattle.std.specs.Prelude.{◌≡◌, ◌<◌, ◌+◌, Some, IfOk, IfErr, OnOk};
 ghost use Rattle.graph_patch.specs.Patch.{IsBound};
-ghost use Rattle.n3_patch.specs.Parts.{IsPatchOf};
-ghost use Rattle.n3_patch.specs.Rules.{IsJudged, IsFaultOf};
-ghost use Rattle.n3_patch.specs.Progress.{BreaksLast, IsFaultFrom, IsKeptPatch, IsPatch};
-ghost use Rattle.n3_patch.specs.Progress.{KeepsLast, KeepsTests};
+ghost use Rattle.n3_patch.specs.Parts.{IsPatchOf, first_typing};
+ghost use Rattle.n3_patch.specs.Rules.{IsJudged, IsFaultOf, rank};
+ghost use Rattle.n3_patch.specs.Progress.{KeepsBelow};
 
 use crate::fault::{CONDITIONS_LIMIT, Judgement, PatchRule};
 use crate::free_variables::is_bound;
 use crate::patterns::part_patterns;
-use crate::rules::{broken_test, first_typing};
+use crate::rules::{first_typing, is_broken};
 use crate::size::is_too_large;
 use crate::triples::{PatchNode, PatchTriple};
 use crate::vocabulary::Part;
@@ -32,70 +31,67 @@ fn patch_of(alloc: Global, resource: &PatchNode, triples: &[PatchTriple]) -> Mem
     })
 }
 
-/// The first broken rule of those about the patterns, where `bound` is whether the patch is without
-/// free variables.
-fn broken_last(bound: bool, patch: &Patch) -> Option<PatchRule>
-    requires { IsTrue bound ↔ IsBound patch.now }
-    ensures broken { IfSome result (BreaksLast patch.now) }
-    ensures kept { IfNone result (KeepsLast patch.now) }
+/// Judges the triples of a patch by this rule, where they keep those before it.
+#[tactic(auto, using(crate::proofs::RuleLemmas::broken_first, crate::proofs::RuleLemmas::keep_more, crate::proofs::RuleLemmas::tested))]
+fn keep(rule: PatchRule, typing: &PatchTriple, triples: &[PatchTriple]) -> Result<(), Judgement>
+    requires tested { rank rule < 7 }
+    requires found { first_typing triples.now ≡ Some typing.now }
+    requires before { KeepsBelow triples.now (rank rule) }
+    ensures kept { OnOk result (KeepsBelow triples.now (rank rule + 1)) }
+    ensures fault { IfErr result (IsFaultOf triples.now) }
 {
-    if !bound {
-        Some(PatchRule::FreeVariable)
-    } else if patch.conditions.len() > CONDITIONS_LIMIT {
-        Some(PatchRule::TooManyConditions)
+    if is_broken(rule, &typing.subject, triples) {
+        Err(Judgement::Broken(rule))
     } else {
-        None
+        Ok(())
     }
 }
 
-/// Judges the patterns of a resource that keeps the rules that are tests, and returns its patch.
+/// Judges the triples of a patch by the rules up to `BlankNode`.
+fn keep_tests(typing: &PatchTriple, triples: &[PatchTriple]) -> Result<(), Judgement>
+    requires { first_typing triples.now ≡ Some typing.now }
+    ensures kept { OnOk result (KeepsBelow triples.now 7) }
+    ensures fault { IfErr result (IsFaultOf triples.now) }
+{
+    keep(PatchRule::NoPatch, typing, triples)?;
+    keep(PatchRule::ManyPatches, typing, triples)?;
+    keep(PatchRule::Repeated, typing, triples)?;
+    keep(PatchRule::NotFormula, typing, triples)?;
+    keep(PatchRule::Stray, typing, triples)?;
+    keep(PatchRule::Nested, typing, triples)?;
+    keep(PatchRule::BlankNode, typing, triples)
+}
+
+/// Judges the patterns and the size of triples that keep the rules up to `BlankNode`, and returns
+/// their patch.
+#[tactic(auto, using(crate::proofs::RuleLemmas::keep_all))]
 fn judge_patterns(
     alloc: Global,
-    resource: &PatchNode,
+    typing: &PatchTriple,
     triples: &[PatchTriple],
 ) -> Result<Patch, Judgement>
-    requires { KeepsTests resource.now triples.now }
-    ensures patch { IfOk result (IsKeptPatch resource.now triples.now) }
-    ensures bound { IfOk result IsBound }
-    ensures broken { IfErr result (IsFaultFrom resource.now triples.now) }
-{
-    match patch_of(alloc, resource, triples) {
-        Err(NoMemory) => Err(Judgement::NoMemory),
-        Ok(patch) => match is_bound(alloc, &patch) {
-            Err(NoMemory) => Err(Judgement::NoMemory),
-            Ok(bound) => match broken_last(bound, &patch) {
-                Some(rule) => Err(Judgement::Broken(rule)),
-                None => Ok(patch),
-            },
-        },
-    }
-}
-
-/// Judges a resource, and returns its patch or the first rule that is broken.
-fn judge_resource(
-    alloc: Global,
-    resource: &PatchNode,
-    triples: &[PatchTriple],
-) -> Result<Patch, Judgement>
-    ensures patch { IfOk result (IsKeptPatch resource.now triples.now) }
-    ensures bound { IfOk result IsBound }
-    ensures broken { IfErr result (IsFaultFrom resource.now triples.now) }
-{
-    match broken_test(resource, triples) {
-        Some(rule) => Err(Judgement::Broken(rule)),
-        None => judge_patterns(alloc, resource, triples),
-    }
-}
-
-/// Judges the triples by the rules, and returns their patch or the first rule that they break.
-fn judge_rules(alloc: Global, triples: &[PatchTriple]) -> Result<Patch, Judgement>
-    ensures patch { IfOk result (IsPatch triples.now) }
+    requires found { first_typing triples.now ≡ Some typing.now }
+    requires before { KeepsBelow triples.now 7 }
+    ensures patch { IfOk result (IsJudged triples.now) }
     ensures bound { IfOk result IsBound }
     ensures fault { IfErr result (IsFaultOf triples.now) }
 {
-    match first_typing(triples) {
-        None => Err(Judgement::Broken(PatchRule::NoPatch)),
-        Some(typing) => judge_resource(alloc, &typing.subject, triples),
+    match patch_of(alloc, &typing.subject, triples) {
+        Err(NoMemory) => Err(Judgement::NoMemory),
+        Ok(patch) => match is_bound(alloc, &patch) {
+            Err(NoMemory) => Err(Judgement::NoMemory),
+            Ok(bound) => {
+                if !bound {
+                    Err(Judgement::Broken(PatchRule::FreeVariable))
+                } else if patch.conditions.len() > CONDITIONS_LIMIT {
+                    Err(Judgement::Broken(PatchRule::TooManyConditions))
+                } else if is_too_large(triples) {
+                    Err(Judgement::TooLarge)
+                } else {
+                    Ok(patch)
+                }
+            }
+        },
     }
 }
 
@@ -107,14 +103,11 @@ pub fn judge(alloc: Global, triples: &[PatchTriple]) -> Result<Patch, Judgement>
     ensures bound { IfOk result IsBound }
     ensures fault { IfErr result (IsFaultOf triples.now) }
 {
-    match judge_rules(alloc, triples) {
+    let Some(typing) = first_typing(triples) else {
+        return Err(Judgement::Broken(PatchRule::NoPatch));
+    };
+    match keep_tests(typing, triples) {
         Err(fault) => Err(fault),
-        Ok(patch) => {
-            if is_too_large(triples) {
-                Err(Judgement::TooLarge)
-            } else {
-                Ok(patch)
-            }
-        }
+        Ok(()) => judge_patterns(alloc, typing, triples),
     }
 }

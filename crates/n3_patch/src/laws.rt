@@ -10,6 +10,7 @@ ghost use Rattle.n3_patch.specs.Answers.{HasOneAnswer};
 
 /// The law that a patch document's triples have at most one patch, or at most one rule that they
 /// break first.
+#[tactic(auto, using(crate::proofs::RuleLemmas::one_patch, crate::proofs::RuleLemmas::one_rule, crate::proofs::RuleLemmas::patch_breaks_none))]
 pub fn one_judgement()
     ensures patch { HasOnePatch }
     ensures rule { HasOneRule }
@@ -28,6 +29,7 @@ pub fn first_fault()
 {}
 
 /// The law that a patch document is read as one patch, or has one fault beside out of memory.
+#[tactic(auto, using(crate::proofs::OneAnswer::one_answer))]
 pub fn one_answer()
     ensures { HasOneAnswer }
 {}

@@ -1,14 +1,12 @@
 //! [`PatternRef`]: a triple by reference, in the order of its pattern.
 
-ghost use Rattle.std.specs.Prelude.{◌≡◌, ◌∷◌, ℕ, List};
+ghost use Rattle.std.specs.Prelude.{◌≡◌};
 ghost use Rattle.std.proofs.Common.{rules};
 ghost use Rattle.std.specs.Cmp.{eq_by_cmp_equiv, partial_order_from_total, partial_equiv_from_equiv};
 ghost use Rattle.std.specs.Cmp.Rules.{comparing};
 ghost use Rattle.std.specs.Ordering.{as_partial_cmp, eq_by_cmp};
-ghost use Rattle.rdf_graph.specs.Term.{text};
 ghost use Rattle.graph_patch.specs.PatternOrder.{pattern_cmp, slot_cmp};
 ghost use Rattle.graph_patch.specs.PatternOrderLaws.{pattern_cmp_total};
-ghost use Rattle.rdf_graph.specs.Triple.{bytes_cmp};
 ghost use Rattle.graph_patch.specs.declared.pattern.Slot.TheVariants.{Fixed, Var};
 ghost use Rattle.n3_patch.specs.Progress.{slot_like};
 
@@ -89,47 +87,32 @@ fn cmp_nodes(node: &PatchNode, other: &PatchNode) -> Ordering
     }
 }
 
-/// Compares a term with a node of a pattern reference by their slots.
-#[tactic(auto, unfolding(graph_patch::specs::PatternOrder::slot_cmp, rdf_graph::specs::TermOrder::term_cmp))]
+/// Compares a term with a node of a pattern reference by their slots, where a variable's text begins
+/// with `?`.
+#[tactic(auto, unfolding(graph_patch::specs::PatternOrder::slot_cmp, rdf_graph::specs::TermOrder::term_cmp, rdf_graph::specs::Term::text))]
 fn cmp_term(term: &Term, other: &PatchNode) -> Ordering
     ensures { result ≡ slot_cmp (Fixed term.now) (slot_like other.now) }
 {
     match other {
         PatchNode::Term(other) => term.cmp(other),
-        _ => cmp_to_variable(term),
+        _ => match term {
+            Term::Blank(_) => Ordering::Greater,
+            _ => Ordering::Less,
+        },
     }
 }
 
 /// Compares a variable with a node of a pattern reference by their slots.
-#[tactic(auto, unfolding(graph_patch::specs::PatternOrder::slot_cmp))]
+#[tactic(auto, unfolding(graph_patch::specs::PatternOrder::slot_cmp, rdf_graph::specs::Term::text))]
 fn cmp_variable(name: &str, other: &PatchNode) -> Ordering
     ensures { result ≡ slot_cmp (Var name.now) (slot_like other.now) }
 {
     match other {
-        PatchNode::Term(term) => cmp_with_variable(term),
+        PatchNode::Term(term) => match term {
+            Term::Blank(_) => Ordering::Less,
+            _ => Ordering::Greater,
+        },
         PatchNode::Variable(other) => name.as_bytes().cmp(other.as_str().as_bytes()),
         PatchNode::Formula(_) => name.as_bytes().cmp("".as_bytes()),
-    }
-}
-
-/// How a variable's text in a pattern reference, which begins with `?`, compares with a term's.
-#[tactic(auto, unfolding(rdf_graph::specs::Term::text))]
-fn cmp_with_variable(term: &Term) -> Ordering
-    ensures { (name : List ℕ) → result ≡ bytes_cmp (63 ∷ name) (text term.now) }
-{
-    match term {
-        Term::Blank(_) => Ordering::Less,
-        _ => Ordering::Greater,
-    }
-}
-
-/// How a term's text in a pattern reference compares with a variable's, which begins with `?`.
-#[tactic(auto, unfolding(rdf_graph::specs::Term::text))]
-fn cmp_to_variable(term: &Term) -> Ordering
-    ensures { (name : List ℕ) → result ≡ bytes_cmp (text term.now) (63 ∷ name) }
-{
-    match term {
-        Term::Blank(_) => Ordering::Greater,
-        _ => Ordering::Less,
     }
 }

@@ -20,6 +20,7 @@ use turtle_reader::walk;
 use turtle_terms::TurtleFault;
 
 /// Reads the triples of a patch document, in order of production.
+#[tactic(auto, using(crate::proofs::Meant::spells_kept))]
 fn read_triples(alloc: Global, base: &Iri, bytes: &[u8]) -> Result<List<PatchTriple>, TurtleFault>
     ensures spells { IfOk result (λ list. SpellsTriples base.now bytes.now list.items) }
     ensures sound { OnOk result (HasNoFault base.now bytes.now) }
@@ -27,10 +28,8 @@ fn read_triples(alloc: Global, base: &Iri, bytes: &[u8]) -> Result<List<PatchTri
         → IsFirstSyntaxFault start_of.Patch base.now bytes.now fault) }
 {
     let mut made = Made::new(alloc);
-    match walk(alloc, base, bytes, &mut made) {
-        Ok(()) => Ok(made.list),
-        Err(fault) => Err(fault),
-    }
+    walk(alloc, base, bytes, &mut made)?;
+    Ok(made.list)
 }
 
 /// A fault of syntax in a patch document as it is reported: by its position alone.
@@ -69,6 +68,7 @@ fn read_patch(alloc: Global, base: &Iri, bytes: &[u8]) -> Result<Patch, N3Fault>
 /// `Syntax` with the position of the first fault of syntax, by the position and then in the order
 /// of `turtle_terms::TurtleKind`; else `Constraint` with the first rule that is broken; else
 /// `TooLarge`. There is one exactly where the bytes parse to no patch, or brackets are too deep.
+#[tactic(auto, using(crate::proofs::OneAnswer::only))]
 pub fn read(alloc: Global, base: &Iri, bytes: &[u8]) -> Result<Patch, N3Fault>
     ensures spells { IfOk result (PatchSpells base.now bytes.now) }
     ensures sound { OnOk result (HasNoFault base.now bytes.now) }

@@ -1,9 +1,9 @@
 //! The triples of a patch document.
 
 ghost use Rattle.std.specs.Prelude.{◌≡◌, IfOk};
-ghost use Rattle.n3_patch.specs.Nodes.{node_eq, is_iri, is_iri_term, is_formula, is_blank};
-ghost use Rattle.n3_patch.specs.Nodes.{is_blank_term, slot_of, pattern_from, pattern_of};
-ghost use Rattle.n3_patch.specs.Parts.{is_inside, is_outside};
+ghost use Rattle.n3_patch.specs.Nodes.{node_eq, is_iri, is_formula, is_blank, slot_of};
+ghost use Rattle.n3_patch.specs.Nodes.{pattern_from, pattern_of};
+ghost use Rattle.n3_patch.specs.Parts.{is_inside};
 
 use graph_patch::{Pattern, Slot};
 use pod_base::{Mem, Text};
@@ -30,30 +30,16 @@ pub struct PatchTriple {
     pub formula: Option<usize>,
 }
 
-/// Whether the term of a patch document's triple is this IRI.
-fn is_iri_term(term: &Term, iri: &str) -> bool
-    ensures { result ≡ is_iri_term iri.now term.now }
-{
-    match term {
-        Term::Iri(other) => other.as_str() == iri,
-        _ => false,
-    }
-}
-
-/// Whether the term of a patch document's triple is a blank node.
-fn is_blank_term(term: &Term) -> bool
-    ensures { result ≡ is_blank_term term.now }
-{
-    matches!(term, Term::Blank(_))
-}
-
 impl PatchNode {
     /// Whether the node of a patch document's triple is this IRI.
     pub(crate) fn is_iri(&self, iri: &str) -> bool
         ensures { result ≡ is_iri iri.now self.now }
     {
         match self {
-            PatchNode::Term(term) => is_iri_term(term, iri),
+            PatchNode::Term(term) => match term {
+                Term::Iri(other) => other.as_str() == iri,
+                _ => false,
+            },
             _ => false,
         }
     }
@@ -70,7 +56,7 @@ impl PatchNode {
         ensures { result ≡ is_blank self.now }
     {
         match self {
-            PatchNode::Term(term) => is_blank_term(term),
+            PatchNode::Term(term) => matches!(term, Term::Blank(_)),
             _ => false,
         }
     }
@@ -111,10 +97,10 @@ impl PatchNode {
 fn pattern_from(s: Option<Slot>, p: Option<Slot>, o: Option<Slot>) -> Option<Pattern>
     ensures { result ≡ pattern_from s p o }
 {
-    match (s, p, o) {
-        (Some(s), Some(p), Some(o)) => Some(Pattern { s, p, o }),
-        _ => None,
-    }
+    let s = s?;
+    let p = p?;
+    let o = o?;
+    Some(Pattern { s, p, o })
 }
 
 impl PatchTriple {
@@ -123,13 +109,6 @@ impl PatchTriple {
         ensures { result ≡ is_inside self.now }
     {
         self.formula.is_some()
-    }
-
-    /// Whether the triple is outside formulas.
-    pub(crate) fn is_outside(&self) -> bool
-        ensures { result ≡ is_outside self.now }
-    {
-        !self.is_inside()
     }
 
     /// The triple's pattern, if no node is a formula.

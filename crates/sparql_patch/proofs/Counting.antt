@@ -1,6 +1,6 @@
 -- What is collected of triples, one more at a time.
 use Rattle.std.proofs.Common.{◌≡◌, ℕ, ◌+◌, ◌<◌, ◌≤◌, ◌-◌, ◌^◌, min, sum, map, Bool, true, false, ◌||◌, List, [], ◌∷◌, ◌++◌, Some, None, Result, Ok, Err, OnOk}
-use Rattle.std.proofs.Common.{refl, sym, ap, ◌∙◌, arith}
+use Rattle.std.proofs.Common.{sym, ap, ◌∙◌, arith}
 use Rattle.std.proofs.lemmas.Bool.{false≢true}
 use Rattle.std.proofs.Math.Bool.{or-false, or-true}
 use Rattle.std.proofs.lemmas.List.{map-append}
@@ -17,7 +17,7 @@ use Rattle.sparql_patch.specs.UpdateSpells.{named_size}
 
 -- The saturated size beside the limit
 
-nothing : 0 ≡ saturated 0
+pub nothing : 0 ≡ saturated 0
 unfolding saturated
 nothing = omega arith
 
@@ -41,12 +41,6 @@ on_ok_both (Ok x) f p q = f p q
 on_ok_both (Err e) f p q = tt
 
 -- One naming more
-
-pub empty_collected : (c : Collected) → c.has_blank ≡ false → c.size ≡ 0 → c.named.items ≡ [] → IsCollected [] c
-empty_collected c blank size named = record {
-  blank = blank;
-  named = λ no. record { all = []; are_named = refl; counted = record { size_is = size ∙ nothing; kept = λ fits. named } };
-}
 
 -- past the limit
 pub counted_over : (all : List Named) (n : Named) (c : Collected) → c.size ≡ saturated (named_size all + triple_size n.triple) → TRIPLES_LIMIT < c.size

@@ -2,5 +2,4 @@ pub mod TripleLemmas
 pub mod NamedLemmas
 pub mod Namings
 pub mod Counting
-pub mod OneNamed
 pub mod OneAnswer

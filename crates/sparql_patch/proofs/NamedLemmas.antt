@@ -1,6 +1,8 @@
 -- The last namings of triples.
-use Rattle.std.proofs.Common.{◌≡◌, inl, inr, ◌&&◌, ◌||◌, ℕ, Bool, true, false, not, List, [], ◌∷◌, ◌++◌, map, Some, None, if◌then◌else◌, refl, sym, ap, ◌∙◌, subst, append-nil}
+use Rattle.std.proofs.Common.{◌≡◌, inl, inr, ◌&&◌, ◌||◌, ℕ, Bool, true, false, not, List, [], ◌∷◌, ◌++◌, map, Option, Some, None, if◌then◌else◌, refl, sym, ap, ◌∙◌, subst, append-nil}
+use Rattle.std.specs.Bool.{Decides}
 use Rattle.std.specs.List.{AllByRecursion, Contains, IsDistinct, filter}
+use Rattle.std.proofs.Math.Bool.{or-true}
 use Rattle.std.proofs.lemmas.Bool.{and_parts, and_from, false≢true, not-true, not_from_false}
 use Rattle.std.proofs.lemmas.List.Elements.{Contains-append_left, Contains-append_right, Contains-append_cases}
 use Rattle.std.proofs.lemmas.Map.Keys.{IsDistinct-head, IsDistinct-tail, IsDistinct-push}
@@ -15,79 +17,70 @@ use Rattle.sparql_patch.specs.Laws.{LastNamingDecides, DeletionsAreInGraph, Each
 use Rattle.sparql_patch.specs.NamedUpdate.{triple_eq, has_triple, has_word, if_last, is_named, last_named, last_word, pattern_of, IsSpelledAt}
 use Rattle.sparql_patch.proofs.TripleLemmas.{triple_eq_decides, triple_eq_laws, has_triple_decides}
 
-same_word : (insert : Bool) (x : Named) → has_word insert x ≡ true → x.insert ≡ insert
-same_word true x e = e
-same_word false x e = not-true x.insert e
-
-word_of : (insert : Bool) (x : Named) → x.insert ≡ insert → has_word insert x ≡ true
-word_of true x e = e
-word_of false x e = not_from_false x.insert e
+has_word_decides : (insert : Bool) (x : Named) → Decides (has_word insert x) (x.insert ≡ insert)
+has_word_decides true x = (λ e. e, λ e. e)
+has_word_decides false x = (not-true x.insert, not_from_false x.insert)
 
 -- what `if_last` lists
 module _ (insert : Bool) (x : Named) (others : List Named) where
-  pub listed_last : has_word insert x ≡ true → is_named others x.triple ≡ false → if_last insert x others ≡ x.triple ∷ []
-  listed_last word free = ap (λ b. if b then x.triple ∷ [] else []) (and_from _ _ word (not_from_false _ free))
-
-  pub unlisted : (has_word insert x && not (is_named others x.triple)) ≡ false → if_last insert x others ≡ []
-  unlisted e = ap (λ b. if b then x.triple ∷ [] else []) e
+  listed_here : has_word insert x ≡ true → is_named others x.triple ≡ false → Contains (last_named insert (x ∷ others)) x.triple
+  listed_here word free = Contains-append_right (last_named insert others) (if_last insert x others) x.triple
+      (subst (λ (ts : List Triple). Contains ts x.triple) (sym (ap (λ b. if b then x.triple ∷ [] else []) (and_from _ _ word (not_from_false _ free))))
+      (contains_here x.triple []))
 
   -- by the test
-  pub if_last-cases : (P : List Triple → Type 0) → (has_word insert x ≡ true → is_named others x.triple ≡ false → P (x.triple ∷ [])) → P [] → P (if_last insert x others)
+  if_last-cases : (P : List Triple → Type 0) → (has_word insert x ≡ true → is_named others x.triple ≡ false → P (x.triple ∷ [])) → P [] → P (if_last insert x others)
   if_last-cases P listed none = by_test (has_word insert x && not (is_named others x.triple)) refl where
     by_test : (b : Bool) → (has_word insert x && not (is_named others x.triple)) ≡ b → P (if b then x.triple ∷ [] else [])
     by_test true e = let parts = and_parts _ _ e in listed parts.0 (not-true _ parts.1)
     by_test false e = none
 
--- the word of what others name
-word_of_named : (x : Named) (xs : List Named) (t : Triple) → is_named xs t ≡ true → last_word (x ∷ xs) t ≡ last_word xs t
-word_of_named x xs t e = ap (λ b. if b then last_word xs t else if triple_eq t x.triple then Some x.insert else None) e
+-- the last word of a triple
+module _ (x : Named) (xs : List Named) (t : Triple) where
+  word_later : is_named xs t ≡ true → last_word (x ∷ xs) t ≡ last_word xs t
+  word_later e = ap (λ b. if b then last_word xs t else if triple_eq t x.triple then Some x.insert else None) e
 
-word_of_unnamed : (x : Named) (xs : List Named) (t : Triple) → is_named xs t ≡ false
-    → last_word (x ∷ xs) t ≡ (if triple_eq t x.triple then Some x.insert else None)
-word_of_unnamed x xs t e = ap (λ b. if b then last_word xs t else if triple_eq t x.triple then Some x.insert else None) e
+  word_here : is_named xs t ≡ false → t ≡ x.triple → last_word (x ∷ xs) t ≡ Some x.insert
+  word_here free same =
+      ap (λ b. if b then last_word xs t else if triple_eq t x.triple then Some x.insert else None) free
+      ∙ ap (λ b. if b then Some x.insert else None) ((triple_eq_decides t x.triple).1 same)
 
-some_if : (b insert : Bool) (i : Bool) → (if b then Some i else None) ≡ Some insert → (b ≡ true) × (i ≡ insert)
-some_if true insert i e = (refl, cc)
-some_if false insert i e = cc
+  -- by the tests
+  word_cases : (P : Option Bool → Type 0) → (is_named xs t ≡ true → P (last_word xs t)) → (is_named xs t ≡ false → t ≡ x.triple → P (Some x.insert)) → P None
+      → P (last_word (x ∷ xs) t)
+  word_cases P later here none = by_test (is_named xs t) (triple_eq t x.triple) refl refl where
+    by_test : (b c : Bool) → is_named xs t ≡ b → triple_eq t x.triple ≡ c → P (if b then last_word xs t else if c then Some x.insert else None)
+    by_test true c e f = later e
+    by_test false true e f = here e ((triple_eq_decides t x.triple).0 f)
+    by_test false false e f = none
 
 -- a triple with a last word is named
-pub named_if_word : (named : List Named) (t : Triple) (insert : Bool) → last_word named t ≡ Some insert → is_named named t ≡ true
+named_if_word : (named : List Named) (t : Triple) (insert : Bool) → last_word named t ≡ Some insert → is_named named t ≡ true
 named_if_word [] t insert e = cc
-named_if_word (x ∷ xs) t insert e = by_test (triple_eq t x.triple) refl where
-  by_rest : (b : Bool) → is_named xs t ≡ b → triple_eq t x.triple ≡ false → is_named xs t ≡ true
-  by_rest true named other = named
-  by_rest false free other =
-      absurd (false≢true (sym other ∙ (some_if (triple_eq t x.triple) insert x.insert (sym (word_of_unnamed x xs t free) ∙ e)).0))
+named_if_word (x ∷ xs) t insert e = word_cases x xs t (λ o. o ≡ Some insert → (triple_eq t x.triple || is_named xs t) ≡ true)
+    (λ named _. ap (λ b. triple_eq t x.triple || b) named ∙ or-true (triple_eq t x.triple))
+    (λ _ same _. ap (λ b. b || is_named xs t) ((triple_eq_decides t x.triple).1 same)) (λ none. cc) e
 
-  by_test : (b : Bool) → triple_eq t x.triple ≡ b → (b || is_named xs t) ≡ true
-  by_test true same = refl
-  by_test false other = by_rest (is_named xs t) refl other
+single : (u t : Triple) → Contains (u ∷ []) t → u ≡ t
+single u t h = elim (contains_cases u [] t h) [ inl e ↦ e | inr none ↦ absurd (contains_none t none) ]
 
 -- a listed triple has that last word, and back
 module _ (insert : Bool) (t : Triple) where
-  pub word_of_listed : (named : List Named) → Contains (last_named insert named) t → last_word named t ≡ Some insert
+  word_of_listed : (named : List Named) → Contains (last_named insert named) t → last_word named t ≡ Some insert
   word_of_listed [] h = absurd (contains_none t h)
   word_of_listed (x ∷ xs) h = elim (Contains-append_cases (last_named insert xs) (if_last insert x xs) t h) [
-    | inl before ↦ let word = word_of_listed xs before in word_of_named x xs t (named_if_word xs t insert word) ∙ word
+    | inl before ↦ let word = word_of_listed xs before in word_later x xs t (named_if_word xs t insert word) ∙ word
     | inr here ↦ if_last-cases insert x xs (λ ts. Contains ts t → last_word (x ∷ xs) t ≡ Some insert) (λ word free h.
-        let same : x.triple ≡ t = only x.triple t h in
-        word_of_unnamed x xs t (subst (λ (u : Triple). is_named xs u ≡ false) same free)
-        ∙ ap (λ b. if b then Some x.insert else None) ((triple_eq_decides t x.triple).1 (sym same)) ∙ ap Some (same_word insert x word)) (λ h. absurd (contains_none t h)) here
-  ] where
-    only : (u t : Triple) → Contains (u ∷ []) t → u ≡ t
-    only u t h = elim (contains_cases u [] t h) [ inl e ↦ e | inr none ↦ absurd (contains_none t none) ]
+        let same = single x.triple t h in
+        word_here x xs t (subst (λ (u : Triple). is_named xs u ≡ false) same free) (sym same) ∙ ap Some ((has_word_decides insert x).0 word)) (λ h. absurd (contains_none t h)) here
+  ]
 
-  pub listed_by_word : (named : List Named) → last_word named t ≡ Some insert → Contains (last_named insert named) t
+  listed_by_word : (named : List Named) → last_word named t ≡ Some insert → Contains (last_named insert named) t
   listed_by_word [] e = cc
-  listed_by_word (x ∷ xs) e = by_test (λ before. listed_by_word xs before) (is_named xs t) refl where
-    by_test : (last_word xs t ≡ Some insert → Contains (last_named insert xs) t) → (b : Bool) → is_named xs t ≡ b → Contains (last_named insert (x ∷ xs)) t
-    by_test before true named = Contains-append_left (last_named insert xs) (if_last insert x xs) t (before (sym (word_of_named x xs t named) ∙ e))
-    by_test before false free =
-        let parts = some_if (triple_eq t x.triple) insert x.insert (sym (word_of_unnamed x xs t free) ∙ e) in
-        let same : t ≡ x.triple = (triple_eq_decides t x.triple).0 parts.0 in
-        let listed = listed_last insert x xs (word_of insert x parts.1) (subst (λ (u : Triple). is_named xs u ≡ false) same free) in
-        Contains-append_right (last_named insert xs) (if_last insert x xs) t
-        (subst (λ (ts : List Triple). Contains ts t) (sym listed) (subst (λ (u : Triple). Contains (x.triple ∷ []) u) (sym same) (contains_here x.triple [])))
+  listed_by_word (x ∷ xs) e = word_cases x xs t (λ o. o ≡ Some insert → Contains (last_named insert (x ∷ xs)) t)
+      (λ _ before. Contains-append_left (last_named insert xs) (if_last insert x xs) t (listed_by_word xs before))
+      (λ free same here. let word : x.insert ≡ insert = cc in subst (λ (u : Triple). Contains (last_named insert (x ∷ xs)) u) (sym same)
+      (listed_here insert x xs ((has_word_decides insert x).1 word) (subst (λ (u : Triple). is_named xs u ≡ false) same free))) (λ none. cc) e
 
 pub last_naming_decides : LastNamingDecides
 last_naming_decides named insert t = (word_of_listed insert t named, listed_by_word insert t named)
@@ -120,13 +113,9 @@ named_so insert t [] h = absurd (contains_none t h)
 named_so insert t (x ∷ xs) h = elim (Contains-append_cases (last_named insert xs) (if_last insert x xs) t h) [
   | inl before ↦ contains_there x xs (naming t insert) (named_so insert t xs before)
   | inr here ↦ if_last-cases insert x xs (λ ts. Contains ts t → Contains (x ∷ xs) (naming t insert)) (λ word free h.
-      elim (contains_cases x.triple [] t h) [
-        | inl same ↦ subst (λ (y : Named). Contains (x ∷ xs) y) (is_naming x t insert same (same_word insert x word)) (contains_here x xs)
-        | inr none ↦ absurd (contains_none t none)
-      ]) (λ h. absurd (contains_none t h)) here
-] where
-  is_naming : (x : Named) (t : Triple) (insert : Bool) → x.triple ≡ t → x.insert ≡ insert → x ≡ naming t insert
-  is_naming x t insert a b = ap (λ u. naming u x.insert) a ∙ ap (naming t) b
+      let same = single x.triple t h in let with_word = (has_word_decides insert x).0 word in let is : naming x.triple x.insert ≡ naming t insert = cc in
+      subst (λ (y : Named). Contains (x ∷ xs) y) is (contains_here x xs)) (λ h. absurd (contains_none t h)) here
+]
 
 unnamed : (t : Triple) (xs : List Named) → AllByRecursion (λ (y : Named). triple_eq t y.triple ≡ false) xs → is_named xs t ≡ false
 unnamed t [] h = refl
@@ -136,12 +125,9 @@ listed_so : (insert : Bool) (t : Triple) (named : List Named) → IsDistinct (λ
     → Contains named (naming t insert) → Contains (last_named insert named) t
 listed_so insert t [] distinct h = absurd (contains_none (naming t insert) h)
 listed_so insert t (x ∷ xs) distinct h = elim (contains_cases x xs (naming t insert) h) [
-  | inl same ↦
-      let triple : x.triple ≡ t = ap (λ (y : Named). y.triple) same in
-      let listed = listed_last insert x xs (word_of insert x (ap (λ (y : Named). y.insert) same))
-      (unnamed x.triple xs (IsDistinct-head (λ (a b : Named). triple_eq a.triple b.triple) x xs distinct)) in
-      Contains-append_right (last_named insert xs) (if_last insert x xs) t
-      (subst (λ (ts : List Triple). Contains ts t) (sym listed) (subst (λ (u : Triple). Contains (x.triple ∷ []) u) triple (contains_here x.triple [])))
+  | inl same ↦ subst (λ (u : Triple). Contains (last_named insert (x ∷ xs)) u) (ap (λ (y : Named). y.triple) same)
+      (listed_here insert x xs ((has_word_decides insert x).1 (ap (λ (y : Named). y.insert) same))
+      (unnamed x.triple xs (IsDistinct-head (λ (a b : Named). triple_eq a.triple b.triple) x xs distinct)))
   | inr there ↦ Contains-append_left (last_named insert xs) (if_last insert x xs) t
       (listed_so insert t xs (IsDistinct-tail (λ (a b : Named). triple_eq a.triple b.triple) x xs distinct) there)
 ]
@@ -157,10 +143,7 @@ no_variable (t ∷ ts) name pattern h v = elim (contains_cases (pattern_of t) (m
   | inr there ↦ no_variable ts name pattern there v
 ] where
   fixed : (t : Triple) (name : List ℕ) → HasVariable (pattern_of t) name → ⊥
-  fixed t name v = elim v [
-    | inl s ↦ cc
-    | inr v ↦ elim v [ inl p ↦ cc | inr o ↦ cc ]
-  ]
+  fixed t name v = elim v [ inl s ↦ cc | inr (inl p) ↦ cc | inr (inr o) ↦ cc ]
 
 pub spelled_bound : (g : List Triple) (named : List Named) (patch : Patch) → IsSpelledAt g named patch → IsBound patch
 spelled_bound g named patch h name v = elim v [

@@ -1,10 +1,10 @@
 -- The naming of the nodes of a triple, by what they refer to.
-use Rattle.std.proofs.Common.{◌≡◌, Bool, not, ◌||◌, List, [], ◌∷◌, Option, Some, None, is_some, sym, ap, ◌∙◌, subst}
+use Rattle.std.proofs.Common.{◌≡◌, ℕ, Bool, false, not, ◌||◌, List, [], ◌∷◌, Option, Some, None, is_some, sym, ap, ◌∙◌, subst}
 use Rattle.rdf_graph.specs.declared.term.Term.{Term}
-use Rattle.rdf_graph.specs.declared.triple.Triple.{Triple as RdfTriple}
 use Rattle.turtle_grammar.specs.declared.production.SymbolicTriple.{SymbolicTriple}
 use Rattle.turtle_grammar.specs.declared.production.Production.{Production}
 use Rattle.turtle_grammar.specs.declared.production.Production.TheVariants.{Prefix, Base, Triple}
+use Rattle.turtle_grammar.specs.declared.symbol.Start.TheVariants.{Update}
 use Rattle.turtle_reader.specs.declared.meaning.Meaning.{Meaning}
 use Rattle.turtle_reader.specs.declared.referent.Referent.{Referent}
 use Rattle.turtle_reader.specs.declared.referent.Referent.TheVariants as referent_of
@@ -12,29 +12,24 @@ use Rattle.turtle_reader.specs.declared.referent.ResolvedTriple.{ResolvedTriple}
 use Rattle.turtle_reader.specs.Handed.{AreEach, AreResolved}
 use Rattle.turtle_reader.specs.Referents.{referent, IsResolved}
 use Rattle.turtle_reader.proofs.Handing.{made_each, one_made}
+use Rattle.turtle_reader.proofs.OneText.{one_text}
 use Rattle.sparql_patch.specs.declared.named.Named.{Named}
-use Rattle.sparql_patch.specs.Reading.{IsTermOrBlank, triple_from, IsNaming, IsNamingOrBlank, blank_in, any_blank}
-use Rattle.sparql_patch.specs.UpdateSpells.{is_blank_referent, has_blank_node, has_blank, is_insert, IsNamingOf, AreNamingsOf}
+use Rattle.sparql_patch.specs.Laws.{HasOneNaming}
+use Rattle.sparql_patch.specs.Reading.{IsTermOrBlank, naming_from, IsNaming, IsNamingOrBlank, blank_in, any_blank}
+use Rattle.sparql_patch.specs.UpdateSpells.{is_blank_referent, has_blank_node, has_blank, is_insert, AreNamingsOf, IsNamingOf, IsUpdate, Names}
 
 abbrev got : Referent → Option Referent
 got r = Some r
 
 -- The naming of referents
 
-abbrev pub named_as : Bool → Option RdfTriple → Option Named
-named_as insert (Some t) = Some (record { triple = t; insert = insert })
-named_as insert None = None
-
 module _ (r : ResolvedTriple) (insert : Bool) (word : insert ≡ is_insert r.within) where
   blank_by : (s p o : Option Term) → IsTermOrBlank r.subject s → IsTermOrBlank r.predicate p → IsTermOrBlank r.object o
       → blank_in r ≡ (not (is_some s) || (not (is_some p) || not (is_some o)))
-  blank_by s p o h k l =
-      ap (λ (x : Bool). x || (is_blank_referent (got r.predicate) || is_blank_referent (got r.object))) h.blank
-      ∙ ap (λ (x : Bool). not (is_some s) || (x || is_blank_referent (got r.object))) k.blank
-      ∙ ap (λ (x : Bool). not (is_some s) || (not (is_some p) || x)) l.blank
+  blank_by s p o h k l = cc
 
-  named_from : (s p o : Option Term) → IsTermOrBlank r.subject s → IsTermOrBlank r.predicate p → IsTermOrBlank r.object o
-      → IsNamingOrBlank r (named_as insert (triple_from s p o))
+  pub named_from : (s p o : Option Term) → IsTermOrBlank r.subject s → IsTermOrBlank r.predicate p → IsTermOrBlank r.object o
+      → IsNamingOrBlank r (naming_from s p o insert)
   named_from (Some a) (Some b) (Some c) h k l = record {
     blank = blank_by (Some a) (Some b) (Some c) h k l;
     is_naming = record { subject = h.is_term; predicate = k.is_term; object = l.is_term; word = word };
@@ -42,10 +37,6 @@ module _ (r : ResolvedTriple) (insert : Bool) (word : insert ≡ is_insert r.wit
   named_from None p o h k l = record { blank = blank_by None p o h k l; is_naming = tt }
   named_from (Some a) None o h k l = record { blank = blank_by (Some a) None o h k l; is_naming = tt }
   named_from (Some a) (Some b) None h k l = record { blank = blank_by (Some a) (Some b) None h k l; is_naming = tt }
-
-  pub named_by : (s p o : Option Term) (t : Option RdfTriple) → IsTermOrBlank r.subject s → IsTermOrBlank r.predicate p → IsTermOrBlank r.object o
-      → triple_from s p o ≡ t → IsNamingOrBlank r (named_as insert t)
-  named_by s p o t h k l e = subst (λ (z : Option RdfTriple). IsNamingOrBlank r (named_as insert z)) e (named_from s p o h k l)
 
 -- The naming of nodes
 
@@ -62,10 +53,7 @@ module _ (ms : List Meaning) where
   namings_are ps rs ns h k = made_each (IsResolved ms) IsNaming (IsNamingOf ms) naming_is ps rs ns h k
 
   blank_of : (s : SymbolicTriple) (r : ResolvedTriple) → IsResolved ms s r → has_blank_node ms s ≡ blank_in r
-  blank_of s r h =
-      ap (λ (z : Option Referent). is_blank_referent z || (is_blank_referent (referent ms s.predicate) || is_blank_referent (referent ms s.object))) h.subject
-      ∙ ap (λ (z : Option Referent). is_blank_referent (got r.subject) || (is_blank_referent z || is_blank_referent (referent ms s.object))) h.predicate
-      ∙ ap (λ (z : Option Referent). is_blank_referent (got r.subject) || (is_blank_referent (got r.predicate) || is_blank_referent z)) h.object
+  blank_of s r h = cc
 
   pub blank_is : (ps : List Production) (rs : List ResolvedTriple) → AreResolved ms ps rs → has_blank ms ps ≡ any_blank rs
   blank_is [] rs h = sym (ap any_blank h)
@@ -74,7 +62,7 @@ module _ (ms : List Meaning) where
   blank_is (Triple s ∷ ps) rs (r, more, e, is, rest) =
       ap (λ (b : Bool). b || has_blank ms ps) (blank_of s r is) ∙ ap (λ (b : Bool). blank_in r || b) (blank_is ps more rest) ∙ sym (ap any_blank e)
 
--- Nodes have one naming
+-- Nodes have one naming, and a text one list of them
 
 same_term : (a b : Term) (o : Option Referent) → o ≡ Some (referent_of.Term a) → o ≡ Some (referent_of.Term b) → a ≡ b
 same_term a b o e f = cc
@@ -88,8 +76,18 @@ one_naming ms s a b h k =
     let p' = same_term a.triple.p b.triple.p (referent ms s.predicate) h.predicate k.predicate in
     let o' = same_term a.triple.o b.triple.o (referent ms s.object) h.object k.object in
     let w' : a.insert ≡ b.insert = h.word ∙ sym k.word in
-    ap (λ (z : Term). naming_with z a.triple.p a.triple.o a.insert) s' ∙ ap (λ (z : Term). naming_with b.triple.s z a.triple.o a.insert) p'
-    ∙ ap (λ (z : Term). naming_with b.triple.s b.triple.p z a.insert) o' ∙ ap (naming_with b.triple.s b.triple.p b.triple.o) w'
+    let same : naming_with a.triple.s a.triple.p a.triple.o a.insert ≡ naming_with b.triple.s b.triple.p b.triple.o b.insert = cc in same
 
-pub one_namings : (ms : List Meaning) (ps : List Production) (a b : List Named) → AreNamingsOf ms ps a → AreNamingsOf ms ps b → a ≡ b
-one_namings ms ps a b h k = one_made (IsNamingOf ms) (one_naming ms) ps a b h k
+-- what a text names is one list
+pub one_named : HasOneNaming
+one_named base bytes a b h k =
+    let (ps, ms) = one_text Update base bytes h.productions k.productions h.meanings k.meanings h.is_update k.is_update in
+    one_made (IsNamingOf h.meanings) (one_naming h.meanings) h.productions a b h.are_named
+    (subst (λ (z : List Meaning). AreNamingsOf z h.productions b) ms (subst (λ (z : List Production). AreNamingsOf k.meanings z b) ps k.are_named))
+
+-- in which there is no blank node, or there is one
+pub one_blank : (base bytes : List ℕ) (ps : List Production) (ms : List Meaning) (named : List Named) → Names base bytes named → IsUpdate base bytes ps ms
+    → has_blank ms ps ≡ false
+one_blank base bytes ps ms named h update =
+    let (same, same') = one_text Update base bytes h.productions ps h.meanings ms h.is_update update in
+    ap (has_blank ms) same ∙ ap (λ (z : List Meaning). has_blank z h.productions) same' ∙ h.without_blank

@@ -1,10 +1,10 @@
 -- A text is read in one way, and as what the code returns.
-use Rattle.std.proofs.Common.{◌≡◌, ◌≢◌, ℕ, ◌<◌, ◌≤◌, true, false, List, Result, Ok, Err, refl, sym, ap, ◌∙◌, subst, arith}
+use Rattle.std.proofs.Common.{◌≡◌, ℕ, ◌<◌, ◌≤◌, true, false, List, Result, Ok, Err, IfOk, IfErr, refl, sym, ap, ◌∙◌, subst, arith}
 use Rattle.std.proofs.lemmas.Bool.{false≢true}
+use Rattle.pod_base.specs.Listed.{Listed}
 use Rattle.rdf_graph.specs.declared.size.TheConstants.{TRIPLES_LIMIT}
 use Rattle.turtle_grammar.specs.declared.symbol.Start.TheVariants.{Update}
 use Rattle.turtle_terms.specs.declared.fault.TurtleFault.{TurtleFault}
-use Rattle.turtle_terms.specs.declared.fault.TurtleFault.TheVariants as turtle
 use Rattle.turtle_reader.specs.declared.referent.ResolvedTriple.{ResolvedTriple}
 use Rattle.turtle_reader.specs.FirstFaults.{IsShallow, NeverLarge}
 use Rattle.turtle_reader.specs.LanguageFaults.{IsFirstSyntaxFault}
@@ -18,10 +18,9 @@ use Rattle.sparql_patch.specs.declared.named.Named.{Named}
 use Rattle.sparql_patch.specs.Laws.{IsReadAs}
 use Rattle.sparql_patch.specs.Reading.{AreCounted, IsCollected}
 use Rattle.sparql_patch.specs.UpdateSpells.{has_blank, Names, named_size}
-use Rattle.sparql_patch.specs.UpdateFaults.{HasNoFault, IsSparqlFault, told_as}
+use Rattle.sparql_patch.specs.UpdateFaults.{HasNoFault, HasOnlyNamed, IsSparqlFault, told_as}
 use Rattle.sparql_patch.proofs.Counting.{over_limit, within_limit}
-use Rattle.sparql_patch.proofs.Namings.{blank_is, namings_are}
-use Rattle.sparql_patch.proofs.OneNamed.{one_named, one_blank}
+use Rattle.sparql_patch.proofs.Namings.{blank_is, namings_are, one_blank, one_named}
 
 abbrev Answer : Type 0
 Answer = Result (List Named) SparqlFault
@@ -79,21 +78,15 @@ module _ (base bytes : List ℕ) where
     read_as : IsReadAs base bytes (Ok named)
     read_as = (h, no_fault NeverLarge Update base bytes h.productions h.meanings h.is_update shallow (nowhere_large Update base bytes), fits)
 
-    pub only_memory : (f : SparqlFault) → IsSparqlFault base bytes f → f ≡ NoMemory
-    only_memory (Syntax at) is = absurd (no_refusal (Syntax at) named (one_answer (Ok named) (Err (Syntax at)) read_as is))
-    only_memory Blank is = absurd (no_refusal Blank named (one_answer (Ok named) (Err Blank) read_as is))
-    only_memory TooLarge is = absurd (no_refusal TooLarge named (one_answer (Ok named) (Err TooLarge) read_as is))
+    only_memory : (f : SparqlFault) → IsSparqlFault base bytes f → f ≡ NoMemory
     only_memory NoMemory is = refl
+    only_memory f is = absurd (no_refusal f named (one_answer (Ok named) (Err f) read_as is))
 
-    pub only_these : (found : List Named) → Names base bytes found → found ≡ named
-    only_these found k = one_named base bytes found named k h
+  pub only : (r : Result (Listed Named) SparqlFault) → IfOk r (λ list. Names base bytes list.items) → IfErr r (IsSparqlFault base bytes) → HasOnlyNamed base bytes r
+  only (Ok found) names fault named h shallow fits = one_named base bytes found.items named names h
+  only (Err f) names fault named h shallow fits = only_memory named h shallow fits f fault
 
   -- What the code returns
-
-  pub syntax_told : (f : TurtleFault) → (f ≢ turtle.NoMemory → IsFirstSyntaxFault Update base bytes f) → IsSparqlFault base bytes (told_as f)
-  syntax_told (turtle.Bad at kind) first = (turtle.Bad at kind, first (λ e. cc), refl)
-  syntax_told (turtle.TooLarge at) first = (turtle.TooLarge at, first (λ e. cc), refl)
-  syntax_told turtle.NoMemory first = tt
 
   module _ (c : Collected) (k : KeepsText (λ (b : List ℕ) (handed : List ResolvedTriple) (c : Collected). IsCollected handed c) Update base bytes c)
       (sound : HasNoFault base bytes) where

@@ -4,7 +4,6 @@ use Rattle.std.specs.Prelude.{IfSome, is_some}
 use Rattle.std.specs.List.{list_any}
 use Rattle.rdf_graph.specs.declared.size.TheConstants.{TRIPLES_LIMIT}
 use Rattle.rdf_graph.specs.declared.term.Term.{Term}
-use Rattle.rdf_graph.specs.declared.triple.Triple.{Triple as RdfTriple}
 use Rattle.rdf_graph.specs.Size.{saturated}
 use Rattle.turtle_reader.specs.declared.referent.Referent.{Referent}
 use Rattle.turtle_reader.specs.declared.referent.Referent.TheVariants as referent_of
@@ -19,10 +18,11 @@ pub record IsTermOrBlank (referent : Referent) (term : Option Term) : Type 0 whe
   pub blank : is_blank_referent (Some referent) ≡ not (is_some term)
   pub is_term : IfSome term (λ t. referent ≡ referent_of.Term t)
 
--- the triple of these terms
-abbrev pub triple_from : Option Term → Option Term → Option Term → Option RdfTriple
-triple_from (Some s) (Some p) (Some o) = Some (record { s = s; p = p; o = o })
-triple_from s p o = None
+-- the naming of these terms
+abbrev pub naming_from : Option Term → Option Term → Option Term → Bool → Option Named
+naming_from (Some s) (Some p) (Some o) insert =
+    Some (record { triple = record { s = s; p = p; o = o }; insert = insert })
+naming_from s p o insert = None
 
 -- whether one of the nodes is a blank node
 abbrev pub blank_in : ResolvedTriple → Bool

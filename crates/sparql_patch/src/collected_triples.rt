@@ -3,7 +3,7 @@
 ghost use Rattle.std.specs.Prelude.{◌≡◌, ◌++◌, ◌∷◌, [], List as ListOf, IfOk, OnOk};
 ghost use Rattle.sparql_patch.specs.declared.named.Named.{Named as NamedTriple};
 ghost use Rattle.sparql_patch.specs.UpdateSpells.{is_insert};
-ghost use Rattle.sparql_patch.specs.Reading.{IsTermOrBlank, triple_from, IsNamingOrBlank};
+ghost use Rattle.sparql_patch.specs.Reading.{IsTermOrBlank, naming_from, IsNamingOrBlank};
 ghost use Rattle.sparql_patch.specs.Reading.{IsCounted, IsCollected};
 
 use crate::named::Named;
@@ -48,12 +48,15 @@ fn term_of(referent: Referent) -> Mem<Option<Term>>
     }
 }
 
-/// The triple of these terms, for those that are collected from an update.
-fn triple_from(s: Option<Term>, p: Option<Term>, o: Option<Term>) -> Option<Triple>
-    ensures { result ≡ triple_from s p o }
+/// The naming of these terms' triple in an update, with or without the word INSERT.
+fn naming_from(s: Option<Term>, p: Option<Term>, o: Option<Term>, insert: bool) -> Option<Named>
+    ensures { result ≡ naming_from s p o insert }
 {
     match (s, p, o) {
-        (Some(s), Some(p), Some(o)) => Some(Triple { s, p, o }),
+        (Some(s), Some(p), Some(o)) => Some(Named {
+            triple: Triple { s, p, o },
+            insert,
+        }),
         _ => None,
     }
 }
@@ -73,10 +76,7 @@ fn naming_of(resolved: ResolvedTriple) -> Mem<Option<Named>>
     let s = term_of(resolved.subject)?;
     let p = term_of(resolved.predicate)?;
     let o = term_of(resolved.object)?;
-    match triple_from(s, p, o) {
-        Some(triple) => Ok(Some(Named { triple, insert })),
-        None => Ok(None),
-    }
+    Ok(naming_from(s, p, o, insert))
 }
 
 /// Appends a naming to those that are collected from an update.

@@ -10,6 +10,7 @@ ghost use Rattle.sparql_patch.specs.Laws.{EachIsListedOnce, WithoutRepeats, HasO
 ghost use Rattle.sparql_patch.specs.Laws.{HasOneAnswer};
 
 /// The law that the last naming of a triple decides, and each triple is listed once.
+#[tactic(auto, using(crate::proofs::NamedLemmas::listed_once))]
 pub fn last_naming()
     ensures decides { LastNamingDecides }
     ensures deletions { DeletionsAreInGraph }
@@ -33,6 +34,7 @@ pub fn first_fault()
 {}
 
 /// The law that an update is read as one list of triples, or has one fault beside out of memory.
+#[tactic(auto, using(crate::proofs::OneAnswer::one_answer))]
 pub fn one_answer()
     ensures { HasOneAnswer }
 {}

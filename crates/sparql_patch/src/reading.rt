@@ -27,6 +27,28 @@ fn syntax(fault: TurtleFault) -> SparqlFault
     }
 }
 
+/// Reads the triples that an update names, or its first fault.
+fn read_named(alloc: Global, base: &Iri, bytes: &[u8]) -> Result<List<Named>, SparqlFault>
+    ensures names { IfOk result (λ list. Names base.now bytes.now list.items) }
+    ensures fits { IfOk result (λ list. named_size list.items ≤ TRIPLES_LIMIT) }
+    ensures sound { OnOk result (HasNoFault base.now bytes.now) }
+    ensures fault { IfErr result (IsSparqlFault base.now bytes.now) }
+{
+    let mut collected = Collected::new(alloc);
+    match walk(alloc, base, bytes, &mut collected) {
+        Err(fault) => Err(syntax(fault)),
+        Ok(()) => {
+            if collected.has_blank {
+                Err(SparqlFault::Blank)
+            } else if collected.size > TRIPLES_LIMIT {
+                Err(SparqlFault::TooLarge)
+            } else {
+                Ok(collected.named)
+            }
+        }
+    }
+}
+
 /// Reads the triples that an update of SPARQL data names, in order, each with the word before its
 /// formula. Once they pass the limit on size none are kept beside those before, and the rest is
 /// still checked.
@@ -43,17 +65,5 @@ pub fn read(alloc: Global, base: &Iri, bytes: &[u8]) -> Result<List<Named>, Spar
     ensures fault { IfErr result (IsSparqlFault base.now bytes.now) }
     ensures only { HasOnlyNamed base.now bytes.now result }
 {
-    let mut collected = Collected::new(alloc);
-    match walk(alloc, base, bytes, &mut collected) {
-        Err(fault) => Err(syntax(fault)),
-        Ok(()) => {
-            if collected.has_blank {
-                Err(SparqlFault::Blank)
-            } else if collected.size > TRIPLES_LIMIT {
-                Err(SparqlFault::TooLarge)
-            } else {
-                Ok(collected.named)
-            }
-        }
-    }
+    read_named(alloc, base, bytes)
 }

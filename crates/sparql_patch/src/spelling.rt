@@ -17,6 +17,7 @@ use std::collections::BTreeSet;
 
 /// Puts the triple of a naming among those whose patterns are spelled, and returns whether it is
 /// new.
+#[tactic(auto, using(crate::proofs::TripleLemmas::tied_is_eq))]
 fn insert_new(alloc: Global, seen: &mut BTreeSet<Triple>, triple: &Triple) -> Mem<bool>
     ensures new { IfOk result (λ new. new ≡ not (contains triple_cmp seen.old triple.now)) }
     ensures members { OnOk result ((t : Triple) → contains triple_cmp seen.new t
@@ -40,6 +41,7 @@ fn push_pattern(alloc: Global, patterns: &mut List<Pattern>, triple: &Triple) ->
 }
 
 /// Whether the graph at which an update spells its patch has the triple.
+#[tactic(auto, using(crate::proofs::TripleLemmas::has_triple_decides))]
 fn has(graph: &Graph, triple: &Triple) -> bool
     ensures { result ≡ has_triple graph.now triple.now }
 {

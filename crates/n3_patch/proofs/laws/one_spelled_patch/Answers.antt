@@ -1,4 +1,4 @@
-use Rattle.n3_patch.proofs.OneSpelled.{one_spelled_patch}
+use Rattle.n3_patch.proofs.Meant.{one_spelled_patch}
 use Rattle.n3_patch.proofs.laws.one_spelled_patch.Goals as goal
 
 pub returns : goal.returns

@@ -1,4 +1,4 @@
-use Rattle.sparql_patch.proofs.NamedLemmas.{last_naming_decides, deletions_in_graph, listed_once}
+use Rattle.sparql_patch.proofs.NamedLemmas.{last_naming_decides, deletions_in_graph}
 use Rattle.sparql_patch.proofs.laws.last_naming.Goals as goal
 
 pub returns-clause-decides : goal.returns-clause-decides
@@ -6,6 +6,3 @@ returns-clause-decides c = last_naming_decides
 
 pub returns-clause-deletions : goal.returns-clause-deletions
 returns-clause-deletions c = deletions_in_graph
-
-pub returns-clause-once : goal.returns-clause-once
-returns-clause-once c = listed_once

@@ -1,4 +1,4 @@
-use Rattle.sparql_patch.proofs.OneNamed.{one_named}
+use Rattle.sparql_patch.proofs.Namings.{one_named}
 use Rattle.sparql_patch.proofs.laws.one_naming.Goals as goal
 
 pub returns : goal.returns

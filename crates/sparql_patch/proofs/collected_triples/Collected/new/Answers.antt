@@ -1,6 +1,9 @@
-use Rattle.std.proofs.Common.{refl}
-use Rattle.sparql_patch.proofs.Counting.{empty_collected}
+use Rattle.std.proofs.Common.{[], refl}
+use Rattle.sparql_patch.proofs.Counting.{nothing}
 use Rattle.sparql_patch.proofs.collected_triples.Collected.new.Goals as goal
 
 pub returns : goal.returns
-returns c = empty_collected _ refl refl c.new.ensures.items
+returns c = record {
+  blank = refl;
+  named = λ no. record { all = []; are_named = refl; counted = record { size_is = nothing; kept = λ fits. c.new.ensures.items } };
+}

@@ -1,5 +1,0 @@
-use Rattle.sparql_patch.proofs.OneAnswer.{one_answer}
-use Rattle.sparql_patch.proofs.laws.one_answer.Goals as goal
-
-pub returns : goal.returns
-returns c = one_answer
