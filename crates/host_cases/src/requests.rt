@@ -1,11 +1,11 @@
 //! A request, and its fields.
 
-use pod_base::{Bytes, Field, Fields, Mem, Method, Request, Text};
+use pod_base::{Bytes, Field, Fields, Mem, Method, Request};
 use std::alloc::Global;
 
 /// The field `Host: pod.example`.
 fn host(alloc: Global) -> Mem<Field> {
-    let name = Text::of(alloc, "Host")?;
+    let name = Bytes::from_static(b"Host");
     let value = Bytes::of(alloc, b"pod.example")?;
     Ok(Field { name, value })
 }

@@ -1,7 +1,7 @@
 //! The parts of a complete head (RFC 9112, sections 3 and 5).
 
 ghost use Rattle.std.specs.Prelude.{◌≡◌, ◌≤◌, ◌==◌, ◌&&◌, not, ℕ, length, map, All, IfOk, IfSome};
-ghost use Rattle.std.specs.Prelude.{IfNone, IsErrOf, IsAscii, codes};
+ghost use Rattle.std.specs.Prelude.{IfNone, IsErrOf, codes};
 ghost use Rattle.std.specs.Str.{str_to_ascii_lowercase, str_eq_ignore_ascii_case};
 ghost use Rattle.httparse.specs.Grammar as grammar;
 ghost use Rattle.httparse.specs.Spans.{IsRequestAt, IsRequestWithin, IsHeaderWithin, IsWithin};
@@ -16,7 +16,7 @@ use crate::request_head::{HeadFault, RequestHead};
 use httparse::Status;
 use httparse::spans::{EMPTY_HEADER_SPAN, HeaderSpan, RequestSpans, Span, parse_request};
 use memchr::memchr_iter;
-use pod_base::{Bytes, Field, Fields, Mem, Method, Text};
+use pod_base::{Bytes, Field, Fields, Mem, Method, NoMemory};
 use std::alloc::Global;
 
 /// The most lines of a head, from its request line on.
@@ -88,16 +88,45 @@ fn method_of(word: &[u8]) -> Method
     }
 }
 
+/// The known name of a head's field, where the name is that in any case.
+fn if_known(name: &[u8], known: &'static [u8]) -> Option<Bytes>
+    requires { str_to_ascii_lowercase known.now ≡ known.now }
+    ensures { IfSome result (λ lower. lower ≡ str_to_ascii_lowercase name.now) }
+{
+    if name.eq_ignore_ascii_case(known) {
+        Some(Bytes::from_static(known))
+    } else {
+        None
+    }
+}
+
+/// The name of a head's field in lower case, where most heads have it. It takes no memory.
+fn known_name(name: &[u8]) -> Option<Bytes>
+    ensures { IfSome result (λ lower. lower ≡ str_to_ascii_lowercase name.now) }
+{
+    match name.len() {
+        4 => if_known(name, b"host"),
+        6 => if_known(name, b"accept"),
+        10 => if_known(name, b"user-agent"),
+        12 => if_known(name, b"content-type"),
+        13 => if_known(name, b"authorization"),
+        14 => if_known(name, b"content-length"),
+        _ => None,
+    }
+}
+
 /// The name of a head's field in lower case.
-fn lower_name(alloc: Global, name: &[u8]) -> Mem<Text>
-    requires { IsAscii name.now }
+fn lower_name(alloc: Global, name: &[u8]) -> Mem<Bytes>
     ensures { IfOk result (λ lower. lower ≡ str_to_ascii_lowercase name.now) }
 {
-    let mut lower = String::with_capacity(alloc, name.len())?;
-    for byte in name {
-        lower.push(byte.to_ascii_lowercase() as char)?;
+    if let Some(known) = known_name(name) {
+        return Ok(known);
     }
-    Text::from_string(alloc, lower)
+    let lower = name.to_ascii_lowercase(alloc)?;
+    match Bytes::from_vec(alloc, lower) {
+        Ok(lower) => Ok(lower),
+        Err(_) => Err(NoMemory),
+    }
 }
 
 /// The part of a parsed head that a span covers. It shares the head's block.
@@ -111,7 +140,6 @@ fn part(alloc: Global, head: &Bytes, span: Span) -> Mem<Bytes>
 /// The field that a line of a head is parsed to. Its value shares the head's block.
 fn field_of(alloc: Global, head: &Bytes, span: &HeaderSpan) -> Mem<Field>
     requires within { IsHeaderWithin (length head.now) span.now }
-    requires ascii { IsAscii (span_bytes head.now span.now.name) }
     ensures { IfOk result (λ field. field ≡ heads.field_of (header_bytes head.now span.now)) }
 {
     let name = lower_name(alloc, span.name.of(head.as_slice()))?;
@@ -122,7 +150,6 @@ fn field_of(alloc: Global, head: &Bytes, span: &HeaderSpan) -> Mem<Field>
 /// The fields that the lines of a head are parsed to.
 fn fields_of(alloc: Global, head: &Bytes, spans: &[HeaderSpan]) -> Mem<Fields>
     requires within { All (IsHeaderWithin (length head.now)) spans.now }
-    requires ascii { All (λ s. IsAscii (span_bytes head.now s.name)) spans.now }
     ensures { IfOk result (λ fields.
         fields ≡ map heads.field_of (map (header_bytes head.now) spans.now)) }
 {
@@ -145,7 +172,6 @@ fn head_of(
     requires method { IsWithin (length bytes.now) found.now.method }
     requires path { IsWithin (length bytes.now) found.now.path }
     requires lines { All (IsHeaderWithin (length bytes.now)) lines.now }
-    requires ascii { All (λ s. IsAscii (span_bytes bytes.now s.name)) lines.now }
     ensures { IfOk result (λ parsed. parsed
         ≡ heads.head_with (span_bytes bytes.now found.now.method)
         (span_bytes bytes.now found.now.path) found.now.version
@@ -174,8 +200,9 @@ fn lacks_host(minor: u8, hosts: usize) -> bool
 /// and 5).
 ///
 /// It copies the head once, into one block: the target and the values of fields are parts of that
-/// block, and each keeps it alive. Names are texts of their own. So the number of allocations goes
-/// by the number of fields, and not by the bytes of their values.
+/// block, and each keeps it alive. A name that most heads have takes no memory, and any other has a
+/// block of its own. So the number of allocations goes by the number of fields, and not by the bytes
+/// of their values.
 ///
 /// # Errors
 ///

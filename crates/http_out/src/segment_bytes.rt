@@ -32,7 +32,7 @@ fn field_bytes(fields: &Fields, i: usize, segment: Segment) -> &[u8]
     match field_at(fields, i) {
         None => b"",
         Some(field) => match segment {
-            Segment::Name(_) => field.name.as_str().as_bytes(),
+            Segment::Name(_) => field.name.as_slice(),
             Segment::Colon(_) => b": ",
             Segment::Value(_) => field.value.as_slice(),
             _ => b"\r\n",

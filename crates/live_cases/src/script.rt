@@ -34,7 +34,7 @@ pub(crate) fn request(
     body: &str,
 ) -> Mem<Request> {
     let mut list = List::new(alloc);
-    let name = Text::of(alloc, "content-type")?;
+    let name = Bytes::from_static(b"content-type");
     let value = Bytes::of(alloc, content.as_bytes())?;
     if list.push(alloc, Field { name, value }).is_err() {
         return Err(NoMemory);

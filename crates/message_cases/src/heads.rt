@@ -19,8 +19,9 @@ fn parts(alloc: Global, head: &RequestHead) -> Result<String, AllocError> {
     let target = shown(alloc, head.target.as_slice())?;
     let mut text = format!(in alloc; "{:?} {target} {}", head.method, head.minor)?;
     for field in head.fields.list.as_slice() {
+        let name = shown(alloc, field.name.as_slice())?;
         let value = shown(alloc, field.value.as_slice())?;
-        write!(text, "; {}={value}", field.name.as_str())?;
+        write!(text, "; {name}={value}")?;
     }
     Ok(text)
 }

@@ -3,7 +3,7 @@
 
 use case_words::{bytes, known, method_of, number_of, shown};
 use conditional_req::{Conditions, Current, Tag, judge, read_conditions, tag_of};
-use pod_base::{Bytes, Field, Fields, Mem, Method, Moment, Text};
+use pod_base::{Bytes, Field, Fields, Mem, Method, Moment};
 use std::alloc::{AllocError, Global};
 
 /// The tag of a representation.
@@ -53,7 +53,7 @@ fn value_of(alloc: Global, text: &str) -> Result<Vec<u8>, AllocError> {
 fn add_field(alloc: Global, fields: &mut Fields, line: &str) -> Mem<()> {
     let (name, value) = line.split_once(": ").unwrap_or((line, ""));
     let value = value_of(alloc, value)?;
-    let name = Text::of(alloc, name)?;
+    let name = Bytes::of(alloc, name.as_bytes())?;
     let value = Bytes::of(alloc, value.as_slice())?;
     fields.add(alloc, Field { name, value })
 }

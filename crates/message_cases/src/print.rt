@@ -22,8 +22,9 @@ pub(crate) fn place(alloc: Global, path: &str) -> Mem<Option<(Iri, Path)>> {
 /// Appends the fields of a response.
 fn push_fields(alloc: Global, text: &mut String, response: &Response) -> Result<(), AllocError> {
     for field in response.fields.list.as_slice() {
+        let name = case_words::shown_whole(alloc, field.name.as_slice())?;
         let value = case_words::shown_whole(alloc, field.value.as_slice())?;
-        write!(text, "|{}: {value}", field.name.as_str())?;
+        write!(text, "|{name}: {value}")?;
     }
     Ok(())
 }

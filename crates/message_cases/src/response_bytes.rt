@@ -7,7 +7,7 @@ ghost use Rattle.http_out.specs.Text.{AreFieldLines};
 
 use case_words::{bytes, shown_whole};
 use http_out::{Out, bytes_of, disk_text, interim, memory_text};
-use pod_base::{Body, Bytes, Field, Fields, Moment, Response, Rope, Text};
+use pod_base::{Body, Bytes, Field, Fields, Moment, Response, Rope};
 use std::alloc::{AllocError, Global};
 
 /// Whether a byte may be part of a line.
@@ -28,7 +28,7 @@ fn is_in_line(bytes: &[u8]) -> bool
 fn are_field_lines(fields: &Fields) -> bool
     ensures { result ≡ list_all text.is_field_line fields.now }
 {
-    fields.list.as_slice().iter().all(|field| is_in_line(field.name.as_str().as_bytes())
+    fields.list.as_slice().iter().all(|field| is_in_line(field.name.as_slice())
         && is_in_line(field.value.as_slice()))
 }
 
@@ -44,10 +44,7 @@ fn owned(alloc: Global, field: &str) -> Result<Bytes, AllocError> {
 /// The field that `name: value` is.
 fn field_of(alloc: Global, line: &str) -> Result<Field, AllocError> {
     let (name, value) = line.split_once(": ").unwrap_or((line, ""));
-    let name = case_words::text(alloc, name)?;
-    let Ok(name) = Text::of(alloc, name.as_str()) else {
-        return Err(AllocError);
-    };
+    let name = owned(alloc, name)?;
     let value = owned(alloc, value)?;
     Ok(Field { name, value })
 }

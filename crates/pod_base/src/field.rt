@@ -6,14 +6,13 @@ ghost use Rattle.pod_base.specs.Fields.{is_named};
 use crate::list::List;
 use crate::memory::{Mem, NoMemory};
 use crate::shared_bytes::Bytes;
-use crate::text::Text;
 use std::alloc::Global;
 use std::marker::Model;
 
 /// One field of a message.
 #[derive(Debug, Drop)]
 pub struct Field {
-    pub name: Text,
+    pub name: Bytes,
     pub value: Bytes,
 }
 
@@ -23,7 +22,7 @@ impl Field {
     pub fn is_named(&self, name: &str) -> bool
         ensures { result ≡ is_named name.now self.now }
     {
-        self.name.as_str().eq_ignore_ascii_case(name)
+        self.name.as_slice().eq_ignore_ascii_case(name.as_bytes())
     }
 
     /// An equal field of a message, which shares the name and the value.

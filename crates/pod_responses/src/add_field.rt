@@ -3,14 +3,14 @@
 ghost use Rattle.std.specs.Prelude.{◌≡◌, ◌++◌, ◌∷◌, [], OnOk, IfOk};
 ghost use Rattle.pod_responses.specs.Links.{field};
 
-use pod_base::{Bytes, Field, Fields, Mem, Text};
+use pod_base::{Bytes, Field, Fields, Mem};
 use std::alloc::Global;
 
 /// Adds a field to those of a response.
-pub(crate) fn add(alloc: Global, fields: &mut Fields, name: &str, value: Bytes) -> Mem<()>
+pub(crate) fn add(alloc: Global, fields: &mut Fields, name: &'static str, value: Bytes) -> Mem<()>
     ensures { OnOk result (fields.new ≡ fields.old ++ field name.now value ∷ []) }
 {
-    let name = Text::of(alloc, name)?;
+    let name = Bytes::from_static(name.as_bytes());
     fields.add(alloc, Field { name, value })
 }
 
@@ -18,7 +18,7 @@ pub(crate) fn add(alloc: Global, fields: &mut Fields, name: &str, value: Bytes) 
 pub(crate) fn add_static(
     alloc: Global,
     fields: &mut Fields,
-    name: &str,
+    name: &'static str,
     value: &'static str,
 ) -> Mem<()>
     ensures { OnOk result (fields.new ≡ fields.old ++ field name.now value.now ∷ []) }
@@ -27,7 +27,12 @@ pub(crate) fn add_static(
 }
 
 /// Adds a field to those of a response, whose value is a text.
-pub(crate) fn add_text(alloc: Global, fields: &mut Fields, name: &str, value: &[u8]) -> Mem<()>
+pub(crate) fn add_text(
+    alloc: Global,
+    fields: &mut Fields,
+    name: &'static str,
+    value: &[u8],
+) -> Mem<()>
     ensures { OnOk result (fields.new ≡ fields.old ++ field name.now value.now ∷ []) }
 {
     let value = Bytes::of(alloc, value)?;

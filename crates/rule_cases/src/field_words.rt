@@ -1,7 +1,7 @@
 //! The fields of requests.
 
 use case_words::bytes;
-use pod_base::{Bytes, Field, Fields, Mem, Text};
+use pod_base::{Bytes, Field, Fields, Mem};
 use std::alloc::Global;
 
 /// The field that a name, `: ` and a value are.
@@ -9,7 +9,7 @@ fn field_of(alloc: Global, text: &str) -> Mem<Field> {
     let (name, value) = text.split_once(": ").unwrap_or((text, ""));
     let value = bytes(alloc, value)?;
     Ok(Field {
-        name: Text::of(alloc, name)?,
+        name: Bytes::of(alloc, name.as_bytes())?,
         value: Bytes::of(alloc, value.as_slice())?,
     })
 }

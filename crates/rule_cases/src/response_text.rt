@@ -12,8 +12,8 @@ fn is_wanted(wanted: &str, name: &str) -> bool {
 /// Appends the fields of a response whose names are wanted.
 fn push_fields(alloc: Global, text: &mut String, response: &Response, wanted: &str) -> Mem<()> {
     for field in response.fields.list.as_slice() {
-        let name = field.name.as_str();
-        if is_wanted(wanted, name) {
+        let name = shown_whole(alloc, field.name.as_slice())?;
+        if is_wanted(wanted, name.as_str()) {
             let value = shown_whole(alloc, field.value.as_slice())?;
             write!(text, "|{name}: {value}")?;
         }

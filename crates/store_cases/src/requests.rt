@@ -1,11 +1,11 @@
 //! The requests of steps.
 
-use pod_base::{Bytes, Field, Fields, List, Mem, Method, NoMemory, Request, Text};
+use pod_base::{Bytes, Field, Fields, List, Mem, Method, NoMemory, Request};
 use std::alloc::Global;
 
 /// Adds a field.
 fn push(alloc: Global, fields: &mut List<Field>, name: &str, value: &str) -> Mem<()> {
-    let name = Text::of(alloc, name)?;
+    let name = Bytes::of(alloc, name.as_bytes())?;
     let value = Bytes::of(alloc, value.as_bytes())?;
     match fields.push(alloc, Field { name, value }) {
         Ok(()) => Ok(()),

@@ -10,8 +10,9 @@ use std::alloc::Global;
 
 /// Appends a field.
 fn push_field(alloc: Global, text: &mut String, field: &Field) -> Mem<()> {
+    let name = shown(alloc, field.name.as_slice())?;
     let value = shown(alloc, field.value.as_slice())?;
-    write!(text, "|{}: {value}", field.name.as_str())?;
+    write!(text, "|{name}: {value}")?;
     Ok(())
 }
 

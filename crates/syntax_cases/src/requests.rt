@@ -1,14 +1,14 @@
 //! Requests as the words of a case write them. A FIELD is a name, `: ` and a value.
 
 use case_words::{bytes, method_of};
-use pod_base::{Bytes, Field, Fields, Mem, Request, Text};
+use pod_base::{Bytes, Field, Fields, Mem, Request};
 use std::alloc::Global;
 
 /// Appends the field that `name: value` is.
 fn add_field(alloc: Global, fields: &mut Fields, line: &str) -> Mem<()> {
     let (name, value) = line.split_once(": ").unwrap_or((line, ""));
     let value = bytes(alloc, value)?;
-    let name = Text::of(alloc, name)?;
+    let name = Bytes::of(alloc, name.as_bytes())?;
     let value = Bytes::of(alloc, value.as_slice())?;
     fields.add(alloc, Field { name, value })
 }
