@@ -91,6 +91,16 @@ impl Iri {
         Ok(Iri { text })
     }
 
+    /// The IRI with `end` after its text, which has no forbidden character, in one new piece of
+    /// memory.
+    pub fn extended(&self, alloc: Global, end: &str) -> Mem<Iri>
+        requires { AllAllowed end.now }
+        ensures { IfOk result (λ iri. iri ≡ self.now ++ end.now) }
+    {
+        let text = Text::joined(alloc, self.as_str(), end)?;
+        Ok(Iri { text })
+    }
+
     /// The IRI with `end` after its text, in one new piece of memory. It fails with `BadReference`
     /// exactly where `end` has a forbidden character.
     pub fn appended(&self, alloc: Global, end: &str) -> Result<Iri, IriFault>
@@ -101,8 +111,7 @@ impl Iri {
         if !all_allowed(end) {
             return Err(IriFault::BadReference);
         }
-        let text = Text::joined(alloc, self.as_str(), end)?;
-        Ok(Iri { text })
+        Ok(self.extended(alloc, end)?)
     }
 }
 

@@ -1,4 +1,5 @@
 -- kept for the crates above
+pub mod ByteLemmas
 pub mod LawLemmas
 pub mod ListingLemmas
 pub mod Matching
@@ -7,7 +8,6 @@ pub mod TextLemmas
 pub mod WrittenLemmas
 -- for the proofs of this crate
 pub mod BlankLemmas
-pub mod ByteLemmas
 pub mod CharLemmas
 pub mod DelimitedLemmas
 pub mod EscapeLemmas

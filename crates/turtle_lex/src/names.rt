@@ -76,7 +76,7 @@ fn strip_name_part(text: &[u8], parts: Parts) -> Option<&[u8]>
 fn is_name_byte(byte: u8) -> bool
     ensures { result ≡ is_name_byte byte }
 {
-    matches!(byte, b'A'..=b'Z' | b'a'..=b'z' | b'0'..=b'9' | b'_' | b'-')
+    byte.is_ascii_lowercase() || matches!(byte, b'A'..=b'Z' | b'0'..=b'9' | b'_' | b'-')
 }
 
 /// How many bytes at the start are each a PN_CHARS.

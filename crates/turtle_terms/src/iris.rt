@@ -1,6 +1,7 @@
 //! The IRIs that references and names mean.
 
-ghost use Rattle.std.specs.Prelude.{◌≡◌, ◌≢◌, not, Some, Ok, Err, IfOk, IfErr, IsTrue};
+ghost use Rattle.std.specs.Prelude.{◌≡◌, ◌≢◌, ◌++◌, not, Ok, Err, IfOk, IfErr, IsTrue};
+ghost use Rattle.iri_ref.specs.Characters.{AllAllowed};
 ghost use Rattle.std.specs.List.{filter};
 ghost use Rattle.std.specs.Str.{IsUtf8};
 ghost use Rattle.std.specs.String.{string_bytes};
@@ -21,6 +22,7 @@ use crate::token_text::{iri_content, split_name, text_of};
 use crate::vocabulary::{Vocabulary, Word, word_iri};
 use iri_ref::{Iri, IriFault, iri_of_reference};
 use pod_base::Mem;
+use rdf_graph::copy_iri;
 use std::alloc::Global;
 use turtle_lex::{Token, TokenKind};
 
@@ -110,66 +112,43 @@ fn without_backslashes(alloc: Global, text: &str) -> Mem<String>
     }
 }
 
-/// An IRI with a text appended, in memory of its own.
-fn append_new(alloc: Global, prefix: &Iri, at: usize, local: &str) -> Result<Iri, TurtleFault>
-    ensures iri { IfOk result (λ iri. IsNameMeaning (Some prefix.now) local.now (Ok iri)) }
-    ensures fault { IfErr result (λ fault. fault ≢ NoMemory → IsFault at
-        (λ kind. IsNameMeaning (Some prefix.now) local.now (Err kind)) fault) }
+/// An IRI with a text appended that has no forbidden character, in memory of its own.
+fn append_new(alloc: Global, prefix: &Iri, local: &str) -> Mem<Iri>
+    requires { AllAllowed local.now }
+    ensures { IfOk result (λ iri. iri ≡ prefix.now ++ local.now) }
 {
-    let appended = if local.is_empty() {
-        prefix.copy(alloc)
+    if local.is_empty() {
+        copy_iri(alloc, prefix)
     } else {
-        prefix.appended(alloc, local)
-    };
-    match appended {
-        Ok(iri) => Ok(iri),
-        Err(fault) => Err(fault_at(at, fault)),
+        prefix.extended(alloc, local)
     }
 }
 
-/// An IRI with a text appended.
-fn append_at(
-    alloc: Global,
-    recent: &mut RecentIris,
-    prefix: &Iri,
-    at: usize,
-    local: &str,
-) -> Result<Iri, TurtleFault>
-    ensures iri { IfOk result (λ iri. IsNameMeaning (Some prefix.now) local.now (Ok iri)) }
-    ensures fault { IfErr result (λ fault. fault ≢ NoMemory → IsFault at
-        (λ kind. IsNameMeaning (Some prefix.now) local.now (Err kind)) fault) }
+/// An IRI with a text appended that has no forbidden character.
+fn append(alloc: Global, recent: &mut RecentIris, prefix: &Iri, local: &str) -> Mem<Iri>
+    requires { AllAllowed local.now }
+    ensures { IfOk result (λ iri. iri ≡ prefix.now ++ local.now) }
 {
-    match recent.joined(alloc, prefix, local) {
-        Some(iri) => Ok(iri),
-        None => match append_new(alloc, prefix, at, local) {
-            Ok(iri) => {
-                recent.note(alloc, local, &iri);
-                Ok(iri)
-            }
-            Err(fault) => Err(fault),
-        },
+    if let Some(iri) = recent.joined(alloc, prefix, local) {
+        return Ok(iri);
     }
+    let iri = append_new(alloc, prefix, local)?;
+    recent.note(alloc, local, &iri);
+    Ok(iri)
 }
 
-/// An IRI with a local name appended, whose escapes lose their backslashes.
-fn append_local(
-    alloc: Global,
-    recent: &mut RecentIris,
-    prefix: &Iri,
-    at: usize,
-    local: &str,
-) -> Result<Iri, TurtleFault>
-    ensures iri { IfOk result (λ iri. IsNameMeaning (Some prefix.now)
-        (filter (λ b. not (is_backslash b)) local.now) (Ok iri)) }
-    ensures fault { IfErr result (λ fault. fault ≢ NoMemory → IsFault at
-        (λ kind. IsNameMeaning (Some prefix.now)
-        (filter (λ b. not (is_backslash b)) local.now) (Err kind)) fault) }
+/// An IRI with a local name appended, whose escapes lose their backslashes. It has no forbidden
+/// character then.
+fn append_local(alloc: Global, recent: &mut RecentIris, prefix: &Iri, local: &str) -> Mem<Iri>
+    requires { AllAllowed (filter (λ b. not (is_backslash b)) local.now) }
+    ensures { IfOk result (λ iri. iri
+        ≡ prefix.now ++ filter (λ b. not (is_backslash b)) local.now) }
 {
     if !has_backslash(local) {
-        return append_at(alloc, recent, prefix, at, local);
+        return append(alloc, recent, prefix, local);
     }
     let local = without_backslashes(alloc, local)?;
-    append_at(alloc, recent, prefix, at, local.as_str())
+    append(alloc, recent, prefix, local.as_str())
 }
 
 /// The IRI of a name.
@@ -180,6 +159,7 @@ fn name_iri(
     at: usize,
     text: &str,
 ) -> Result<Iri, TurtleFault>
+    requires { AllAllowed (local_value text.now) }
     ensures iri { IfOk result (λ iri. IsNameMeaning
         (map.get scope.now (prefix_value text.now)) (local_value text.now) (Ok iri)) }
     ensures fault { IfErr result (λ fault. fault ≢ NoMemory → IsFault at
@@ -188,7 +168,7 @@ fn name_iri(
 {
     let (prefix, local) = split_name(text);
     match scope.iri(prefix) {
-        Some(iri) => append_local(alloc, recent, iri, at, local),
+        Some(iri) => Ok(append_local(alloc, recent, iri, local)?),
         None => Err(TurtleFault::Bad {
             at,
             kind: TurtleKind::Prefix,
@@ -207,6 +187,7 @@ pub fn is_iri_kind(kind: TokenKind) -> bool
 }
 
 /// The IRI that a token means. The IRIs of words are those of a vocabulary, where one is given.
+#[tactic(auto, using(crate::proofs::LocalNames::namespace_allowed, crate::proofs::LocalNames::name_allowed))]
 pub(crate) fn iri_of(
     alloc: Global,
     shared: Option<&Vocabulary>,

@@ -1,7 +1,7 @@
 //! [`RecentIris`]: the IRIs that were read last, whose memory later ones share.
 
-ghost use Rattle.std.specs.Prelude.{◌≡◌, ◌++◌, List, ℕ, Ok, Some, true, IfSome};
-ghost use Rattle.turtle_terms.specs.Meaning.{IsReferenceMeaning, IsNameMeaning};
+ghost use Rattle.std.specs.Prelude.{◌≡◌, ◌++◌, List, ℕ, Ok, true, IfSome};
+ghost use Rattle.turtle_terms.specs.Meaning.{IsReferenceMeaning};
 
 use iri_ref::Iri;
 use pod_base::Mem;
@@ -87,7 +87,7 @@ impl RecentIris {
 
     /// The IRI of the prefix with this at its end, if it was read.
     pub(crate) fn joined(&self, alloc: Global, prefix: &Iri, local: &str) -> Option<Iri>
-        ensures { IfSome result (λ iri. IsNameMeaning (Some prefix.now) local.now (Ok iri)) }
+        ensures { IfSome result (λ iri. iri ≡ prefix.now ++ local.now) }
     {
         match self.at(local) {
             Some(iri) if is_joined(iri, prefix, local) => copied(alloc, iri),
