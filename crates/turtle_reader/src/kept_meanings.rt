@@ -7,7 +7,8 @@ ghost use Rattle.turtle_reader.specs.Kept.{entries, is_referred_to, with_meaning
 use crate::meaning::Meaning;
 use pod_base::Mem;
 use std::alloc::Global;
-use turtle_grammar::Machine;
+use turtle_grammar::{Machine, Symbol};
+use turtle_lex::TokenKind;
 
 /// The meaning of the lexeme of an index.
 #[derive(Debug, Drop)]
@@ -16,17 +17,20 @@ pub struct Kept {
     meaning: Meaning,
 }
 
-/// How many are kept beyond those that stayed before the next are dropped.
+/// How many are kept beyond those that stayed before the next are dropped, after a lexeme that
+/// means nothing. After one that is kept itself it is twice that: a production may name it yet.
 const SPARE: usize = 8;
 
 /// The meanings of those lexemes to which a later production may refer, by increasing index: a
-/// subject and a predicate for each open bracket and outside, a String with its datatype, and for
-/// each bracket [`SPARE`] more at most.
+/// subject and a predicate for each open bracket and outside, a String with its datatype, and more
+/// that wait to be dropped together. After a dot all of its statement are dropped.
 #[derive(Drop)]
 pub struct KeptMeanings {
     list: Vec<Kept>,
-    /// How many it has before some are dropped.
+    /// How many may stay after a lexeme that means nothing.
     room: usize,
+    /// From how many on some are dropped before the next lexeme.
+    due: usize,
 }
 
 /// Whether a meaning is kept, since a production can refer to its lexeme.
@@ -34,6 +38,15 @@ fn is_referred_to(meaning: &Meaning) -> bool
     ensures { result ≡ is_referred_to meaning.now }
 {
     !matches!(meaning, Meaning::Nothing | Meaning::Name(_))
+}
+
+/// From how many kept meanings on some are dropped before the lexeme after this one.
+fn due(room: usize, symbol: Symbol, is_kept: bool) -> usize {
+    match symbol {
+        Symbol::Token(TokenKind::Dot) => 1,
+        _ if is_kept => room.saturating_add(SPARE),
+        _ => room,
+    }
 }
 
 /// The kept meaning of the lexeme of this index, looked for from the last one on.
@@ -81,6 +94,7 @@ impl KeptMeanings {
         KeptMeanings {
             list: Vec::new(alloc),
             room: SPARE,
+            due: SPARE,
         }
     }
 
@@ -92,13 +106,13 @@ impl KeptMeanings {
         find(self.list.as_slice(), index)
     }
 
-    /// Drops what no production after the last lexeme names, which the machine has read, once there
-    /// is no room for more.
+    /// Drops what no production after the last lexeme names, which the machine has read, where it is
+    /// due.
     pub(crate) fn drop_unnamed(&mut self, machine: &Machine)
         ensures unnamed { DropsUnnamed machine.now self.old self.new }
         ensures kept { (all : List Meaning) → AreKept all self.old → AreKept all self.new }
     {
-        if self.list.len() < self.room {
+        if self.list.len() < self.due {
             return;
         }
         shorten(&mut self.list, machine);
@@ -106,11 +120,13 @@ impl KeptMeanings {
     }
 
     /// Keeps what the lexeme of this index means, if a production can refer to it.
-    pub(crate) fn keep(&mut self, index: usize, meaning: Meaning) -> Mem<()>
+    pub(crate) fn keep(&mut self, index: usize, symbol: Symbol, meaning: Meaning) -> Mem<()>
         ensures { OnOk result (entries self.new
             ≡ with_meaning (is_referred_to meaning) index meaning (entries self.old)) }
     {
-        if is_referred_to(&meaning) {
+        let is_kept = is_referred_to(&meaning);
+        self.due = due(self.room, symbol, is_kept);
+        if is_kept {
             self.list.push(Kept { index, meaning })?;
         }
         Ok(())

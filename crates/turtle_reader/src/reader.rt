@@ -135,7 +135,7 @@ impl Reader {
             return Err(NoMemory);
         };
         self.context.advance(alloc, symbol, &meaning)?;
-        self.kept.keep(index, meaning)?;
+        self.kept.keep(index, symbol, meaning)?;
         self.read = read;
         Ok(())
     }
