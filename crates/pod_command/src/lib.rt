@@ -1,7 +1,8 @@
 //! What a pod is made of, and what a change of it is.
 //!
 //! ```text
-//! let row = Row { path, kind: Kind::Graph, content: Content::Graph(graph), modified };
+//! let content = Content::Graph(StoredGraph::new(alloc, graph));
+//! let row = Row { path, kind: Kind::Graph, content, modified };
 //! let edits = List::from_vec(edits);                        // `Edit::Put(row)`, ..
 //! let entry = Entry { seq, conn, number, agent, moment, method, path, edits, bases };
 //! let again = entry.copy(alloc)?;                           // shares texts and bytes
@@ -21,6 +22,7 @@ mod edit;
 mod entry;
 mod row;
 mod snapshot;
+mod stored_graph;
 
 pub use basis::{Basis, Who};
 pub use edit::Edit;
@@ -28,3 +30,4 @@ pub use entry::Entry;
 pub use row::{Content, Kind, Row};
 pub use snapshot::Snapshot;
 pub use stored_bytes::StoredBytes;
+pub use stored_graph::{GraphText, StoredGraph};

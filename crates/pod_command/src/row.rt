@@ -1,9 +1,9 @@
 //! Rows: the resources of a pod.
 ghost use Rattle.std.specs.Prelude.{◌≡◌, IfOk};
 
+use crate::stored_graph::StoredGraph;
 use pod_base::{Mem, Moment, Text};
 use pod_path::Path;
-use rdf_graph::Graph;
 use std::alloc::Global;
 use stored_bytes::StoredBytes;
 
@@ -22,10 +22,11 @@ pub enum Kind {
     Meta,
 }
 
-/// What a row holds: triples, or bytes and their media type. Bytes keep the digest of their tag.
+/// What a row holds: triples, or bytes and their media type. Triples keep their text in Turtle with
+/// the digest of its tag, and bytes the digest of theirs.
 #[derive(Debug, Drop)]
 pub enum Content {
-    Graph(Graph),
+    Graph(StoredGraph),
     Bytes { ctype: Text, bytes: StoredBytes },
 }
 

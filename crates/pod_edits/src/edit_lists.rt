@@ -9,7 +9,7 @@ ghost use Rattle.pod_edits.specs.Places.{IsPlaceOf};
 
 use crate::new_row_place::Place;
 use pod_base::{List, Mem, Moment};
-use pod_command::{Content, Edit, Kind, Row};
+use pod_command::{Content, Edit, Kind, Row, StoredGraph};
 use pod_path::Path;
 use pod_rows::PodState;
 use rdf_graph::{Change, Graph};
@@ -22,7 +22,7 @@ fn container_row(alloc: Global, path: &Path, modified: Moment) -> Mem<Row>
     Ok(Row {
         path: path.copy(alloc)?,
         kind: Kind::Container,
-        content: Content::Graph(Graph::new(alloc)),
+        content: Content::Graph(StoredGraph::new(alloc, Graph::new(alloc))),
         modified,
     })
 }

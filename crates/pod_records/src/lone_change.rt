@@ -23,7 +23,7 @@ fn has_removed(content: &Content, change: &Change) -> bool
     ensures { result ≡ has_removed change.now content.now }
 {
     match content {
-        Content::Graph(graph) => change.fits(graph),
+        Content::Graph(stored) => change.fits(stored.graph()),
         Content::Bytes { ctype: _, bytes: _ } => false,
     }
 }

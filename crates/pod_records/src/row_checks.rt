@@ -144,10 +144,10 @@ fn guards_content<S: PodState>(state: &S, content: &Content) -> bool
     ensures { result ≡ guards_content (S.pod state.now) content.now }
 {
     match content {
-        Content::Graph(graph) => guards(
+        Content::Graph(stored) => guards(
             state.base().as_str(),
             state.owner().as_str(),
-            graph.as_slice(),
+            stored.graph().as_slice(),
         ),
         Content::Bytes { ctype: _, bytes: _ } => false,
     }

@@ -14,7 +14,7 @@ use crate::shared_refusals::{refuse_condition, refuse_place};
 use crate::stop::{Rank, Stop, refuse_if};
 use patch_outcome::{PatchRefusal, outcome, update_outcome};
 use pod_base::{List, Mem};
-use pod_command::{Basis, Content, Row};
+use pod_command::{Basis, Content, Row, StoredGraph};
 use pod_edits::{Place, breaks_guard, change as change_edits, is_bytes, is_root_list};
 use pod_path::Path;
 use pod_responses::{changed, refusal};
@@ -54,7 +54,7 @@ fn patched_graph<'a>(row: Option<&'a Row>, empty: &'a Graph) -> &'a Graph
 {
     match row {
         Some(row) => match &row.content {
-            Content::Graph(graph) => graph,
+            Content::Graph(stored) => stored.graph(),
             Content::Bytes { ctype: _, bytes: _ } => empty,
         },
         None => empty,
@@ -136,7 +136,8 @@ fn reply_by<S: PodState>(
             match place {
                 Some(place) => {
                     let graph = graph_after_change(alloc, &Graph::new(alloc), &change)?;
-                    make(context, Some(place), bases, Content::Graph(graph))
+                    let content = Content::Graph(StoredGraph::new(alloc, graph));
+                    make(context, Some(place), bases, content)
                 }
                 None => {
                     let (path, modified) = (context.path.copy(alloc)?, context.origin.stamp.moment);

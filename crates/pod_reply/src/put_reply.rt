@@ -39,7 +39,7 @@ pub(crate) fn triples_in(content: &Content) -> &[Triple]
     ensures { result.now ≡ triples_in content.now }
 {
     match content {
-        Content::Graph(graph) => graph.as_slice(),
+        Content::Graph(stored) => stored.graph().as_slice(),
         Content::Bytes { ctype: _, bytes: _ } => &[],
     }
 }

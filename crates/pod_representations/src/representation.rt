@@ -1,16 +1,19 @@
 //! [`Shown`]: the representation of a row.
 
 ghost use Rattle.std.specs.Prelude.{◌≡◌, IfOk, true, false};
+ghost use Rattle.pod_command.specs.GraphTexts.{IsTextOf, turtle_digest};
 ghost use Rattle.pod_rows.specs.WellFormed.{is_container_kind};
 ghost use Rattle.pod_representations.specs.Representations as spec;
+ghost use Rattle.pod_representations.specs.declared.row_offers.Media.TheVariants.{Turtle};
 
 use crate::row_offers::Media;
 use conditional_req::{Tag, tag_of, tag_of_digest};
 use pod_base::{Bytes, Mem, Moment, Text};
-use pod_command::{Content, Kind, Row, StoredBytes};
+use pod_command::{Content, GraphText, Kind, Row, StoredBytes, StoredGraph};
 use pod_rows::{PodState, container_view};
 use rdf_graph::Graph;
 use std::alloc::Global;
+use stored_bytes::digest_of;
 
 /// A representation of a row.
 #[derive(Debug, Drop)]
@@ -57,15 +60,18 @@ fn graph_mark(media: Media) -> u8
     }
 }
 
-/// The body of a graph's representation: its text.
-#[tactic(auto, unfolding(crate::specs::Representations::graph_body))]
-fn graph_body(alloc: Global, graph: &Graph, media: Media) -> Mem<Bytes>
-    ensures { IfOk result (λ body. body ≡ spec.graph_body media graph.now) }
+/// The text in Turtle of what is shown of a stored graph, with its digest. They are made once.
+fn turtle_of(alloc: Global, stored: &StoredGraph, graph: &Graph) -> Mem<GraphText>
+    ensures { IfOk result (IsTextOf graph.now) }
 {
-    match media {
-        Media::JsonLd => jsonld_expanded::write(alloc, graph),
-        Media::Turtle | Media::Stored => turtle_text::write(alloc, graph),
+    if let Some(shown) = stored.kept_text(alloc, graph) {
+        return Ok(shown);
     }
+    let text = turtle_text::write(alloc, graph)?;
+    let digest = digest_of("text/turtle", text.as_slice());
+    let shown = GraphText { text, digest };
+    stored.keep_text(alloc, graph, &shown);
+    Ok(shown)
 }
 
 /// The entity tag of a representation, by its type, its body and a mark.
@@ -76,19 +82,52 @@ fn tag(ctype: &str, body: &[u8], mark: u8) -> Tag
     tag_of(ctype, body, mark)
 }
 
-/// The entity tag of a graph's representation with this text.
-fn body_tag(media: Media, body: &[u8]) -> Tag
-    ensures { result ≡ spec.tag (spec.graph_type media) body.now (spec.graph_mark media) }
+/// The entity tag of a graph's representation in Turtle, by its digest.
+#[tactic(auto, unfolding(crate::specs::Representations::tag))]
+fn turtle_tag(shown: &GraphText) -> Tag
+    requires { shown.now.digest ≡ turtle_digest shown.now.text }
+    ensures { result ≡ spec.tag (spec.graph_type Turtle) shown.now.text (spec.graph_mark Turtle) }
 {
-    tag(graph_type(media), body, graph_mark(media))
+    tag_of_digest(&shown.digest, graph_mark(Media::Turtle))
+}
+
+/// The body and the entity tag of a graph's representation in a type. Those in Turtle are kept with
+/// the stored graph.
+#[tactic(auto, unfolding(crate::specs::Representations::graph_body))]
+fn graph_parts(
+    alloc: Global,
+    stored: &StoredGraph,
+    graph: &Graph,
+    media: Media,
+) -> Mem<(Bytes, Tag)>
+    ensures body { IfOk result (λ parts. parts.0 ≡ spec.graph_body media graph.now) }
+    ensures tag { IfOk result (λ parts. parts.1 ≡ spec.graph_tag media graph.now) }
+{
+    match media {
+        Media::JsonLd => {
+            let body = jsonld_expanded::write(alloc, graph)?;
+            let tag = tag(graph_type(media), body.as_slice(), graph_mark(media));
+            Ok((body, tag))
+        }
+        Media::Turtle | Media::Stored => {
+            let shown = turtle_of(alloc, stored, graph)?;
+            let tag = turtle_tag(&shown);
+            Ok((shown.text, tag))
+        }
+    }
 }
 
 /// The entity tag of a graph's representation in a type.
-pub(crate) fn graph_tag(alloc: Global, graph: &Graph, media: Media) -> Mem<Tag>
+pub(crate) fn graph_tag(
+    alloc: Global,
+    stored: &StoredGraph,
+    graph: &Graph,
+    media: Media,
+) -> Mem<Tag>
     ensures { IfOk result (λ tag. tag ≡ spec.graph_tag media graph.now) }
 {
-    let body = graph_body(alloc, graph, media)?;
-    Ok(body_tag(media, body.as_slice()))
+    let (_body, tag) = graph_parts(alloc, stored, graph, media)?;
+    Ok(tag)
 }
 
 /// The entity tag of the representation of stored bytes. Their digest is made once.
@@ -100,12 +139,17 @@ pub(crate) fn bytes_tag(alloc: Global, ctype: &Text, bytes: &StoredBytes) -> Tag
 }
 
 /// The representation of a graph in a type.
-fn graph_as(alloc: Global, graph: &Graph, media: Media, modified: Moment) -> Mem<Shown>
+fn graph_as(
+    alloc: Global,
+    stored: &StoredGraph,
+    graph: &Graph,
+    media: Media,
+    modified: Moment,
+) -> Mem<Shown>
     ensures { IfOk result (λ shown. shown ≡ spec.graph_as media graph.now modified) }
 {
-    let body = graph_body(alloc, graph, media)?;
+    let (body, tag) = graph_parts(alloc, stored, graph, media)?;
     let ctype = Text::of(alloc, graph_type(media))?;
-    let tag = body_tag(media, body.as_slice());
     Ok(Shown {
         ctype,
         body,
@@ -135,17 +179,17 @@ fn bytes_as(alloc: Global, ctype: &Text, bytes: &StoredBytes, modified: Moment) 
 ///
 /// A container shows its view, every other graph its own triples. A graph is shown as Turtle
 /// where the type isn't JSON-LD, and bytes as they are stored, whatever the type. Stored bytes
-/// are shared.
+/// are shared, and so is a text in Turtle that was made before.
 pub fn represent<S: PodState>(alloc: Global, state: &S, row: &Row, media: Media) -> Mem<Shown>
     ensures { IfOk result (λ shown. shown ≡ spec.represented (S.pod state.now) row.now media) }
 {
     match &row.content {
-        Content::Graph(graph) => {
+        Content::Graph(stored) => {
             if is_container(row.kind) {
                 let view = container_view(alloc, state, &row.path)?;
-                graph_as(alloc, &view, media, row.modified)
+                graph_as(alloc, stored, &view, media, row.modified)
             } else {
-                graph_as(alloc, graph, media, row.modified)
+                graph_as(alloc, stored, stored.graph(), media, row.modified)
             }
         }
         Content::Bytes { ctype, bytes } => bytes_as(alloc, ctype, bytes, row.modified),

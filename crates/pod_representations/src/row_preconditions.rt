@@ -11,7 +11,7 @@ use crate::representation::{Shown, bytes_tag, graph_tag, is_container};
 use crate::row_offers::Media;
 use conditional_req::{Conditions, Current, Tag, Verdict, judge};
 use pod_base::{Mem, Method, Moment};
-use pod_command::{Content, Row};
+use pod_command::{Content, Row, StoredGraph};
 use pod_rows::{PodState, container_view};
 use rdf_graph::Graph;
 use std::alloc::Global;
@@ -39,6 +39,7 @@ fn judge_graph(
     alloc: Global,
     conditions: &Conditions,
     method: Method,
+    stored: &StoredGraph,
     graph: &Graph,
     modified: Moment,
 ) -> Mem<Verdict>
@@ -46,8 +47,8 @@ fn judge_graph(
         (Some (verdicts.validators
         (shows.graph_tag Turtle graph.now ∷ shows.graph_tag JsonLd graph.now ∷ []) modified.0))) }
 {
-    let turtle = graph_tag(alloc, graph, Media::Turtle)?;
-    let json_ld = graph_tag(alloc, graph, Media::JsonLd)?;
+    let turtle = graph_tag(alloc, stored, graph, Media::Turtle)?;
+    let json_ld = graph_tag(alloc, stored, graph, Media::JsonLd)?;
     Ok(judge_tags(conditions, method, &[turtle, json_ld], modified))
 }
 
@@ -63,12 +64,19 @@ fn judge_offers<S: PodState>(
         (Some (spec.offered_validators (S.pod state.now) row.now))) }
 {
     match &row.content {
-        Content::Graph(graph) => {
+        Content::Graph(stored) => {
             if is_container(row.kind) {
                 let view = container_view(alloc, state, &row.path)?;
-                judge_graph(alloc, conditions, method, &view, row.modified)
+                judge_graph(alloc, conditions, method, stored, &view, row.modified)
             } else {
-                judge_graph(alloc, conditions, method, graph, row.modified)
+                judge_graph(
+                    alloc,
+                    conditions,
+                    method,
+                    stored,
+                    stored.graph(),
+                    row.modified,
+                )
             }
         }
         Content::Bytes { ctype, bytes } => {

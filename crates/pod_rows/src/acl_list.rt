@@ -27,7 +27,7 @@ pub fn rules_in(alloc: Global, base: &Iri, content: &Content) -> Mem<Rules>
     ensures { IfOk result (λ rules. rules.list ≡ rules_in base.now content.now) }
 {
     match content {
-        Content::Graph(graph) => rules_of(alloc, graph, base),
+        Content::Graph(stored) => rules_of(alloc, stored.graph(), base),
         Content::Bytes { ctype: _, bytes: _ } => Ok(Rules {
             list: Items::new(alloc),
         }),

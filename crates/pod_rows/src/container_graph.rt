@@ -47,8 +47,8 @@ fn own_triples(alloc: Global, row: Option<&Row>) -> Mem<List<Triple>>
 {
     match row {
         Some(row) => match &row.content {
-            Content::Graph(graph) => {
-                let copy = graph.copy(alloc)?;
+            Content::Graph(stored) => {
+                let copy = stored.graph().copy(alloc)?;
                 Ok(copy.into_list())
             }
             Content::Bytes { ctype: _, bytes: _ } => Ok(List::new(alloc)),

@@ -8,7 +8,7 @@ ghost use Rattle.pod_rows.specs.FirstPods.{first_pod, root_row, list_row, FirstP
 use crate::owner_rule::owner_graph;
 use iri_ref::Iri;
 use pod_base::{List, Mem, Moment, NoMemory, Text};
-use pod_command::{Content, Kind, Row, Snapshot};
+use pod_command::{Content, Kind, Row, Snapshot, StoredGraph};
 use pod_path::Path;
 use rdf_graph::{Graph, copy_iri};
 use std::alloc::Global;
@@ -31,7 +31,7 @@ fn root_row(alloc: Global, modified: Moment) -> Mem<Row>
     Ok(Row {
         path,
         kind: Kind::Container,
-        content: Content::Graph(Graph::new(alloc)),
+        content: Content::Graph(StoredGraph::new(alloc, Graph::new(alloc))),
         modified,
     })
 }
@@ -45,7 +45,7 @@ fn list_row(alloc: Global, base: &Iri, owner: &Iri, modified: Moment) -> Mem<Row
     Ok(Row {
         path,
         kind: Kind::Acl,
-        content: Content::Graph(graph),
+        content: Content::Graph(StoredGraph::new(alloc, graph)),
         modified,
     })
 }

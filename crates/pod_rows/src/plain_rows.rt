@@ -189,7 +189,7 @@ pub fn states_member(group: &str, agent: &str, row: &Row) -> bool
 {
     match row.kind {
         Kind::Graph => match &row.content {
-            Content::Graph(graph) => graph.has_iris(group, VCARD_HAS_MEMBER, agent),
+            Content::Graph(stored) => stored.graph().has_iris(group, VCARD_HAS_MEMBER, agent),
             Content::Bytes { ctype: _, bytes: _ } => false,
         },
         Kind::Container | Kind::Acl | Kind::Bytes | Kind::Meta => false,

@@ -8,7 +8,7 @@ ghost use Rattle.pod_rows.specs.Pod.{row_at};
 ghost use Rattle.pod_rows.specs.RowLists.{items_if};
 
 use pod_base::{Mem, Moment};
-use pod_command::{Content, Edit, Row};
+use pod_command::{Content, Edit, Row, StoredGraph};
 use pod_path::Path;
 use rdf_graph::{Change, Graph, changed};
 use std::alloc::Global;
@@ -94,9 +94,10 @@ pub fn changed_row(alloc: Global, row: &Row, change: &Change, modified: Moment) 
     ensures { IfOk result (λ new. new
         ≡ changed_row change.now modified row.now row.now.content) }
 {
-    let Content::Graph(graph) = &row.content else {
+    let Content::Graph(stored) = &row.content else {
         return Ok(None);
     };
+    let graph = stored.graph();
     if !change.fits(graph) {
         return Ok(None);
     }
@@ -105,7 +106,7 @@ pub fn changed_row(alloc: Global, row: &Row, change: &Change, modified: Moment) 
     Ok(Some(Row {
         path,
         kind: row.kind,
-        content: Content::Graph(graph),
+        content: Content::Graph(StoredGraph::new(alloc, graph)),
         modified,
     }))
 }

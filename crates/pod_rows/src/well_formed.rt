@@ -180,7 +180,11 @@ pub(crate) fn guards_row(base: &Iri, owner: &Text, row: Option<&Row>) -> bool
 {
     match row {
         Some(row) => match &row.content {
-            Content::Graph(graph) => guards(base.as_str(), owner.as_str(), graph.as_slice()),
+            Content::Graph(stored) => guards(
+                base.as_str(),
+                owner.as_str(),
+                stored.graph().as_slice(),
+            ),
             Content::Bytes { ctype: _, bytes: _ } => false,
         },
         None => false,
@@ -329,7 +333,7 @@ fn lacks_contained(content: &Content) -> bool
     ensures { result ≡ lacks_contained content.now }
 {
     match content {
-        Content::Graph(graph) => lacks_containment(graph.as_slice()),
+        Content::Graph(stored) => lacks_containment(stored.graph().as_slice()),
         Content::Bytes { ctype: _, bytes: _ } => true,
     }
 }

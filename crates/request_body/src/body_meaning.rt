@@ -1,7 +1,9 @@
 //! The reading of a body.
 
 ghost use Rattle.std.specs.Prelude.{◌≡◌, IfOk};
+ghost use Rattle.pod_command.specs.declared.row.Content.TheVariants as contents;
 ghost use Rattle.request_body.specs.Bodies as spec;
+ghost use Rattle.request_body.specs.declared.body.RequestBody.TheVariants as meanings;
 
 use crate::body::RequestBody;
 use crate::fault::BodyFault;
@@ -10,8 +12,9 @@ use iri_ref::Iri;
 use jsonld_expanded::JsonLdFault;
 use n3_patch::{N3Fault, PatchRule};
 use pod_base::{Fields, Mem, NoMemory, Request, Text};
-use pod_command::{Content, StoredBytes};
+use pod_command::{Content, StoredBytes, StoredGraph};
 use pod_path::Path;
+use rdf_graph::Graph;
 use request_fields::content_type;
 use sparql_patch::SparqlFault;
 use std::alloc::Global;
@@ -39,12 +42,19 @@ fn read_opaque(alloc: Global, request: &Request) -> Mem<Outcome>
     Ok(Ok(RequestBody::Content(Content::Bytes { ctype, bytes })))
 }
 
+/// What a body means that is a graph.
+fn graph_meaning(alloc: Global, graph: Graph) -> RequestBody
+    ensures { result ≡ meanings.Content (contents.Graph graph) }
+{
+    RequestBody::Content(Content::Graph(StoredGraph::new(alloc, graph)))
+}
+
 /// What a body of Turtle means: the graph of the document.
 fn read_turtle(alloc: Global, base: &Iri, bytes: &[u8]) -> Mem<Outcome>
     ensures { IfOk result (spec.IsTurtleBody base.now bytes.now) }
 {
     match turtle_text::read(alloc, base, bytes) {
-        Ok(graph) => Ok(Ok(RequestBody::Content(Content::Graph(graph)))),
+        Ok(graph) => Ok(Ok(graph_meaning(alloc, graph))),
         Err(TurtleFault::Bad { at, .. }) => Ok(Err(BodyFault::Syntax { at })),
         Err(TurtleFault::TooLarge { .. }) => Ok(Err(BodyFault::GraphSize)),
         Err(TurtleFault::NoMemory) => Err(NoMemory),
@@ -56,7 +66,7 @@ fn read_json_ld(alloc: Global, base: &Iri, bytes: &[u8]) -> Mem<Outcome>
     ensures { IfOk result (spec.IsJsonLdBody base.now bytes.now) }
 {
     match jsonld_expanded::read(alloc, base, bytes) {
-        Ok(graph) => Ok(Ok(RequestBody::Content(Content::Graph(graph)))),
+        Ok(graph) => Ok(Ok(graph_meaning(alloc, graph))),
         Err(JsonLdFault::NotJson) => Ok(Err(BodyFault::Json)),
         Err(JsonLdFault::OutOfProfile) => Ok(Err(BodyFault::Json)),
         Err(JsonLdFault::TooLarge) => Ok(Err(BodyFault::GraphSize)),

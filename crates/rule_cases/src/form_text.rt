@@ -35,7 +35,7 @@ fn push_row(alloc: Global, out: &mut String, row: &Row) -> Result<(), AllocError
     let kind = kind_word(row.kind);
     write!(out, "{} {kind} {} ", row.path.as_str(), row.modified.0)?;
     match &row.content {
-        Content::Graph(graph) => push_graph(alloc, out, graph),
+        Content::Graph(stored) => push_graph(alloc, out, stored.graph()),
         Content::Bytes { ctype, bytes } => push_bytes(alloc, out, ctype.as_str(), bytes.bytes()),
     }
 }

@@ -16,8 +16,8 @@ pub(crate) fn yes_or_no(alloc: Global, holds: bool) -> Mem<String> {
 /// A content: the text of its graph, or its media type and its bytes.
 fn content_text(alloc: Global, content: &Content) -> Mem<String> {
     match content {
-        Content::Graph(graph) => {
-            let text = write(alloc, graph)?;
+        Content::Graph(stored) => {
+            let text = write(alloc, stored.graph())?;
             Ok(shown_whole(alloc, text.as_slice())?)
         }
         Content::Bytes { ctype, bytes } => {

@@ -5,7 +5,7 @@
 
 use case_words::{first_word, number_of, path_or_root, pod_graph, text};
 use pod_base::{Bytes, Mem, Moment, Text};
-use pod_command::{Content, Kind, Row, StoredBytes};
+use pod_command::{Content, Kind, Row, StoredBytes, StoredGraph};
 use rdf_graph::Graph;
 use std::alloc::Global;
 
@@ -54,7 +54,10 @@ fn content_of(alloc: Global, content: &str) -> Mem<Content> {
             let bytes = StoredBytes::new(alloc, Bytes::of(alloc, rest.as_bytes())?);
             Ok(Content::Bytes { ctype, bytes })
         }
-        None => Ok(Content::Graph(graph_of(alloc, content)?)),
+        None => {
+            let graph = graph_of(alloc, content)?;
+            Ok(Content::Graph(StoredGraph::new(alloc, graph)))
+        }
     }
 }
 

@@ -34,7 +34,7 @@ fn effective_text(alloc: Global, found: &Effective<'_>) -> Mem<String> {
 fn row_text(alloc: Global, row: &Row) -> Mem<String> {
     let kind = kind_word(row.kind);
     let size = match &row.content {
-        Content::Graph(graph) => graph.as_slice().len(),
+        Content::Graph(stored) => stored.graph().as_slice().len(),
         Content::Bytes { ctype: _, bytes } => bytes.as_slice().len(),
     };
     let moment = row.modified.0;

@@ -16,7 +16,7 @@ use crate::primitive_writing::{
 };
 use crate::read_back::ReadBack;
 use pod_base::{Mem, Moment};
-use pod_command::{Content, Kind, Row};
+use pod_command::{Content, Kind, Row, StoredGraph};
 use std::alloc::Global;
 use stored_bytes::StoredBytes;
 
@@ -64,7 +64,7 @@ fn put_content(out: &mut Vec<u8>, content: &Content) -> Mem<()>
     ensures storable { OnOk result (IsStorableContent content.now) }
 {
     match content {
-        Content::Graph(graph) => put_graph(out, graph),
+        Content::Graph(stored) => put_graph(out, stored.graph()),
         Content::Bytes { ctype, bytes } => {
             put_text(out, ctype)?;
             put_piece(out, bytes.as_slice())
@@ -78,7 +78,7 @@ fn content_size(content: &Content) -> u64
     ensures { result ≡ saturated (length (content_bytes content.now)) }
 {
     match content {
-        Content::Graph(graph) => graph_size(graph),
+        Content::Graph(stored) => graph_size(stored.graph()),
         Content::Bytes { ctype, bytes } => {
             let ctype = piece_size(ctype.as_str().as_bytes());
             plus(ctype, piece_size(bytes.as_slice()))
@@ -102,7 +102,7 @@ fn graph_content(alloc: Global, bytes: &[u8]) -> Result<(Content, &[u8]), ReadBa
     ensures { Gives (λ x. (x.0, x.1.now)) result (graph_content_at bytes.now) }
 {
     let (graph, rest) = graph_of(alloc, bytes)?;
-    Ok((Content::Graph(graph), rest))
+    Ok((Content::Graph(StoredGraph::new(alloc, graph)), rest))
 }
 
 /// Reads bytes and their type as a row's content, from its stored form.

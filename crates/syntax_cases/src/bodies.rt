@@ -37,7 +37,11 @@ fn bytes_text(alloc: Global, ctype: &Text, bytes: &Bytes) -> Mem<String> {
 
 fn content_text(alloc: Global, content: &Content) -> Mem<String> {
     match content {
-        Content::Graph(graph) => labelled(alloc, "graph", triples_text(alloc, graph.as_slice())),
+        Content::Graph(stored) => labelled(
+            alloc,
+            "graph",
+            triples_text(alloc, stored.graph().as_slice()),
+        ),
         Content::Bytes { ctype, bytes } => bytes_text(alloc, ctype, bytes.bytes()),
     }
 }

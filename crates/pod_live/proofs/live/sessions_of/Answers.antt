@@ -8,8 +8,8 @@ pub loop-looker-preserved : goal.loop-looker-preserved
 loop-looker-preserved g c =
     let opening = g.N.ViewName.opening in
     let session : Visit = c.of-session.result in
-    let grown : c.push.new.self.items ≡ c.loop-looker.sessions.items ++ session ∷ [] = search (c.push.ensures, c.pop.ensures, rules) in
-    let shrunk : c.loop-looker.lookers.items ≡ c.pop.new.self.items ++ c.in-Some.looker ∷ [] = search (c.push.ensures, c.pop.ensures, rules) in
+    let grown : c.push.new.self.items ≡ c.loop-looker.sessions.items ++ session ∷ [] = search (c.push.ensures.items, c.is_err.ensures.negation, c.if-is_err.false, rules) in
+    let shrunk : c.loop-looker.lookers.items ≡ c.pop.new.self.items ++ c.in-Some.looker ∷ [] = search (c.pop.ensures.items, c.in-Some.is, rules) in
     let more = length-append c.loop-looker.sessions.items (session ∷ []) in
     let less = length-append c.pop.new.self.items (c.in-Some.looker ∷ []) in
     let popped = All-pop (IsNewLooker opening) c.loop-looker.lookers.items c.pop.new.self.items (Some c.in-Some.looker) shrunk c.loop-looker.invariant.lookers in

@@ -12,15 +12,15 @@ returns-in_ok-view-in-Graph g c =
     let view = c.in_ok-view-in-Graph.view in
     let shows : graph_shown pod c.args.row.now ≡ view = container_graph pod c.args.row.now (sym c.is_container.ensures ∙ c.if-is_container.true) ∙ sym c.in_ok-view-in-Graph.ensures in
     subst (λ (tags : List Tag). IfOk c.judge_graph.result (λ v. v ≡ verdict c.args.conditions.now c.args.method (Some (validators tags c.args.row.now.modified.0))))
-    (sym (graph_tags pod c.args.row.now c.in-Graph.graph view c.in-Graph.is shows)) c.judge_graph.ensures
+    (sym (graph_tags pod c.args.row.now c.in-Graph.stored view c.in-Graph.is shows)) c.judge_graph.ensures
 
 pub returns-else-is_container : goal.returns-else-is_container
 returns-else-is_container g c =
     let pod = g.S.PodState.pod c.args.state.now in
-    let own = c.in-Graph.graph in
-    let shows : graph_shown pod c.args.row.now ≡ own = own_graph pod c.args.row.now (sym c.is_container.ensures ∙ c.if-is_container.false) ∙ ap triples_in c.in-Graph.is in
+    let own = c.graph.result.now in
+    let shows : graph_shown pod c.args.row.now ≡ own = own_graph pod c.args.row.now (sym c.is_container.ensures ∙ c.if-is_container.false) ∙ ap triples_in c.in-Graph.is ∙ sym c.graph.ensures in
     subst (λ (tags : List Tag). IfOk c.judge_graph-else-is_container.result (λ v. v ≡ verdict c.args.conditions.now c.args.method (Some (validators tags c.args.row.now.modified.0))))
-    (sym (graph_tags pod c.args.row.now own own c.in-Graph.is shows)) c.judge_graph-else-is_container.ensures
+    (sym (graph_tags pod c.args.row.now c.in-Graph.stored own c.in-Graph.is shows)) c.judge_graph-else-is_container.ensures
 
 pub returns-in-Bytes : goal.returns-in-Bytes
 returns-in-Bytes g c =
