@@ -5,8 +5,6 @@ ghost use Rattle.hex.specs.Hex.{encode_lower};
 ghost use Rattle.stored_bytes.specs.Digests as digests;
 ghost use Rattle.conditional_req.specs.Tags as spec;
 
-use stored_bytes::digest_of;
-
 /// How many bytes of the digest a tag has.
 pub const TAG_DIGEST_LEN: usize = 16;
 
@@ -25,18 +23,11 @@ fn digits_of(digest: &[u8; 32]) -> [u8; 32]
     }
 }
 
-/// The strong entity tag of a representation: the first 16 bytes of SHA-256 of its content type, a
-/// zero byte and its body, as 32 lower-case hexadecimal digits, then a dash and the mark.
+/// The strong entity tag of a representation, by SHA-256 of its content type, a zero byte and its
+/// body: the digest's first 16 bytes as 32 lower-case hexadecimal digits, then a dash and the mark.
 ///
 /// The mark says of which kind the representation is (`t`, `j` or `b`).
-pub fn tag_of(ctype: &str, body: &[u8], mark: u8) -> Tag
-    ensures { result.0 ≡ spec.tag_text ctype.now body.now mark }
-{
-    tag_of_digest(&digest_of(ctype, body), mark)
-}
-
-/// The tag of a representation, as [`tag_of`] has it, by the digest of its content type and body.
-pub fn tag_of_digest(digest: &[u8; 32], mark: u8) -> Tag
+pub fn tag_of(digest: &[u8; 32], mark: u8) -> Tag
     ensures { (ctype body : List ℕ) → digest.now ≡ digests.digest_of ctype body
         → result.0 ≡ spec.tag_text ctype body mark }
 {

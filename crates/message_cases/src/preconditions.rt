@@ -5,6 +5,7 @@ use case_words::{bytes, known, method_of, number_of, shown};
 use conditional_req::{Conditions, Current, Tag, judge, read_conditions, tag_of};
 use pod_base::{Bytes, Field, Fields, Mem, Method, Moment};
 use std::alloc::{AllocError, Global};
+use stored_bytes::digest_of;
 
 /// The tag of a representation.
 pub(crate) fn tag(
@@ -15,7 +16,12 @@ pub(crate) fn tag(
 ) -> Result<String, AllocError> {
     let body = bytes(alloc, body)?;
     let mark = mark.as_bytes().first().copied().unwrap_or(b'?');
-    shown(alloc, tag_of(ctype, body.as_slice(), mark).0.as_slice())
+    shown(
+        alloc,
+        tag_of(&digest_of(ctype, body.as_slice()), mark)
+            .0
+            .as_slice(),
+    )
 }
 
 /// The tag of 32 zeros with a mark.

@@ -6,12 +6,13 @@ use http_out::date_of;
 use pod_base::{Body, Bytes, Mem, Moment, Response, Rope};
 use pod_responses::{Representation, not_modified, partial, shown as shown_response, upgraded};
 use std::alloc::{AllocError, Global};
+use stored_bytes::digest_of;
 
 const CHANGED: Moment = Moment(784_111_777);
 
 /// The tag of the bytes `hello`.
 fn tag() -> Tag {
-    tag_of("text/plain", b"hello", b'b')
+    tag_of(&digest_of("text/plain", b"hello"), b'b')
 }
 
 fn representation(alloc: Global, ctype: &str, ranges: bool) -> Mem<Representation> {

@@ -1,8 +1,9 @@
-//! [`StoredGraph`]: a graph that keeps its text in Turtle.
+//! [`StoredGraph`]: a graph that keeps its text in each type.
 ghost use Rattle.std.specs.Prelude.{◌≡◌, IfOk, IfSome, IsTrue};
-ghost use Rattle.rdf_graph.specs.Graph.{graph_text};
-ghost use Rattle.pod_command.specs.GraphTexts.{IsTextOf, turtle_digest};
+ghost use Rattle.stored_bytes.specs.Digests.{digest_of};
+ghost use Rattle.pod_command.specs.GraphTexts.{IsTextOf, text_in, type_name};
 
+use crate::graph_type::GraphType;
 use once_cell::race::OnceBox;
 use pod_base::{Bytes, Mem};
 use rdf_graph::{Graph, Triple};
@@ -10,7 +11,7 @@ use std::alloc::Global;
 use std::fmt;
 use std::marker::Model;
 
-/// A graph's text in Turtle, and the digest of that representation: of its content type and of the
+/// A graph's text in a type, and the digest of that representation: of the type's name and of the
 /// text.
 #[derive(Debug, Drop)]
 pub struct GraphText {
@@ -18,17 +19,18 @@ pub struct GraphText {
     pub digest: [u8; 32],
 }
 
-/// A text of a graph that is kept, and which graph that is.
+/// A text of a graph that is kept, and of which graph and in which type it is.
 #[derive(Drop)]
 struct Kept {
     graph: Graph,
+    media: GraphType,
     text: Bytes,
     digest: [u8; 32],
-    ghost is_text: { text ≡ graph_text graph },
-    ghost is_digest: { digest ≡ turtle_digest text },
+    ghost is_text: { text ≡ text_in media graph },
+    ghost is_digest: { digest ≡ digest_of (type_name media) text },
 }
 
-/// A cell for the text of a graph, which the first reader fills. Contracts see nothing of it.
+/// A cell for a text of a graph, which the first reader fills. Contracts see nothing of it.
 #[derive(Drop)]
 struct TextCell {
     cell: OnceBox<Kept>,
@@ -72,12 +74,12 @@ impl TextCell {
         }
     }
 
-    /// The text of a graph, where the cell has it.
-    fn text_of(&self, alloc: Global, graph: &Graph) -> Option<GraphText>
-        ensures { IfSome result (IsTextOf graph.now) }
+    /// The text of a graph in a type, where the cell has it.
+    fn text_of(&self, alloc: Global, media: GraphType, graph: &Graph) -> Option<GraphText>
+        ensures { IfSome result (IsTextOf media graph.now) }
     {
         let kept = self.cell.get()?;
-        if !is_same(kept.graph.as_slice(), graph.as_slice()) {
+        if kept.media != media || !is_same(kept.graph.as_slice(), graph.as_slice()) {
             return None;
         }
         match kept.text.copy(alloc) {
@@ -89,12 +91,13 @@ impl TextCell {
         }
     }
 
-    /// Keeps the text of a graph in the cell, where none is kept.
-    fn keep(&self, alloc: Global, graph: &Graph, shown: &GraphText) -> Mem<()>
-        requires { IsTextOf graph.now shown.now }
+    /// Keeps the text of a graph in a type in the cell, where none is kept.
+    fn keep(&self, alloc: Global, media: GraphType, graph: &Graph, shown: &GraphText) -> Mem<()>
+        requires { IsTextOf media graph.now shown.now }
     {
         let kept = Kept {
             graph: graph.copy(alloc)?,
+            media,
             text: shown.text.copy(alloc)?,
             digest: shown.digest,
         };
@@ -105,13 +108,14 @@ impl TextCell {
     }
 }
 
-/// A graph that keeps the text of what is shown of it, from the first time on that this is made. A
-/// container is shown with its members, so that graph is given each time. Contracts see the
-/// triples.
+/// A graph that keeps the text of what is shown of it in each type, from the first time on that
+/// this is made. A container is shown with its members, so that graph is given each time. Contracts
+/// see the triples.
 #[derive(Drop)]
 pub struct StoredGraph {
     graph: Graph,
-    cell: TextCell,
+    turtle: TextCell,
+    json_ld: TextCell,
 }
 
 impl Model for StoredGraph {
@@ -124,24 +128,25 @@ impl Model for StoredGraph {
 }
 
 impl StoredGraph {
-    /// A stored graph without a text yet. It takes no memory.
+    /// A stored graph without texts yet. It takes no memory.
     pub fn new(alloc: Global, graph: Graph) -> StoredGraph
         ensures { result ≡ graph }
     {
         StoredGraph {
             graph,
-            cell: TextCell::new(alloc),
+            turtle: TextCell::new(alloc),
+            json_ld: TextCell::new(alloc),
         }
     }
 
-    /// The stored graph without its text.
+    /// The stored graph without its texts.
     pub fn graph(&self) -> &Graph
         ensures { result.now ≡ self.now }
     {
         &self.graph
     }
 
-    /// An equal stored graph. Its text is made anew.
+    /// An equal stored graph. Its texts are made anew.
     pub fn copy(&self, alloc: Global) -> Mem<StoredGraph>
         ensures { IfOk result (λ copy. copy ≡ self.now) }
     {
@@ -149,18 +154,27 @@ impl StoredGraph {
         Ok(StoredGraph::new(alloc, graph))
     }
 
-    /// The text of what is shown of the stored graph, where it is kept.
-    pub fn kept_text(&self, alloc: Global, shown: &Graph) -> Option<GraphText>
-        ensures { IfSome result (IsTextOf shown.now) }
-    {
-        self.cell.text_of(alloc, shown)
+    /// The cell for the text in a type.
+    fn cell(&self, media: GraphType) -> &TextCell {
+        match media {
+            GraphType::Turtle => &self.turtle,
+            GraphType::JsonLd => &self.json_ld,
+        }
     }
 
-    /// Keeps the text of what is shown of the stored graph, where there is memory and none is kept.
-    pub fn keep_text(&self, alloc: Global, shown: &Graph, text: &GraphText)
-        requires { IsTextOf shown.now text.now }
+    /// The text in a type of what is shown of the stored graph, where it is kept.
+    pub fn kept_text(&self, alloc: Global, media: GraphType, shown: &Graph) -> Option<GraphText>
+        ensures { IfSome result (IsTextOf media shown.now) }
     {
-        let _kept = self.cell.keep(alloc, shown, text);
+        self.cell(media).text_of(alloc, media, shown)
+    }
+
+    /// Keeps the text in a type of what is shown of the stored graph, where there is memory and none
+    /// in that type is kept.
+    pub fn keep_text(&self, alloc: Global, media: GraphType, shown: &Graph, text: &GraphText)
+        requires { IsTextOf media shown.now text.now }
+    {
+        let _kept = self.cell(media).keep(alloc, media, shown, text);
     }
 }
 

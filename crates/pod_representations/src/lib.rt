@@ -17,8 +17,8 @@
 //! `specs/Preconditions.antt`; and [`show`] is the response of `specs/ReadResponses.antt`: 200,
 //! 206 of one part or several, or 416. [`laws`] says which part of a pod all of this depends on.
 //!
-//! It depends on `pod_rows` for a container's view, on `turtle_text` and `jsonld_write` for the
-//! texts of graphs, on `content_nego`, `conditional_req`, `range_req` and `request_fields` for the
+//! It depends on `pod_rows` for a container's view, on `turtle_text` and `jsonld_expanded` for
+//! the texts of graphs, on `content_nego`, `conditional_req`, `range_req` and `request_fields` for the
 //! fields of a request, and on `pod_responses` for the fields of responses.
 #![tactic(auto)]
 

@@ -1,15 +1,15 @@
 //! [`Shown`]: the representation of a row.
 
 ghost use Rattle.std.specs.Prelude.{◌≡◌, IfOk, true, false};
-ghost use Rattle.pod_command.specs.GraphTexts.{IsTextOf, turtle_digest};
+ghost use Rattle.stored_bytes.specs.Digests.{digest_of};
+ghost use Rattle.pod_command.specs.GraphTexts.{IsTextOf, text_in, type_name};
 ghost use Rattle.pod_rows.specs.WellFormed.{is_container_kind};
 ghost use Rattle.pod_representations.specs.Representations as spec;
-ghost use Rattle.pod_representations.specs.declared.row_offers.Media.TheVariants.{Turtle};
 
 use crate::row_offers::Media;
-use conditional_req::{Tag, tag_of, tag_of_digest};
+use conditional_req::{Tag, tag_of};
 use pod_base::{Bytes, Mem, Moment, Text};
-use pod_command::{Content, GraphText, Kind, Row, StoredBytes, StoredGraph};
+use pod_command::{Content, GraphText, GraphType, Kind, Row, StoredBytes, StoredGraph};
 use pod_rows::{PodState, container_view};
 use rdf_graph::Graph;
 use std::alloc::Global;
@@ -40,60 +40,70 @@ pub(crate) fn is_container(kind: Kind) -> bool
     }
 }
 
-/// The content type of a graph's representation.
-fn graph_type(media: Media) -> &'static str
-    ensures { result.now ≡ spec.graph_type media }
+/// The type in which a graph is shown: JSON-LD where that is asked for, else Turtle.
+fn graph_type(media: Media) -> GraphType
+    ensures { type_name result ≡ spec.graph_type media }
 {
     match media {
-        Media::JsonLd => "application/ld+json",
-        Media::Turtle | Media::Stored => "text/turtle",
+        Media::JsonLd => GraphType::JsonLd,
+        Media::Turtle | Media::Stored => GraphType::Turtle,
     }
 }
 
-/// The mark in the entity tag of a graph's representation.
-fn graph_mark(media: Media) -> u8
-    ensures { result ≡ spec.graph_mark media }
+/// The text of a graph in a type.
+#[tactic(auto, unfolding(pod_command::specs::GraphTexts::text_in))]
+fn written(alloc: Global, graph: &Graph, media: GraphType) -> Mem<Bytes>
+    ensures { IfOk result (λ text. text ≡ text_in media graph.now) }
 {
     match media {
-        Media::JsonLd => b'j',
-        Media::Turtle | Media::Stored => b't',
+        GraphType::Turtle => turtle_text::write(alloc, graph),
+        GraphType::JsonLd => jsonld_expanded::write(alloc, graph),
     }
 }
 
-/// The text in Turtle of what is shown of a stored graph, with its digest. They are made once.
-fn turtle_of(alloc: Global, stored: &StoredGraph, graph: &Graph) -> Mem<GraphText>
-    ensures { IfOk result (IsTextOf graph.now) }
+/// The text in a type of what is shown of a stored graph, with its digest. They are made once.
+fn text_of(alloc: Global, stored: &StoredGraph, graph: &Graph, media: GraphType) -> Mem<GraphText>
+    ensures { IfOk result (IsTextOf media graph.now) }
 {
-    if let Some(shown) = stored.kept_text(alloc, graph) {
+    if let Some(shown) = stored.kept_text(alloc, media, graph) {
         return Ok(shown);
     }
-    let text = turtle_text::write(alloc, graph)?;
-    let digest = digest_of("text/turtle", text.as_slice());
+    let text = written(alloc, graph, media)?;
+    let digest = digest_of(media.name(), text.as_slice());
     let shown = GraphText { text, digest };
-    stored.keep_text(alloc, graph, &shown);
+    stored.keep_text(alloc, media, graph, &shown);
     Ok(shown)
 }
 
-/// The entity tag of a representation, by its type, its body and a mark.
+/// The entity tag of a graph's representation in a type, by its digest and a mark.
 #[tactic(auto, unfolding(crate::specs::Representations::tag))]
-fn tag(ctype: &str, body: &[u8], mark: u8) -> Tag
-    ensures { result ≡ spec.tag ctype.now body.now mark }
+fn tag_by_digest(shown: &GraphText, media: GraphType, mark: u8) -> Tag
+    requires { shown.now.digest ≡ digest_of (type_name media) shown.now.text }
+    ensures { result ≡ spec.tag (type_name media) shown.now.text mark }
 {
-    tag_of(ctype, body, mark)
+    tag_of(&shown.digest, mark)
 }
 
-/// The entity tag of a graph's representation in Turtle, by its digest.
-#[tactic(auto, unfolding(crate::specs::Representations::tag))]
-fn turtle_tag(shown: &GraphText) -> Tag
-    requires { shown.now.digest ≡ turtle_digest shown.now.text }
-    ensures { result ≡ spec.tag (spec.graph_type Turtle) shown.now.text (spec.graph_mark Turtle) }
+/// The body of a graph's representation in a type, and its entity tag with a mark.
+fn marked_parts(
+    alloc: Global,
+    stored: &StoredGraph,
+    graph: &Graph,
+    media: GraphType,
+    mark: u8,
+) -> Mem<(Bytes, Tag)>
+    ensures body { IfOk result (λ parts. parts.0 ≡ text_in media graph.now) }
+    ensures tag { IfOk result (λ parts. parts.1
+        ≡ spec.tag (type_name media) (text_in media graph.now) mark) }
 {
-    tag_of_digest(&shown.digest, graph_mark(Media::Turtle))
+    let shown = text_of(alloc, stored, graph, media)?;
+    let tag = tag_by_digest(&shown, media, mark);
+    Ok((shown.text, tag))
 }
 
-/// The body and the entity tag of a graph's representation in a type. Those in Turtle are kept with
-/// the stored graph.
-#[tactic(auto, unfolding(crate::specs::Representations::graph_body))]
+/// The body and the entity tag of a graph's representation in a type: Turtle where that isn't
+/// JSON-LD. They are kept with the stored graph.
+#[tactic(auto, unfolding(crate::specs::Representations::graph_body, pod_command::specs::GraphTexts::text_in))]
 fn graph_parts(
     alloc: Global,
     stored: &StoredGraph,
@@ -104,15 +114,9 @@ fn graph_parts(
     ensures tag { IfOk result (λ parts. parts.1 ≡ spec.graph_tag media graph.now) }
 {
     match media {
-        Media::JsonLd => {
-            let body = jsonld_expanded::write(alloc, graph)?;
-            let tag = tag(graph_type(media), body.as_slice(), graph_mark(media));
-            Ok((body, tag))
-        }
+        Media::JsonLd => marked_parts(alloc, stored, graph, GraphType::JsonLd, b'j'),
         Media::Turtle | Media::Stored => {
-            let shown = turtle_of(alloc, stored, graph)?;
-            let tag = turtle_tag(&shown);
-            Ok((shown.text, tag))
+            marked_parts(alloc, stored, graph, GraphType::Turtle, b't')
         }
     }
 }
@@ -135,7 +139,7 @@ pub(crate) fn graph_tag(
 pub(crate) fn bytes_tag(alloc: Global, ctype: &Text, bytes: &StoredBytes) -> Tag
     ensures { result ≡ spec.bytes_tag ctype.now bytes.now }
 {
-    tag_of_digest(&bytes.digest(alloc, ctype), b'b')
+    tag_of(&bytes.digest(alloc, ctype), b'b')
 }
 
 /// The representation of a graph in a type.
@@ -149,7 +153,7 @@ fn graph_as(
     ensures { IfOk result (λ shown. shown ≡ spec.graph_as media graph.now modified) }
 {
     let (body, tag) = graph_parts(alloc, stored, graph, media)?;
-    let ctype = Text::of(alloc, graph_type(media))?;
+    let ctype = Text::of(alloc, graph_type(media).name())?;
     Ok(Shown {
         ctype,
         body,
@@ -179,7 +183,7 @@ fn bytes_as(alloc: Global, ctype: &Text, bytes: &StoredBytes, modified: Moment) 
 ///
 /// A container shows its view, every other graph its own triples. A graph is shown as Turtle
 /// where the type isn't JSON-LD, and bytes as they are stored, whatever the type. Stored bytes
-/// are shared, and so is a text in Turtle that was made before.
+/// are shared, and so is a text of a graph that was made before.
 pub fn represent<S: PodState>(alloc: Global, state: &S, row: &Row, media: Media) -> Mem<Shown>
     ensures { IfOk result (λ shown. shown ≡ spec.represented (S.pod state.now) row.now media) }
 {
