@@ -17,6 +17,7 @@ use crate::answers::Answers;
 use crate::one_request::{answer_one, clock_moment, flush_before};
 use crate::output::Output;
 use crate::response_writing::{write_out, write_text};
+use crate::setting::Setting;
 use crate::talk_end::TalkEnd;
 use http_conn::REQUEST_LIMIT;
 use http_out::{Out, interim};
@@ -91,14 +92,11 @@ impl Connection {
     /// held back. After the last one, and after a switch of protocols, the connection has ended.
     fn answer_flushed<A: Answers, K: Output, E: Sink, C: Clock>(
         &mut self,
-        alloc: Global,
         answers: &mut A,
         request: &Request,
-        agents: &Agents,
-        trail: bool,
+        setting: &Setting<'_, C>,
         output: &mut K,
         errors: &mut E,
-        clock: &C,
     ) -> Result<(), TalkEnd>
         requires ready { A.ready answers.old }
         requires few { self.old.number < REQUEST_LIMIT }
@@ -111,9 +109,9 @@ impl Connection {
             × ExtendsBy lines (E.taken errors.old) (E.taken errors.new)
             × Turns (record {
               conn = self.old.conn;
-              may_give = C.may_give clock.now;
-              asking = asking_of agents.now;
-              trails = trail;
+              may_give = C.may_give setting.now.clock.now;
+              asking = asking_of setting.now.agents.now;
+              trails = setting.now.trail;
               turns = A.turns;
               passes = A.passes;
             }) answers.old self.old.number answers.new self.new.number
@@ -125,15 +123,13 @@ impl Connection {
     {
         let number = self.number + 1;
         let last = closes_after(request, number);
-        let moment = clock_moment(clock);
+        let moment = clock_moment(setting.clock);
         let stamp = Stamp {
             conn: self.conn,
             number,
             moment,
         };
-        match answer_one(
-            alloc, answers, request, stamp, agents, trail, output, errors,
-        ) {
+        match answer_one(answers, request, stamp, setting, output, errors) {
             Ok(upgraded) => {
                 self.number = number;
                 if upgraded {
@@ -151,14 +147,11 @@ impl Connection {
     /// Answers the event of the connection's next request.
     fn answer<A: Answers, K: Output, E: Sink, C: Clock>(
         &mut self,
-        alloc: Global,
         answers: &mut A,
         request: &Request,
-        agents: &Agents,
-        trail: bool,
+        setting: &Setting<'_, C>,
         output: &mut K,
         errors: &mut E,
-        clock: &C,
     ) -> Result<(), TalkEnd>
         requires ready { A.ready answers.old }
         requires few { self.old.number < REQUEST_LIMIT }
@@ -171,9 +164,9 @@ impl Connection {
             × ExtendsBy lines (E.taken errors.old) (E.taken errors.new)
             × Turns (record {
               conn = self.old.conn;
-              may_give = C.may_give clock.now;
-              asking = asking_of agents.now;
-              trails = trail;
+              may_give = C.may_give setting.now.clock.now;
+              asking = asking_of setting.now.agents.now;
+              trails = setting.now.trail;
               turns = A.turns;
               passes = A.passes;
             }) answers.old self.old.number answers.new self.new.number
@@ -184,9 +177,7 @@ impl Connection {
         ensures follows { K.follows output.old output.new }
     {
         match flush_before(request, output) {
-            Ok(()) => self.answer_flushed(
-                alloc, answers, request, agents, trail, output, errors, clock,
-            ),
+            Ok(()) => self.answer_flushed(answers, request, setting, output, errors),
             Err(end) => Err(end),
         }
     }
@@ -194,14 +185,11 @@ impl Connection {
     /// Answers one event of the connection, which then continues or has ended.
     fn answer_event<A: Answers, K: Output, E: Sink, C: Clock>(
         &mut self,
-        alloc: Global,
         answers: &mut A,
         one: &Heard,
-        agents: &Agents,
-        trail: bool,
+        setting: &Setting<'_, C>,
         output: &mut K,
         errors: &mut E,
-        clock: &C,
     ) -> Result<(), TalkEnd>
         requires ready { A.ready answers.old }
         requires few { self.old.number < REQUEST_LIMIT }
@@ -216,9 +204,9 @@ impl Connection {
             × ExtendsBy lines (E.taken errors.old) (E.taken errors.new)
             × Turns (record {
               conn = self.old.conn;
-              may_give = C.may_give clock.now;
-              asking = asking_of agents.now;
-              trails = trail;
+              may_give = C.may_give setting.now.clock.now;
+              asking = asking_of setting.now.agents.now;
+              trails = setting.now.trail;
               turns = A.turns;
               passes = A.passes;
             }) answers.old self.old.number answers.new self.new.number (one.now ∷ []) text lines
@@ -229,13 +217,9 @@ impl Connection {
         ensures follows { K.follows output.old output.new }
     {
         match one {
-            Heard::Request(request) => {
-                self.answer(
-                    alloc, answers, request, agents, trail, output, errors, clock,
-                )
-            }
+            Heard::Request(request) => self.answer(answers, request, setting, output, errors),
             Heard::Interim => write_continue(output),
-            Heard::Bad(status) => Err(refuse(alloc, *status, output, clock)),
+            Heard::Bad(status) => Err(refuse(setting.alloc, *status, output, setting.clock)),
         }
     }
 
@@ -285,9 +269,15 @@ impl Connection {
             (E.faults errors.old) (E.faults errors.new) }
         ensures follows { K.follows output.old output.new }
     {
+        let setting = Setting {
+            alloc,
+            agents,
+            trail,
+            clock,
+        };
         let mut rest = heard;
         while let Some((one, more)) = rest.split_first() {
-            match self.answer_event(alloc, answers, one, agents, trail, output, errors, clock) {
+            match self.answer_event(answers, one, &setting, output, errors) {
                 Ok(()) => rest = more,
                 Err(end) => return Err(end),
             }

@@ -27,6 +27,7 @@ mod connection_events;
 mod one_request;
 mod output;
 mod response_writing;
+mod setting;
 mod talk_end;
 mod trail_line;
 

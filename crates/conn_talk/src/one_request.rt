@@ -13,17 +13,16 @@ ghost use Rattle.conn_talk.specs.Steps.{AnsweredSo, IsTurn, MayEnd, MayStop, Wri
 ghost use Rattle.conn_talk.specs.Steps.{WritesNothing, entry_line};
 ghost use Rattle.conn_talk.specs.Talks.{CountsWrites};
 
-use crate::agents::Agents;
 use crate::answers::{AnswerFault, Answers};
 use crate::output::Output;
 use crate::response_writing::{write_out, write_text};
+use crate::setting::Setting;
 use crate::talk_end::TalkEnd;
 use crate::trail_line::{TrailEntry, write_line};
 use http_out::{Out, disk_text, memory_text};
 use pod_base::{Moment, Request, Stamp, moment_of};
 use pod_core::{Answer, closes_after, is_change};
 use pod_io::{Clock, Sink};
-use std::alloc::Global;
 use token_table::Asked;
 
 /// The status of a switch of protocols.
@@ -69,9 +68,8 @@ fn answer_out(answer: Answer, request: &Request, number: u64) -> Answered
 
 /// Writes the answer to one request, and then its line of the trail. Returns whether it switches
 /// protocols.
-fn write_answered<K: Output, E: Sink>(
-    alloc: Global,
-    trail: bool,
+fn write_answered<K: Output, E: Sink, C>(
+    setting: &Setting<'_, C>,
     request: &Request,
     asked: &Asked<'_>,
     answered: Answered,
@@ -79,8 +77,8 @@ fn write_answered<K: Output, E: Sink>(
     errors: &mut E,
 ) -> Result<bool, TalkEnd>
     ensures writes { WritesBoth result answered.out
-        (if trail then entry_line request.now (asked_view asked.now) answered.entry else [])
-        (K.taken output.old) (K.taken output.new) (E.taken errors.old) (E.taken errors.new) }
+        (if setting.now.trail then entry_line request.now (asked_view asked.now) answered.entry
+        else []) (K.taken output.old) (K.taken output.new) (E.taken errors.old) (E.taken errors.new) }
     ensures upgraded { IfOk result (λ upgraded. upgraded ≡ (answered.entry.status == 101)) }
     ensures fails { IfErr result MayStop }
     ensures faults { CountsWrites result (K.faults output.old) (K.faults output.new)
@@ -89,7 +87,7 @@ fn write_answered<K: Output, E: Sink>(
 {
     let Answered { out, entry } = answered;
     match write_out(output, out) {
-        Ok(()) => match write_line(alloc, trail, request, asked, entry, errors) {
+        Ok(()) => match write_line(setting.alloc, setting.trail, request, asked, entry, errors) {
             Ok(()) => Ok(entry.status == SWITCHING),
             Err(end) => Err(end),
         },
@@ -130,20 +128,19 @@ pub(crate) fn flush_before<K: Output>(request: &Request, output: &mut K) -> Resu
 
 /// Answers one request of that stamp and writes the response: that of the answer, or the fixed one
 /// of out of memory or of a disk fault. Returns whether it switches protocols.
-pub(crate) fn answer_one<A: Answers, K: Output, E: Sink>(
-    alloc: Global,
+pub(crate) fn answer_one<A: Answers, K: Output, E: Sink, C>(
     answers: &mut A,
     request: &Request,
     stamp: Stamp,
-    agents: &Agents,
-    trail: bool,
+    setting: &Setting<'_, C>,
     output: &mut K,
     errors: &mut E,
 ) -> Result<bool, TalkEnd>
     requires { A.ready answers.old }
     ensures came { AnsweredSo result ((text : List ℕ) × (line : List ℕ) × (upgraded : Bool)
-        × IsTurn (λ item. A.turns stamp.conn stamp.moment.0 answers.old item answers.new) trail
-        request.now (asking_of agents.now request.now) stamp text line upgraded
+        × IsTurn (λ item. A.turns stamp.conn stamp.moment.0 answers.old item answers.new)
+        setting.now.trail request.now (asking_of setting.now.agents.now request.now) stamp text line
+        upgraded
         × WritesBoth result text line (K.taken output.old) (K.taken output.new)
         (E.taken errors.old) (E.taken errors.new)
         × IfOk result (λ told. told ≡ upgraded))
@@ -156,11 +153,11 @@ pub(crate) fn answer_one<A: Answers, K: Output, E: Sink>(
         (E.faults errors.old) (E.faults errors.new) }
     ensures follows { K.follows output.old output.new }
 {
-    let asked = agents.asked(request);
-    match answers.answer(alloc, request, &asked, stamp) {
+    let asked = setting.agents.asked(request);
+    match answers.answer(setting.alloc, request, &asked, stamp) {
         Ok(answer) => {
             let answered = answer_out(answer, request, stamp.number);
-            write_answered(alloc, trail, request, &asked, answered, output, errors)
+            write_answered(setting, request, &asked, answered, output, errors)
         }
         Err(AnswerFault::NoMemory) => write_fixed(output, memory_text()),
         Err(AnswerFault::DiskFault) => write_fixed(output, disk_text()),

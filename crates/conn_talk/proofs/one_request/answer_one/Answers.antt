@@ -13,7 +13,7 @@ pub returns-in-Ok-clause-came : goal.returns-in-Ok-clause-came
 returns-in-Ok-clause-came g c =
     let request = c.args.request.now in
     let stamp = c.args.stamp in
-    let trail = c.args.trail in
+    let trail = c.args.setting.now.trail in
     let asked = asked_view c.asked-asked.result in
     let told = c.in-Ok.ensures.turned in
     let made = c.answer_out-answered in
@@ -35,7 +35,7 @@ pub returns-in-Err-NoMemory-clause-came : goal.returns-in-Err-NoMemory-clause-ca
 returns-in-Err-NoMemory-clause-came g c =
     let request = c.args.request.now in
     let stamp = c.args.stamp in
-    let trail = c.args.trail in
+    let trail = c.args.setting.now.trail in
     let asked = asked_view c.asked-asked.result in
     let turned : Item → Type 0 = λ item. g.A.Answers.turns stamp.conn stamp.moment.0 c.args.answers.now item c.answer.new.self in
     let told = came_no_memory c.in-Err-NoMemory.field-0 turned _ request asked stamp c.in-Err-NoMemory.field-0-is c.in-Err-NoMemory.ensures.turned in
@@ -55,7 +55,7 @@ pub returns-in-Err-DiskFault-clause-came : goal.returns-in-Err-DiskFault-clause-
 returns-in-Err-DiskFault-clause-came g c =
     let request = c.args.request.now in
     let stamp = c.args.stamp in
-    let trail = c.args.trail in
+    let trail = c.args.setting.now.trail in
     let asked = asked_view c.asked-asked.result in
     let turned : Item → Type 0 = λ item. g.A.Answers.turns stamp.conn stamp.moment.0 c.args.answers.now item c.answer.new.self in
     let told = came_disk_fault c.in-Err-DiskFault.field-0 turned _ request asked stamp c.in-Err-DiskFault.field-0-is c.in-Err-DiskFault.ensures.turned in

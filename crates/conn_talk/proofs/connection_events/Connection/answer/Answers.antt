@@ -26,7 +26,7 @@ returns-in-Ok-clause-follows g c = g.met.K.Output.joins c.args.output.now c.flus
 -- it couldn't be sent
 pub returns-in-Err-clause-turns : goal.returns-in-Err-clause-turns
 returns-in-Err-clause-turns g c =
-    let rules : Rules g.row.A.Denot = record { conn = c.args.self.now.conn; may_give = g.C.Clock.may_give c.args.clock.now; asking = asking_of c.args.agents.now; trails = c.args.trail; turns = g.A.Answers.turns; passes = g.A.Answers.passes } in (
+    let rules : Rules g.row.A.Denot = record { conn = c.args.self.now.conn; may_give = g.C.Clock.may_give c.args.setting.now.clock.now; asking = asking_of c.args.setting.now.agents.now; trails = c.args.setting.now.trail; turns = g.A.Answers.turns; passes = g.A.Answers.passes } in (
       [],
       [],
       subst (ExtendsBy [] (g.K.Output.taken c.args.output.now)) (sym c.in-Err.ensures.taken) (nothing_added (g.K.Output.taken c.args.output.now)),

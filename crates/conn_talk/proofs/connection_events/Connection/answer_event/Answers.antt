@@ -9,7 +9,7 @@ use Rattle.conn_talk.proofs.connection_events.Connection.answer_event.Goals as g
 
 pub returns-in-Interim-clause-turns : goal.returns-in-Interim-clause-turns
 returns-in-Interim-clause-turns g c =
-    let rules : Rules g.row.A.Denot = record { conn = c.args.self.now.conn; may_give = g.C.Clock.may_give c.args.clock.now; asking = asking_of c.args.agents.now; trails = c.args.trail; turns = g.A.Answers.turns; passes = g.A.Answers.passes } in
+    let rules : Rules g.row.A.Denot = record { conn = c.args.self.now.conn; may_give = g.C.Clock.may_give c.args.setting.now.clock.now; asking = asking_of c.args.setting.now.agents.now; trails = c.args.setting.now.trail; turns = g.A.Answers.turns; passes = g.A.Answers.passes } in
     let wrote = c.write_continue in
     let told = invited_turns rules c.args.answers.now c.args.self.now.number wrote.result (g.K.Output.taken c.args.output.now) (g.K.Output.taken wrote.new.output) wrote.ensures.writes wrote.ensures.end in
     subst (λ one. (text : List ℕ) × (lines : List ℕ) × ExtendsBy text (g.K.Output.taken c.args.output.now) (g.K.Output.taken wrote.new.output) × ExtendsBy lines (g.E.Sink.taken c.args.errors.now) (g.E.Sink.taken c.args.errors.now)
@@ -19,7 +19,7 @@ returns-in-Interim-clause-turns g c =
 
 pub returns-in-Bad-clause-turns : goal.returns-in-Bad-clause-turns
 returns-in-Bad-clause-turns g c =
-    let rules : Rules g.row.A.Denot = record { conn = c.args.self.now.conn; may_give = g.C.Clock.may_give c.args.clock.now; asking = asking_of c.args.agents.now; trails = c.args.trail; turns = g.A.Answers.turns; passes = g.A.Answers.passes } in
+    let rules : Rules g.row.A.Denot = record { conn = c.args.self.now.conn; may_give = g.C.Clock.may_give c.args.setting.now.clock.now; asking = asking_of c.args.setting.now.agents.now; trails = c.args.setting.now.trail; turns = g.A.Answers.turns; passes = g.A.Answers.passes } in
     let told = refused_turns rules c.args.answers.now c.args.self.now.number c.in-Bad.status c.refuse.result (g.K.Output.taken c.args.output.now) (g.K.Output.taken c.refuse.new.output) c.refuse.ensures.refused in (
       told.0,
       [],

@@ -10,7 +10,7 @@ use Rattle.conn_talk.proofs.connection_events.Connection.answer_flushed.Goals as
 -- the request switched protocols
 pub returns-then-upgraded-clause-turns : goal.returns-then-upgraded-clause-turns
 returns-then-upgraded-clause-turns g c =
-    let rules : Rules g.row.A.Denot = record { conn = c.args.self.now.conn; may_give = g.C.Clock.may_give c.args.clock.now; asking = asking_of c.args.agents.now; trails = c.args.trail; turns = g.A.Answers.turns; passes = g.A.Answers.passes } in
+    let rules : Rules g.row.A.Denot = record { conn = c.args.self.now.conn; may_give = g.C.Clock.may_give c.args.setting.now.clock.now; asking = asking_of c.args.setting.now.agents.now; trails = c.args.setting.now.trail; turns = g.A.Answers.turns; passes = g.A.Answers.passes } in
     let told = c.in-Ok.ensures.came in
     let turned = turned_now rules c.args.answers.now c.answer_one.new.answers c.args.request.now (c.args.self.now.number + 1) c.clock_moment-moment.result told.0 told.1 told.2 c.clock_moment-moment.ensures told.3 in
     let switched = sym told.5 ∙ c.if-upgraded.true in (
@@ -24,7 +24,7 @@ returns-then-upgraded-clause-turns g c =
 -- the last request was answered
 pub returns-then-last-clause-turns : goal.returns-then-last-clause-turns
 returns-then-last-clause-turns g c =
-    let rules : Rules g.row.A.Denot = record { conn = c.args.self.now.conn; may_give = g.C.Clock.may_give c.args.clock.now; asking = asking_of c.args.agents.now; trails = c.args.trail; turns = g.A.Answers.turns; passes = g.A.Answers.passes } in
+    let rules : Rules g.row.A.Denot = record { conn = c.args.self.now.conn; may_give = g.C.Clock.may_give c.args.setting.now.clock.now; asking = asking_of c.args.setting.now.agents.now; trails = c.args.setting.now.trail; turns = g.A.Answers.turns; passes = g.A.Answers.passes } in
     let told = c.in-Ok.ensures.came in
     let turned = turned_now rules c.args.answers.now c.answer_one.new.answers c.args.request.now (c.args.self.now.number + 1) c.clock_moment-moment.result told.0 told.1 told.2 c.clock_moment-moment.ensures told.3 in
     let plain = sym told.5 ∙ c.if-upgraded.false in
@@ -41,7 +41,7 @@ returns-then-last-clause-turns g c =
 -- another was answered
 pub returns-else-last-clause-turns : goal.returns-else-last-clause-turns
 returns-else-last-clause-turns g c =
-    let rules : Rules g.row.A.Denot = record { conn = c.args.self.now.conn; may_give = g.C.Clock.may_give c.args.clock.now; asking = asking_of c.args.agents.now; trails = c.args.trail; turns = g.A.Answers.turns; passes = g.A.Answers.passes } in
+    let rules : Rules g.row.A.Denot = record { conn = c.args.self.now.conn; may_give = g.C.Clock.may_give c.args.setting.now.clock.now; asking = asking_of c.args.setting.now.agents.now; trails = c.args.setting.now.trail; turns = g.A.Answers.turns; passes = g.A.Answers.passes } in
     let told = c.in-Ok.ensures.came in
     let turned = turned_now rules c.args.answers.now c.answer_one.new.answers c.args.request.now (c.args.self.now.number + 1) c.clock_moment-moment.result told.0 told.1 told.2 c.clock_moment-moment.ensures told.3 in
     let plain = sym told.5 ∙ c.if-upgraded.false in
@@ -64,7 +64,7 @@ returns-then-last-clause-over g c =
 -- a write failed, no memory was left for the line, or the request had no place
 pub returns-in-Err-clause-turns : goal.returns-in-Err-clause-turns
 returns-in-Err-clause-turns g c =
-    let rules : Rules g.row.A.Denot = record { conn = c.args.self.now.conn; may_give = g.C.Clock.may_give c.args.clock.now; asking = asking_of c.args.agents.now; trails = c.args.trail; turns = g.A.Answers.turns; passes = g.A.Answers.passes } in
+    let rules : Rules g.row.A.Denot = record { conn = c.args.self.now.conn; may_give = g.C.Clock.may_give c.args.setting.now.clock.now; asking = asking_of c.args.setting.now.agents.now; trails = c.args.setting.now.trail; turns = g.A.Answers.turns; passes = g.A.Answers.passes } in
     stopped_turns rules c.args.answers.now c.answer_one.new.answers c.args.self.now.number c.args.self.now.number c.args.request.now c.in-Err.end
     (g.K.Output.taken c.args.output.now) (g.K.Output.taken c.answer_one.new.output) (g.E.Sink.taken c.args.errors.now) (g.E.Sink.taken c.answer_one.new.errors)
     (turned_so rules c.args.answers.now c.answer_one.new.answers c.args.request.now (c.args.self.now.number + 1) c.clock_moment-moment.result c.in-Err.end _ _ _ _ _ c.clock_moment-moment.ensures c.in-Err.ensures.came) c.in-Err.ensures.ends
