@@ -29,6 +29,7 @@ mod full_pods;
 mod groups;
 mod index_runs;
 mod index_text;
+mod kept_texts;
 mod lines;
 mod obstacles;
 mod paths;
@@ -65,7 +66,7 @@ use std::io;
 fn result_of(alloc: Global, state: &PlainRows, call: &str, words: &[&str]) -> Mem<String> {
     match call {
         "report" | "checks" => reports::answer(alloc, state, call, words),
-        "offers" | "chosen" | "represent" | "verdict" | "show" => {
+        "offers" | "chosen" | "represent" | "kept" | "verdict" | "show" => {
             representations::answer(alloc, state, call, words)
         }
         _ => rows::answer(alloc, state, call, words),

@@ -17,7 +17,7 @@ fn media_name(media: Media) -> &'static str {
     }
 }
 
-fn media_of(word: &str) -> Media {
+pub(crate) fn media_of(word: &str) -> Media {
     match word {
         "turtle" => Media::Turtle,
         "json-ld" => Media::JsonLd,

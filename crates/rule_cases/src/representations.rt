@@ -5,13 +5,14 @@
 //! | `offers`: PATH | the types in which the row is offered |
 //! | `chosen`: PATH FIELDS | the type that the fields of a request choose, or `none` |
 //! | `represent`: PATH TYPE | the content type, tag, moment and body, `ranges` where it has parts |
+//! | `kept`: PATH TYPE | in which types the row's text is kept, before and after it was represented |
 //! | `verdict`: PATH METHOD FIELDS | the verdict on the preconditions of a request |
 //! | `show`: PATH METHOD FIELDS NAMES | the response to a read, with the fields of these names |
 //!
 //! A type is `turtle`, `json-ld` or `stored`. FIELDS have `|` between them, and NAMES commas. The
 //! agent may read, and nobody else may do anything.
 
-use crate::{representation_words, verdicts};
+use crate::{kept_texts, representation_words, verdicts};
 use case_words::{method_of, path_or_root};
 use pod_base::Mem;
 use pod_command::Row;
@@ -35,6 +36,7 @@ fn result_at<S: PodState>(
         ("represent", Some(row), [media]) => representation_words::represented_text(
             alloc, state, row, media,
         ),
+        ("kept", Some(row), [media]) => kept_texts::kept_text(alloc, state, row, media),
         ("show", Some(row), [method, fields, names]) => {
             representation_words::response(alloc, state, row, method_of(method), fields, names)
         }
